@@ -1,0 +1,102 @@
+"""The commands as a user runs them: sizes, refusals, statuses and the line of each."""
+
+import unittest
+
+import program
+
+LARGEST = 16777216
+
+
+class Seal(unittest.TestCase):
+    def test_the_empty_text(self):
+        status, out, err = program.run(program.seal_words())
+        self.assertEqual((status, len(out), err), (0, 253, b""))
+        self.assertEqual(len(out.split(b":")[4]), 24)
+
+    def test_a_full_block_gets_a_block_of_padding(self):
+        status, out, _ = program.run(program.seal_words(), b"0123456789abcdef")
+        self.assertEqual((status, len(out.split(b":")[4])), (0, 44))
+
+    def test_the_largest_input(self):
+        status, out, err = program.run(program.seal_words(), b"a" * LARGEST)
+        self.assertEqual((status, err), (0, b""))
+        self.assertEqual(len(out.split(b":")[4]), (LARGEST + 16 + 2) // 3 * 4)
+        peak = program.peak_kilobytes()
+        self.assertLess(peak, 8 * LARGEST // 1024, "peak memory in kilobytes")
+
+    def test_one_byte_more(self):
+        given = b"a" * (LARGEST + 1)
+        self.assertEqual(program.run(program.seal_words(), given), (3, b"", b"sn: cli.1 InputLong\n"))
+
+    def test_input_that_is_not_utf8(self):
+        for given, place in ((b"\xff", 0), (b"ab\xc3", 2), ("é".encode() + b"\xed\xa0\x80", 2)):
+            line = b"sn: cli.2 InputUtf8 %d\n" % place
+            self.assertEqual(program.run(program.seal_words(), given), (3, b"", line))
+            self.assertEqual(program.run(program.open_words(), given), (3, b"", line))
+
+    def test_the_cost_may_be_left_out(self):
+        status, out, _ = program.run(program.seal_words(cost=None))
+        self.assertEqual(status, 0)
+        import base64
+
+        self.assertIn(b'"pw_cost":110000', base64.b64decode(out.split(b":")[5]))
+
+
+class Usage(unittest.TestCase):
+    def refused(self, words):
+        self.assertEqual(program.run(words), (2, b"", b"sn: usage\n"), words)
+
+    def test_faulty_command_lines(self):
+        seal, opened = program.seal_words(), program.open_words()
+        self.refused([])
+        self.refused(["seal"])
+        self.refused(["frob"])
+        self.refused(["Seal"] + seal[1:])
+        self.refused(seal[:-1])
+        self.refused(seal + ["--nonce"])
+        self.refused(seal + ["--nonce", "6e"])
+        self.refused(opened + ["x"])
+        self.refused(opened[:1] + opened[3:])
+        self.refused(["--uuid"])
+
+    def test_values_out_of_their_bounds(self):
+        words = program.seal_words
+        for cost in ("0", "01", "+1", "-1", "1.0", "1e3", "", " 1", "4294967296", "99999999999999999999"):
+            self.refused(words(cost=cost))
+        for uuid in ("", program.UUID[:-1], program.UUID.replace("-", ""), program.UUID[:-1] + "A", program.UUID + "0"):
+            self.refused(words(uuid=uuid))
+            self.refused(program.open_words(uuid=uuid))
+        self.refused(words(key=program.KEY[:63]))
+        self.refused(words(key=program.KEY + b"\x00"))
+        self.refused(program.open_words(key=program.KEY[:63]))
+        upper = program.open_words()
+        upper[4] = upper[4].upper()
+        self.refused(upper)
+        self.refused(words(identifier=""))
+        self.refused(words(identifier="a" * 255))
+        self.refused(words(identifier="é" * 128))
+        self.refused(words(nonce=""))
+        self.refused(words(nonce="n" * 257))
+
+    def test_values_at_their_bounds(self):
+        for words in (
+            program.seal_words(cost="4294967295"),
+            program.seal_words(identifier="é" * 127),
+            program.seal_words(nonce="n" * 256),
+        ):
+            self.assertEqual(program.run(words)[0], 0)
+
+
+class Open(unittest.TestCase):
+    def test_what_was_sealed(self):
+        for plain in (b"", b"x", b"0123456789abcdef", "ünïcödé\n".encode(), b"\n"):
+            out = program.run(program.seal_words(), plain)[1]
+            self.assertEqual(program.run(program.open_words(), out), (0, plain, b""))
+
+    def test_one_line_feed_only(self):
+        out = program.run(program.seal_words(), b"x")[1]
+        self.assertEqual(program.run(program.open_words(), out + b"\n")[0], 3)
+
+
+if __name__ == "__main__":
+    unittest.main()
