@@ -3,6 +3,7 @@ ghost use Rattle.std.specs.Prelude.{◌≡◌};
 ghost use Rattle.std.specs.Int.{byte_at};
 ghost use Rattle.sn_aes.specs.Cipher.{four_words};
 
+// The highest byte of a word, which is the byte in row 0 of a column.
 #[inline(always)]
 pub fn byte0(w: u32) -> usize
     ensures { result ≡ byte_at 3 w }
@@ -10,6 +11,7 @@ pub fn byte0(w: u32) -> usize
     (w >> 24) as usize
 }
 
+// The byte in row 1.
 #[inline(always)]
 pub fn byte1(w: u32) -> usize
     ensures { result ≡ byte_at 2 w }
@@ -17,6 +19,7 @@ pub fn byte1(w: u32) -> usize
     ((w >> 16) & 0xff) as usize
 }
 
+// The byte in row 2.
 #[inline(always)]
 pub fn byte2(w: u32) -> usize
     ensures { result ≡ byte_at 1 w }
@@ -24,6 +27,7 @@ pub fn byte2(w: u32) -> usize
     ((w >> 8) & 0xff) as usize
 }
 
+// The byte in row 3.
 #[inline(always)]
 pub fn byte3(w: u32) -> usize
     ensures { result ≡ byte_at 0 w }
@@ -31,6 +35,7 @@ pub fn byte3(w: u32) -> usize
     (w & 0xff) as usize
 }
 
+// The columns of a block, as words.
 pub fn load(block: &[u8; 16]) -> [u32; 4]
     ensures { four_words result 0 ≡ block.now }
 {
@@ -60,6 +65,7 @@ pub fn load(block: &[u8; 16]) -> [u32; 4]
     ]
 }
 
+// The block of four columns.
 pub fn store(words: [u32; 4]) -> [u8; 16]
     ensures { result ≡ four_words words 0 }
 {

@@ -10,6 +10,7 @@ use crate::substitution::{
     inverse_substitute, inverse_table0, inverse_table1, inverse_table2, inverse_table3,
 };
 
+// The column that a, b, c and d give after INVSHIFTROWS.
 #[inline(always)]
 pub fn inverse_column(a: u32, b: u32, c: u32, d: u32, key: u32) -> u32
     ensures { to_be_bytes w32 result ≡ xor_bytes
@@ -23,6 +24,7 @@ pub fn inverse_column(a: u32, b: u32, c: u32, d: u32, key: u32) -> u32
         ^ key
 }
 
+// A round of the inverse cipher, with key `r` of its own keys.
 #[inline(always)]
 pub fn inverse_round(s: [u32; 4], keys: &[u32; 60], r: usize) -> [u32; 4]
     requires { r < 15 }
@@ -37,6 +39,7 @@ pub fn inverse_round(s: [u32; 4], keys: &[u32; 60], r: usize) -> [u32; 4]
     ]
 }
 
+// The column in the last round, which has no INVMIXCOLUMNS.
 #[inline(always)]
 pub fn inverse_last_column(a: u32, b: u32, c: u32, d: u32, key: u32) -> u32
     ensures { to_be_bytes w32 result ≡ xor_bytes
@@ -51,6 +54,7 @@ pub fn inverse_last_column(a: u32, b: u32, c: u32, d: u32, key: u32) -> u32
     ]) ^ key
 }
 
+// The last round, whose key is the cipher's first.
 #[inline(always)]
 pub fn inverse_last_round(s: [u32; 4], keys: &[u32; 60]) -> [u32; 4]
     ensures { four_words result 0 ≡ add_round_key keys.now (inverse_shift_rows (inverse_sub_bytes (four_words s 0))) 0 }
@@ -76,6 +80,7 @@ pub fn four_inverse_rounds(s: [u32; 4], keys: &[u32; 60], n: usize) -> [u32; 4]
     inverse_round(s, keys, 10 - n)
 }
 
+// EQINVCIPHER, on the words of a block.
 pub fn decrypt_words(s: [u32; 4], keys: &[u32; 60]) -> [u32; 4]
     ensures { four_words result 0 ≡ inverse_cipher keys.now (four_words s 0) }
 {

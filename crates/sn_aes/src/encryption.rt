@@ -16,6 +16,7 @@ pub fn column(a: u32, b: u32, c: u32, d: u32, key: u32) -> u32
     table0(byte0(a)) ^ table1(byte1(b)) ^ table2(byte2(c)) ^ table3(byte3(d)) ^ key
 }
 
+// Round `r`, with the round's key.
 #[inline(always)]
 pub fn round(s: [u32; 4], keys: &[u32; 60], r: usize) -> [u32; 4]
     requires { r < 15 }
@@ -45,6 +46,7 @@ pub fn last_column(a: u32, b: u32, c: u32, d: u32, key: u32) -> u32
     ]) ^ key
 }
 
+// Round 14, with its key.
 #[inline(always)]
 pub fn last_round(s: [u32; 4], keys: &[u32; 60]) -> [u32; 4]
     ensures { four_words result 0 ≡ add_round_key keys.now (shift_rows (sub_bytes (four_words s 0))) 14 }
@@ -58,6 +60,7 @@ pub fn last_round(s: [u32; 4], keys: &[u32; 60]) -> [u32; 4]
     ]
 }
 
+// ADDROUNDKEY of round `r`.
 #[inline(always)]
 pub fn add_words(s: [u32; 4], keys: &[u32; 60], r: usize) -> [u32; 4]
     requires { r < 15 }
@@ -84,6 +87,7 @@ pub fn four_rounds(s: [u32; 4], keys: &[u32; 60], n: usize) -> [u32; 4]
     round(s, keys, n + 4)
 }
 
+// CIPHER, on the words of a block.
 pub fn encrypt_words(s: [u32; 4], keys: &[u32; 60]) -> [u32; 4]
     ensures { four_words result 0 ≡ cipher keys.now (four_words s 0) }
 {

@@ -10,6 +10,7 @@ use crate::substitution::{
 };
 use crate::tables::ROUND_CONSTANTS;
 
+// SUBWORD: the S-box on each byte.
 pub fn sub_word(w: u32) -> u32
     ensures { result ≡ sub_word w }
 {
@@ -35,6 +36,7 @@ pub fn added_word(last: u32, i: usize) -> u32
     }
 }
 
+// KEYEXPANSION: the words of all 15 round keys.
 pub fn expand(key: &[u8; 32]) -> [u32; 60]
     ensures { result ≡ expanded key.now 52 }
 {
@@ -58,6 +60,7 @@ pub fn inverse_mix_word(w: u32) -> u32
         ^ inverse_table3(substitute(byte3(w)) as usize)
 }
 
+// The inverse cipher's keys: INVMIXCOLUMNS of each but the first and the last.
 pub fn inverse_mixed(keys: &[u32; 60]) -> [u32; 60]
     ensures { AreInverseKeys keys.now result }
 {

@@ -7,6 +7,7 @@ ghost use Rattle.sn_aes.specs.Cipher.{sbox};
 
 use crate::tables::{D0, D1, D2, D3, INVERSE_SBOX, SBOX, T0, T1, T2, T3};
 
+// SBOX.
 #[inline(always)]
 pub fn substitute(x: usize) -> u8
     requires { x < 256 }
@@ -24,6 +25,7 @@ pub fn table0(x: usize) -> u32
     T0[x]
 }
 
+// The same in row 1.
 #[inline(always)]
 pub fn table1(x: usize) -> u32
     requires { x < 256 }
@@ -32,6 +34,7 @@ pub fn table1(x: usize) -> u32
     T1[x]
 }
 
+// The same in row 2.
 #[inline(always)]
 pub fn table2(x: usize) -> u32
     requires { x < 256 }
@@ -40,6 +43,7 @@ pub fn table2(x: usize) -> u32
     T2[x]
 }
 
+// The same in row 3.
 #[inline(always)]
 pub fn table3(x: usize) -> u32
     requires { x < 256 }
@@ -48,6 +52,7 @@ pub fn table3(x: usize) -> u32
     T3[x]
 }
 
+// INVSBOX.
 #[inline(always)]
 pub fn inverse_substitute(x: usize) -> u8
     requires { x < 256 }
@@ -56,6 +61,7 @@ pub fn inverse_substitute(x: usize) -> u8
     INVERSE_SBOX[x]
 }
 
+// What the inverse S-box of `x`, in row 0, adds to each row of its column.
 #[inline(always)]
 pub fn inverse_table0(x: usize) -> u32
     requires { x < 256 }
@@ -65,6 +71,7 @@ pub fn inverse_table0(x: usize) -> u32
     D0[x]
 }
 
+// The same in row 1.
 #[inline(always)]
 pub fn inverse_table1(x: usize) -> u32
     requires { x < 256 }
@@ -74,6 +81,7 @@ pub fn inverse_table1(x: usize) -> u32
     D1[x]
 }
 
+// The same in row 2.
 #[inline(always)]
 pub fn inverse_table2(x: usize) -> u32
     requires { x < 256 }
@@ -83,6 +91,7 @@ pub fn inverse_table2(x: usize) -> u32
     D2[x]
 }
 
+// The same in row 3.
 #[inline(always)]
 pub fn inverse_table3(x: usize) -> u32
     requires { x < 256 }

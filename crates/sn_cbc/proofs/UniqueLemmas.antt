@@ -2,9 +2,9 @@
 use Rattle.std.proofs.Common.{◌≡◌, ℕ, zero, suc, ◌+◌, ◌*◌, ◌/◌, ◌%◌, ◌<◌, ◌≤◌, List, length, take, drop, get_or, replicate, sym, ap, ◌∙◌, arith, inl, inr}
 use Rattle.std.proofs.lemmas.List.{length-take, length-take-le, length-drop, get_or-take, get_or-drop, get_or_past, ext_get_or, get_or-replicate, length-replicate}
 use Rattle.std.proofs.lemmas.Bool.{cases_lt}
-use Rattle.sn_aes.specs.Cipher.{aes256, expanded, xor_bytes}
+use Rattle.sn_aes.specs.Cipher.{aes256, xor_bytes}
 use Rattle.sn_aes.proofs.InverseLemmas.{xor_bytes_cancel, length-xor_bytes, xor_bytes_small, append_small}
-use Rattle.sn_aes.proofs.OnlyLemmas.{cipher_injective}
+use Rattle.sn_aes.proofs.Injective.{aes256_injective}
 use Rattle.sn_cbc.specs.Cbc.{block_of, block_before, IsChained, padded, padding_count, AreBytes}
 
 length-block_of : (text : List ℕ) (n : ℕ) → 16 * n + 16 ≤ length text → length (block_of text n) ≡ 16
@@ -41,10 +41,6 @@ before_bytes : (iv bytes : List ℕ) (n : ℕ) → AreBytes iv → AreBytes byte
 before_bytes iv bytes zero iv_small small = iv_small
 before_bytes iv bytes (suc n) iv_small small = block_bytes bytes n small
 
-injective : (key a b : List ℕ) → AreBytes a → AreBytes b → length a ≡ 16 → length b ≡ 16 → aes256 key a ≡ aes256 key b → a ≡ b
-unfolding aes256
-injective key a b a_small b_small a_long b_long e = cipher_injective (expanded key 52) a b a_small b_small a_long b_long e
-
 -- a ciphertext has one text
 pub one_text : (key iv text other bytes : List ℕ) → length iv ≡ 16 → AreBytes iv → AreBytes bytes → AreBytes text → AreBytes other
     → IsChained key iv text bytes → IsChained key iv other bytes → text ≡ other
@@ -58,11 +54,13 @@ one_text key iv text other bytes iv_long iv_small bytes_small text_small other_s
     let second : length (block_of other n) ≡ 16 = length-block_of other n (omega (arith, long, here)) in
     let first_fits : length (block_of text n) ≤ length (block_before iv bytes n) = omega (arith, first, prior) in
     let second_fits : length (block_of other n) ≤ length (block_before iv bytes n) = omega (arith, second, prior) in
-    let sums = injective key (xor_bytes (block_of text n) (block_before iv bytes n)) (xor_bytes (block_of other n) (block_before iv bytes n))
-    (xor_bytes_small (block_of text n) (block_before iv bytes n) (block_bytes text n text_small) prior_small)
-    (xor_bytes_small (block_of other n) (block_before iv bytes n) (block_bytes other n other_small) prior_small)
-    (length-xor_bytes (block_of text n) (block_before iv bytes n) first_fits ∙ first)
-    (length-xor_bytes (block_of other n) (block_before iv bytes n) second_fits ∙ second)
+    let sums = aes256_injective key (xor_bytes (block_of text n) (block_before iv bytes n)) (xor_bytes (block_of other n) (block_before iv bytes n)) (
+      length-xor_bytes (block_of text n) (block_before iv bytes n) first_fits ∙ first,
+      xor_bytes_small (block_of text n) (block_before iv bytes n) (block_bytes text n text_small) prior_small,
+    ) (
+      length-xor_bytes (block_of other n) (block_before iv bytes n) second_fits ∙ second,
+      xor_bytes_small (block_of other n) (block_before iv bytes n) (block_bytes other n other_small) prior_small,
+    )
     (sym (t.blocks n h) ∙ u.blocks n (omega (arith, long, h))) in
     sym (xor_bytes_cancel (block_of text n) (block_before iv bytes n) first_fits)
     ∙ ap (λ s. xor_bytes s (block_before iv bytes n)) sums

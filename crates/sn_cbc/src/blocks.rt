@@ -2,6 +2,7 @@
 ghost use Rattle.std.specs.Prelude.{◌≡◌, ◌≤◌, ◌+◌, ◌++◌, length, take, drop};
 ghost use Rattle.sn_aes.specs.Cipher.{xor_bytes};
 
+// The exclusive or of two blocks, byte by byte.
 #[inline(always)]
 pub fn xor_blocks(a: &[u8; 16], b: &[u8; 16]) -> [u8; 16]
     ensures { result ≡ xor_bytes a.now b.now }
@@ -13,6 +14,7 @@ pub fn xor_blocks(a: &[u8; 16], b: &[u8; 16]) -> [u8; 16]
     out
 }
 
+// The 16 bytes from place `at` on.
 #[inline(always)]
 pub fn block_at(text: &[u8], at: usize) -> [u8; 16]
     requires { at + 16 ≤ length text.now }
@@ -23,6 +25,7 @@ pub fn block_at(text: &[u8], at: usize) -> [u8; 16]
     block
 }
 
+// Puts a block in place of the 16 bytes from place `at` on.
 #[inline(always)]
 pub fn write_block(text: &mut [u8], at: usize, block: &[u8; 16])
     requires { at + 16 ≤ length text.old }

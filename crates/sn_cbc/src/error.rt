@@ -5,6 +5,7 @@ ghost use Rattle.sn_cbc.specs.declared.error.CbcError.TheVariants.{Memory};
 use std::alloc::AllocError;
 use thiserror::Error;
 
+/// The cause of a refusal.
 #[derive(Clone, Copy, Debug, PartialEq, Eq, Error)]
 pub enum CbcError {
     /// The length isn't a positive multiple of 16.
@@ -13,6 +14,7 @@ pub enum CbcError {
     /// The text's last byte n isn't 1 to 16, or its last n bytes aren't all n.
     #[error("the text doesn't end in padding")]
     Padding,
+    /// No memory for the plain text.
     #[error("out of memory")]
     Memory,
 }

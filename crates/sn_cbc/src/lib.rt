@@ -11,3 +11,6 @@ mod sealing;
 pub use error::CbcError;
 pub use laws::{one_ciphertext, one_plain};
 pub use sealing::{seal, unseal, unseal_owned};
+
+#[cfg(test)]
+mod tests;

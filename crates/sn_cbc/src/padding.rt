@@ -34,6 +34,7 @@ pub fn padding_of(text: &[u8]) -> Option<usize>
     }
 }
 
+// Whether each byte has this value.
 fn all_are(bytes: &[u8], value: u8) -> bool
     ensures { IsTrue result ↔ (bytes.now ≡ replicate (length bytes.now) value) }
 {

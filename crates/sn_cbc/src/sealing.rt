@@ -67,6 +67,7 @@ pub fn unseal_owned(key: &[u8; 32], iv: &[u8; 16], bytes: Vec<u8>) -> Result<Vec
     }
 }
 
+// The text under a ciphertext of whole blocks, with its padding.
 fn decrypted(key: &[u8; 32], iv: &[u8; 16], bytes: Vec<u8>) -> Vec<u8>
     requires { length bytes.items % 16 ≡ 0 }
     ensures { IsChained key.now iv.now result.items bytes.items }
@@ -76,6 +77,7 @@ fn decrypted(key: &[u8; 32], iv: &[u8; 16], bytes: Vec<u8>) -> Vec<u8>
     text
 }
 
+// Whether a ciphertext has a block or more, and whole ones alone.
 fn is_whole(bytes: &[u8]) -> bool
     ensures whole { IsTrue result ↔ IsWhole bytes.now }
     ensures bytes { AreBytes bytes.now }
