@@ -1,0 +1,8 @@
+use Rattle.sn_aes.proofs.Words.{inverse_column_bytes}
+use Rattle.sn_aes.proofs.decryption.inverse_column.Goals as goal
+
+pub returns : goal.returns
+returns c =
+    inverse_column_bytes _ _ _ _ _ _ _ _ c.args.key
+    (rw c.byte0.ensures at c.inverse_table0.ensures) (rw c.byte1.ensures at c.inverse_table1.ensures)
+    (rw c.byte2.ensures at c.inverse_table2.ensures) (rw c.byte3.ensures at c.inverse_table3.ensures)

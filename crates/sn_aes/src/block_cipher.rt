@@ -1,0 +1,56 @@
+// The cipher and its inverse on one block.
+ghost use Rattle.std.specs.Prelude.{◌≡◌, ℕ, List};
+ghost use Rattle.sn_aes.specs.Inverse.{AreInverseKeys};
+ghost use Rattle.sn_aes.specs.Cipher.{IsBlock, expanded, aes256};
+
+use crate::bytes::{load, store};
+use crate::decryption::decrypt_words;
+use crate::encryption::encrypt_words;
+use crate::key_schedule::{expand, inverse_mixed};
+use std::marker::Model;
+
+/// A key, expanded. A contract sees it as the key.
+#[derive(Drop)]
+pub struct Aes256 {
+    key: [u8; 32],
+    keys: [u32; 60],
+    inverse_keys: [u32; 60],
+}
+
+impl Model for Aes256 {
+    ghost Value = { List ℕ };
+
+    ghost view = { λ a. a.key };
+
+    ghost invariant = { λ a. (a.keys ≡ expanded a.key 52) × AreInverseKeys a.keys a.inverse_keys };
+}
+
+impl Aes256 {
+    /// The cipher under `key`.
+    pub fn new(key: &[u8; 32]) -> Aes256
+        ensures { result ≡ key.now }
+    {
+        let keys = expand(key);
+        let inverse_keys = inverse_mixed(&keys);
+        Aes256 {
+            key: *key,
+            keys,
+            inverse_keys,
+        }
+    }
+
+    /// The cipher's block of `block`.
+    pub fn encrypt(&self, block: &[u8; 16]) -> [u8; 16]
+        ensures { result ≡ aes256 self.now block.now }
+    {
+        store(encrypt_words(load(block), &self.keys))
+    }
+
+    /// The one block that the cipher takes to `block`.
+    pub fn decrypt(&self, block: &[u8; 16]) -> [u8; 16]
+        ensures block { aes256 self.now result ≡ block.now }
+        ensures only { (b : List ℕ) → IsBlock b → aes256 self.now b ≡ block.now → b ≡ result }
+    {
+        store(decrypt_words(load(block), &self.inverse_keys))
+    }
+}

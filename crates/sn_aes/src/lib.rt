@@ -1,0 +1,15 @@
+//! AES-256 on one block (FIPS 197): the cipher and its inverse, by tables.
+#![tactic(auto)]
+
+mod block_cipher;
+mod bytes;
+mod decryption;
+mod encryption;
+mod key_schedule;
+mod substitution;
+mod tables;
+
+pub use block_cipher::Aes256;
+
+#[cfg(test)]
+mod tests;

@@ -1,0 +1,4 @@
+pub mod BlockLemmas
+pub mod Chains
+pub mod PaddingLemmas
+pub mod UniqueLemmas
