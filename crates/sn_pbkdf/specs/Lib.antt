@@ -1,0 +1,2 @@
+pub mod Pbkdf
+pub use Rattle.sn_hmac.specs.Hmac
