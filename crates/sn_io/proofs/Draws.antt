@@ -1,9 +1,8 @@
 -- How the list of the seeds that were given grows.
-use Rattle.std.proofs.Common.{◌≡◌, ◌⊎◌, ◌<◌, ◌≤◌, ℕ, ◌+◌, ◌-◌, ◌^◌, min, List, [], ◌∷◌, ◌++◌, length, take, refl, sym, ◌∙◌, ap, subst, arith, inl, inr, if◌then◌else◌, nat_lt, Some, None, append-nil, append_assoc, length-append, length-take}
+use Rattle.std.proofs.Common.{◌≡◌, ◌⊎◌, ◌<◌, ◌≤◌, ℕ, ◌+◌, ◌-◌, ◌^◌, min, List, [], ◌∷◌, ◌++◌, length, take, sym, ◌∙◌, ap, arith, inl, inr, append-nil, append_assoc, length-append, length-take}
 use Rattle.std.proofs.lemmas.Bool.{cases_lt, lt-ltb, le-ltb}
 use Rattle.std.proofs.Math.ListN.{replicate}
 use Rattle.std.proofs.lemmas.List.{take_more, take_all, replicate_more, length-replicate, get_or_past}
-use Rattle.std.specs.declared.option.Option.{Option}
 use Rattle.sn_io.specs.Seeds.{seed_at, first_seeds, told_seeds}
 use Rattle.sn_io.specs.Streams.{Gains}
 

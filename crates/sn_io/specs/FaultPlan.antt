@@ -28,6 +28,15 @@ began plan = record {
   wants = plan.wants;
 }
 
+-- one fault more
+abbrev pub failed : Plan → Plan
+failed plan = record {
+  listed = plan.listed;
+  calls = plan.calls;
+  faults = next_count plan.faults;
+  wants = plan.wants;
+}
+
 -- one fault more, for want of memory
 abbrev pub wanted : Plan → Plan
 wanted plan = record {

@@ -1,7 +1,7 @@
 // A failed call, and the plan by which an object in memory fails.
 ghost use Rattle.std.specs.Prelude.{◌≡◌, ◌↔◌, IsTrue, IsErr, IfOk};
 ghost use Rattle.sn_io.specs.Causes.{HasCause, IsRise};
-ghost use Rattle.sn_io.specs.FaultPlan.{fresh, is_listed, began, wanted};
+ghost use Rattle.sn_io.specs.FaultPlan.{fresh, is_listed, began, failed, wanted};
 
 use std::alloc::{AllocError, Global};
 use std::marker::Model;
@@ -84,6 +84,15 @@ impl FaultPlan {
             return Err(Failed);
         }
         Ok(())
+    }
+
+    /// Counts a fault of the call that has begun.
+    pub fn fail(&mut self) -> Failed
+        ensures counts { self.new ≡ failed self.old }
+        ensures cause { IsRise self.old.faults self.new.faults }
+    {
+        self.faults = self.faults.saturating_add(1);
+        Failed
     }
 
     /// Counts a fault for want of memory, of the call that has begun.

@@ -80,6 +80,8 @@ fn plans_and_seeds(rt: HostRuntime) -> Result<(), Fail> {
     assert_eq!(rt; (copy.faults(), copy.wants()), (1, 0));
     assert_eq!(rt; plan.want(), Failed);
     assert_eq!(rt; (plan.faults(), plan.wants()), (1, 1));
+    assert_eq!(rt; plan.fail(), Failed);
+    assert_eq!(rt; (plan.faults(), plan.wants()), (2, 1));
 
     let mut seeds = MemSeeds::new([[7u8; 32], [9; 32]].to_vec(rt.alloc())?);
     assert_eq!(rt; seeds.draw(), [7; 32]);
