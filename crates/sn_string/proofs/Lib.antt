@@ -1,0 +1,11 @@
+pub mod Base64Facts
+pub mod Cases
+pub mod Colons
+pub mod Cuts
+pub mod HexFacts
+pub mod ParamsFacts
+pub mod Written
+pub mod Pieces
+pub mod Places
+pub mod Unique
+pub mod UuidFacts

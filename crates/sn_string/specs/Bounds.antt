@@ -1,0 +1,14 @@
+-- The bounds of auth parameters.
+use Rattle.std.specs.Prelude.{ℕ, ◌≤◌, List, length}
+
+-- an identifier has 1 to 254 bytes
+abbrev pub IsIdentifier : List ℕ → Type 0
+IsIdentifier text = (1 ≤ length text) × (length text ≤ 254)
+
+-- a cost is 1 to 4294967295
+abbrev pub IsCost : ℕ → Type 0
+IsCost cost = (1 ≤ cost) × (cost ≤ 4294967295)
+
+-- a nonce has 1 to 256 bytes
+abbrev pub IsNonce : List ℕ → Type 0
+IsNonce text = (1 ≤ length text) × (length text ≤ 256)

@@ -1,0 +1,9 @@
+pub mod Base64
+pub mod Bounds
+pub mod Grammar
+pub mod Hex
+pub mod Laws
+pub mod Parameters
+pub mod Parts
+pub mod Refusals
+pub mod Uuids

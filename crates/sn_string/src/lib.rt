@@ -1,0 +1,35 @@
+//! The 003 string of the encryption protocol: its parts, their forms, and the types that the
+//! crates above keep texts, bytes, lists, parameters and key sets in.
+#![tactic(auto)]
+
+pub mod base64_texts;
+pub mod bytes;
+pub mod ciphertexts;
+pub mod forms;
+pub mod hex_texts;
+pub mod laws;
+pub mod many;
+pub mod params;
+pub mod params_part;
+pub mod reader;
+pub mod text;
+pub mod twin;
+pub mod uuid_texts;
+pub mod writer;
+
+pub use base64_texts::{base64_bytes, base64_text};
+pub use bytes::Bytes;
+pub use ciphertexts::is_ciphertext;
+pub use forms::{is_hash, is_iv, is_uuid};
+pub use hex_texts::{hash_bytes, hash_digits, hex_text, iv_bytes, key_bytes};
+pub use many::Many;
+pub use params::{KeySet, Params};
+pub use params_part::{params_of, params_of_part, params_text, params_value};
+pub use reader::{Parts, StringError, read};
+pub use text::Text;
+pub use twin::Twin;
+pub use uuid_texts::{uuid_of, uuid_text};
+pub use writer::{authenticated, with_params, write};
+
+#[cfg(test)]
+mod tests;
