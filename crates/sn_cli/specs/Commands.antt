@@ -1,0 +1,24 @@
+-- The words of a command with its options.
+use Rattle.std.specs.Prelude.{ℕ, List}
+use Rattle.sn_cli.specs.CommandLine.{SealLine, OpenLine, IsSealLine, IsOpenLine}
+use Rattle.sn_cli.specs.declared.command_line.ItemOptions.{ItemOptions}
+use Rattle.sn_cli.specs.declared.command_line.ParamsOptions.{ParamsOptions}
+use Rattle.sn_cli.specs.declared.command_line.Command.{Command}
+use Rattle.sn_cli.specs.declared.command_line.Command.TheVariants.{Seal, Open}
+
+abbrev pub seal_line : ItemOptions → ParamsOptions → SealLine
+seal_line item params = record {
+  uuid = item.uuid;
+  key = item.key;
+  identifier = params.identifier.now;
+  cost = params.cost;
+  nonce = params.nonce.now;
+}
+
+abbrev pub open_line : ItemOptions → OpenLine
+open_line item = record { uuid = item.uuid; key = item.key }
+
+-- the words spell this command
+abbrev pub IsCommand : List (List ℕ) → Command → Type 0
+IsCommand words (Seal item params) = IsSealLine words (seal_line item params)
+IsCommand words (Open item) = IsOpenLine words (open_line item)

@@ -1,0 +1,6 @@
+pub mod CommandLine
+pub mod Commands
+pub mod Inputs
+pub mod Lines
+pub mod Runs
+pub mod Words

@@ -1,0 +1,109 @@
+// The line of a status.
+ghost use Rattle.std.specs.Prelude.{◌≡◌, ◌⊎◌, IfOk, string_bytes};
+ghost use Rattle.sn_io.specs.Streams.{Tells};
+ghost use Rattle.sn_items.specs.declared.error.ItemError.{ItemError};
+ghost use Rattle.sn_string.specs.declared.reader.StringError.{StringError};
+ghost use Rattle.sn_cli.specs.declared.status.Refusal.{Refusal};
+ghost use Rattle.sn_cli.specs.Lines.{line_of, refusal_text, item_text, form_text};
+
+use crate::status::{Refusal, Status};
+use sn_io::{Sink, write_all};
+use sn_items::ItemError;
+use sn_string::{StringError, hex_text, uuid_text};
+use std::alloc::{AllocError, Global};
+
+/// Writes the line of a status. Where there is no memory for a refusal's line, the status is want of memory.
+pub fn tell<E: Sink>(alloc: Global, err: &mut E, status: Status) -> Status
+    ensures same { (result ≡ status) ⊎ ((refusal : Refusal) × (status ≡ Status.Refused refusal) × (result ≡ Status.Memory)) }
+    ensures told { Tells (E.held err.old) (E.held err.new) (E.fault_count err.old) (E.fault_count err.new) (line_of result) }
+{
+    match status {
+        Status::Done => Status::Done,
+        Status::Usage => {
+            put(err, b"sn: usage\n");
+            Status::Usage
+        }
+        Status::ReadFault => {
+            put(err, b"sn: read fault\n");
+            Status::ReadFault
+        }
+        Status::WriteFault => {
+            put(err, b"sn: write fault\n");
+            Status::WriteFault
+        }
+        Status::Memory => {
+            put(err, b"sn: memory\n");
+            Status::Memory
+        }
+        Status::Refused(refusal) => tell_refusal(alloc, err, refusal),
+    }
+}
+
+fn tell_refusal<E: Sink>(alloc: Global, err: &mut E, refusal: Refusal) -> Status
+    ensures same { (result ≡ Status.Refused refusal) ⊎ (result ≡ Status.Memory) }
+    ensures told { Tells (E.held err.old) (E.held err.new) (E.fault_count err.old) (E.fault_count err.new) (line_of result) }
+{
+    match refusal_line(alloc, &refusal) {
+        Ok(line) => {
+            put(err, line.as_bytes());
+            Status::Refused(refusal)
+        }
+        Err(AllocError) => {
+            put(err, b"sn: memory\n");
+            Status::Memory
+        }
+    }
+}
+
+// A fault here changes no status.
+fn put<E: Sink>(err: &mut E, line: &[u8])
+    ensures { Tells (E.held err.old) (E.held err.new) (E.fault_count err.old) (E.fault_count err.new) line.now }
+{
+    let _ = write_all(err, line);
+}
+
+fn refusal_line(alloc: Global, refusal: &Refusal) -> Result<String, AllocError>
+    ensures { IfOk result (λ line. string_bytes line ≡ line_of (Status.Refused refusal.now)) }
+{
+    let text = match refusal {
+        Refusal::InputLong => format!(in alloc; "cli.1 InputLong")?,
+        Refusal::InputUtf8 { place } => format!(in alloc; "cli.2 InputUtf8 {place}")?,
+        Refusal::Item(error) => item_line(alloc, error)?,
+    };
+    format!(in alloc; "sn: {text}\n")
+}
+
+fn item_line(alloc: Global, error: &ItemError) -> Result<String, AllocError>
+    ensures { IfOk result (λ line. string_bytes line ≡ item_text error.now) }
+{
+    match error {
+        ItemError::Form(error) => form_line(alloc, error),
+        ItemError::OtherUuid { written } => {
+            let written = uuid_text(alloc, *written)?;
+            format!(in alloc; "items.8 OtherUuid {written}")
+        }
+        ItemError::HashMismatch { written, computed } => {
+            let written = hex_text(alloc, written)?;
+            let computed = hex_text(alloc, computed)?;
+            format!(in alloc; "items.9 HashMismatch {written} {computed}")
+        }
+        ItemError::Padding => format!(in alloc; "items.10 Padding"),
+        ItemError::NotUtf8 { place } => format!(in alloc; "items.11 NotUtf8 {place}"),
+        ItemError::Memory => format!(in alloc; "memory"),
+    }
+}
+
+fn form_line(alloc: Global, error: &StringError) -> Result<String, AllocError>
+    ensures { IfOk result (λ line. string_bytes line ≡ form_text error.now) }
+{
+    match error {
+        StringError::Parts { count } => format!(in alloc; "string.1 Parts {count}"),
+        StringError::Version { place } => format!(in alloc; "string.2 Version {place}"),
+        StringError::Hash { place } => format!(in alloc; "string.3 Hash {place}"),
+        StringError::Uuid { place } => format!(in alloc; "string.4 Uuid {place}"),
+        StringError::Iv { place } => format!(in alloc; "string.5 Iv {place}"),
+        StringError::Ciphertext { place } => format!(in alloc; "string.6 Ciphertext {place}"),
+        StringError::Params { place } => format!(in alloc; "string.7 Params {place}"),
+        StringError::Memory => format!(in alloc; "memory"),
+    }
+}

@@ -1,0 +1,77 @@
+// The top call.
+ghost use Rattle.std.specs.Prelude.{◌≡◌, ◌⊎◌, ◌+◌, ◌↔◌, ℕ, List};
+ghost use Rattle.std.specs.Io.KnownBytes.{Keeps};
+ghost use Rattle.sn_io.specs.Causes.{Rose};
+ghost use Rattle.sn_io.specs.Streams.{GivesPart, Tells};
+ghost use Rattle.sn_items.specs.declared.error.ItemError.{ItemError};
+ghost use Rattle.sn_cli.specs.CommandLine.{IsUsage};
+ghost use Rattle.sn_cli.specs.Lines.{line_of, IsSilent};
+ghost use Rattle.sn_cli.specs.Runs.{MOST_INPUT, Seals, OpensText, RefusesText, IsInputUtf8};
+ghost use Rattle.sn_cli.specs.Words.{texts};
+
+use crate::command_line::{Command, command_of};
+use crate::commands::{open_input, seal_input};
+use crate::lines::tell;
+use crate::status::{Refusal, Status};
+use sn_io::{Seeds, Sink, Source};
+use std::alloc::Global;
+
+/// Carries out the command that the words spell, over the input, the two outputs and the seeds that are handed in.
+pub fn run<I: Source, O: Sink, E: Sink, R: Seeds>(
+    alloc: Global,
+    words: &[String],
+    input: &mut I,
+    out: &mut O,
+    err: &mut E,
+    seeds: &mut R,
+) -> Status
+    ensures usage { result ≡ Status.Usage ↔ IsUsage (texts words.now) }
+    ensures untouched { result ≡ Status.Usage → (I.left input.new ≡ I.left input.old) × (R.given seeds.new ≡ R.given seeds.old) }
+    ensures done { result ≡ Status.Done
+        → Seals (texts words.now) (I.left input.old) (I.left input.new) (O.held out.old) (O.held out.new) (R.given seeds.old) (R.given seeds.new)
+        ⊎ OpensText (texts words.now) (I.left input.old) (I.left input.new) (O.held out.old) (O.held out.new) }
+
+    // A refusal comes by its cause, and nothing is written.
+    ensures item { (error : ItemError) → result ≡ Status.Refused (Refusal.Item error)
+        → RefusesText (texts words.now) (I.left input.old) (I.left input.new) error }
+    ensures long { result ≡ Status.Refused Refusal.InputLong → GivesPart (I.left input.old) (I.left input.new) (MOST_INPUT + 1) }
+    ensures utf8 { (place : ℕ) → result ≡ Status.Refused (Refusal.InputUtf8 place)
+        → IsInputUtf8 (I.left input.old) (I.left input.new) place }
+    ensures silent { IsSilent result → Keeps (O.held out.old) (O.held out.new) }
+
+    ensures read { result ≡ Status.ReadFault → Rose (I.fault_count input.old) (I.fault_count input.new) }
+    ensures write { result ≡ Status.WriteFault → Rose (O.fault_count out.old) (O.fault_count out.new) }
+    ensures told { Tells (E.held err.old) (E.held err.new) (E.fault_count err.old) (E.fault_count err.new) (line_of result) }
+{
+    let status = answer(alloc, words, input, out, seeds);
+    tell(alloc, err, status)
+}
+
+// All but the line.
+fn answer<I: Source, O: Sink, R: Seeds>(
+    alloc: Global,
+    words: &[String],
+    input: &mut I,
+    out: &mut O,
+    seeds: &mut R,
+) -> Status
+    ensures usage { result ≡ Status.Usage ↔ IsUsage (texts words.now) }
+    ensures untouched { result ≡ Status.Usage → (I.left input.new ≡ I.left input.old) × (R.given seeds.new ≡ R.given seeds.old) }
+    ensures done { result ≡ Status.Done
+        → Seals (texts words.now) (I.left input.old) (I.left input.new) (O.held out.old) (O.held out.new) (R.given seeds.old) (R.given seeds.new)
+        ⊎ OpensText (texts words.now) (I.left input.old) (I.left input.new) (O.held out.old) (O.held out.new) }
+    ensures item { (error : ItemError) → result ≡ Status.Refused (Refusal.Item error)
+        → RefusesText (texts words.now) (I.left input.old) (I.left input.new) error }
+    ensures long { result ≡ Status.Refused Refusal.InputLong → GivesPart (I.left input.old) (I.left input.new) (MOST_INPUT + 1) }
+    ensures utf8 { (place : ℕ) → result ≡ Status.Refused (Refusal.InputUtf8 place)
+        → IsInputUtf8 (I.left input.old) (I.left input.new) place }
+    ensures silent { IsSilent result → Keeps (O.held out.old) (O.held out.new) }
+    ensures read { result ≡ Status.ReadFault → Rose (I.fault_count input.old) (I.fault_count input.new) }
+    ensures write { result ≡ Status.WriteFault → Rose (O.fault_count out.old) (O.fault_count out.new) }
+{
+    match command_of(words) {
+        None => Status::Usage,
+        Some(Command::Seal(item, params)) => seal_input(alloc, &item, &params, input, out, seeds),
+        Some(Command::Open(item)) => open_input(alloc, &item, input, out),
+    }
+}

@@ -1,0 +1,282 @@
+//! Runs over an outside in memory. The strings are those of an independent implementation for the seed of zeros.
+
+use crate::program::run;
+use sn_io::{MemSeeds, MemSink, MemSource};
+use std::alloc::Global;
+use std::test::Fail;
+
+const SEAL: &[&str] = &[
+    "seal",
+    "--uuid",
+    "00000000-0000-4000-8000-000000000001",
+    "--key",
+    "000102030405060708090a0b0c0d0e0f101112131415161718191a1b1c1d1e1f202122232425262728292a2b2c2d2e2f303132333435363738393a3b3c3d3e3f",
+    "--identifier",
+    "alice",
+    "--cost",
+    "1",
+    "--nonce",
+    "6e",
+];
+
+const OPEN: &[&str] = &[
+    "open",
+    "--uuid",
+    "00000000-0000-4000-8000-000000000001",
+    "--key",
+    "000102030405060708090a0b0c0d0e0f101112131415161718191a1b1c1d1e1f202122232425262728292a2b2c2d2e2f303132333435363738393a3b3c3d3e3f",
+];
+
+const OPEN_OTHER: &[&str] = &[
+    "open",
+    "--uuid",
+    "00000000-0000-4000-8000-000000000002",
+    "--key",
+    "000102030405060708090a0b0c0d0e0f101112131415161718191a1b1c1d1e1f202122232425262728292a2b2c2d2e2f303132333435363738393a3b3c3d3e3f",
+];
+
+const NONE: &[&str] = &[];
+
+const SHORT: &[&str] = &[
+    "seal",
+    "--uuid",
+    "00000000-0000-4000-8000-000000000001",
+    "--key",
+    "000102030405060708090a0b0c0d0e0f101112131415161718191a1b1c1d1e1f202122232425262728292a2b2c2d2e2f303132333435363738393a3b3c3d3e3f",
+    "--identifier",
+    "alice",
+    "--cost",
+    "1",
+    "--nonce",
+];
+
+const LEADING_ZERO: &[&str] = &[
+    "seal",
+    "--uuid",
+    "00000000-0000-4000-8000-000000000001",
+    "--key",
+    "000102030405060708090a0b0c0d0e0f101112131415161718191a1b1c1d1e1f202122232425262728292a2b2c2d2e2f303132333435363738393a3b3c3d3e3f",
+    "--identifier",
+    "alice",
+    "--cost",
+    "01",
+    "--nonce",
+    "6e",
+];
+
+struct Case {
+    name: &'static str,
+    words: &'static [&'static str],
+    input: &'static [u8],
+    failing_reads: &'static [u64],
+    failing_writes: &'static [u64],
+    status: u8,
+    out: &'static [u8],
+    err: &'static [u8],
+}
+
+static CASES: [Case; 17] = [
+    Case {
+        name: "the empty text",
+        words: SEAL,
+        input: b"",
+        failing_reads: &[],
+        failing_writes: &[],
+        status: 0,
+        out: b"003:e02d68811276dd52ae7a25d507ed386516a18776e1e500cff15b5af94ef16f1a:00000000-0000-4000-8000-000000000001:76b8e0ada0f13d90405d6ae55386bd28:WbUbyVznKFwK2Nf+5HN/fw==:eyJpZGVudGlmaWVyIjoiYWxpY2UiLCJwd19jb3N0IjoxLCJwd19ub25jZSI6IjZlIiwidmVyc2lvbiI6IjAwMyJ9\n",
+        err: b"",
+    },
+    Case {
+        name: "a full block",
+        words: SEAL,
+        input: b"0123456789abcdef",
+        failing_reads: &[],
+        failing_writes: &[],
+        status: 0,
+        out: b"003:b575ce3c2695f7385e3d9b9fd8888357bc2fddb015d6fa35e3086f83c423e455:00000000-0000-4000-8000-000000000001:76b8e0ada0f13d90405d6ae55386bd28://0LNp/oXedvv270MZbI7YEYIqJpGRG8VSSOyP2NKA0=:eyJpZGVudGlmaWVyIjoiYWxpY2UiLCJwd19jb3N0IjoxLCJwd19ub25jZSI6IjZlIiwidmVyc2lvbiI6IjAwMyJ9\n",
+        err: b"",
+    },
+    Case {
+        name: "opens",
+        words: OPEN,
+        input: b"003:b575ce3c2695f7385e3d9b9fd8888357bc2fddb015d6fa35e3086f83c423e455:00000000-0000-4000-8000-000000000001:76b8e0ada0f13d90405d6ae55386bd28://0LNp/oXedvv270MZbI7YEYIqJpGRG8VSSOyP2NKA0=:eyJpZGVudGlmaWVyIjoiYWxpY2UiLCJwd19jb3N0IjoxLCJwd19ub25jZSI6IjZlIiwidmVyc2lvbiI6IjAwMyJ9",
+        failing_reads: &[],
+        failing_writes: &[],
+        status: 0,
+        out: b"0123456789abcdef",
+        err: b"",
+    },
+    Case {
+        name: "opens with a line feed",
+        words: OPEN,
+        input: b"003:b575ce3c2695f7385e3d9b9fd8888357bc2fddb015d6fa35e3086f83c423e455:00000000-0000-4000-8000-000000000001:76b8e0ada0f13d90405d6ae55386bd28://0LNp/oXedvv270MZbI7YEYIqJpGRG8VSSOyP2NKA0=:eyJpZGVudGlmaWVyIjoiYWxpY2UiLCJwd19jb3N0IjoxLCJwd19ub25jZSI6IjZlIiwidmVyc2lvbiI6IjAwMyJ9\n",
+        failing_reads: &[],
+        failing_writes: &[],
+        status: 0,
+        out: b"0123456789abcdef",
+        err: b"",
+    },
+    Case {
+        name: "opens to nothing",
+        words: OPEN,
+        input: b"003:e02d68811276dd52ae7a25d507ed386516a18776e1e500cff15b5af94ef16f1a:00000000-0000-4000-8000-000000000001:76b8e0ada0f13d90405d6ae55386bd28:WbUbyVznKFwK2Nf+5HN/fw==:eyJpZGVudGlmaWVyIjoiYWxpY2UiLCJwd19jb3N0IjoxLCJwd19ub25jZSI6IjZlIiwidmVyc2lvbiI6IjAwMyJ9",
+        failing_reads: &[],
+        failing_writes: &[],
+        status: 0,
+        out: b"",
+        err: b"",
+    },
+    Case {
+        name: "no words",
+        words: NONE,
+        input: b"x",
+        failing_reads: &[],
+        failing_writes: &[],
+        status: 2,
+        out: b"",
+        err: b"sn: usage\n",
+    },
+    Case {
+        name: "a value left out",
+        words: SHORT,
+        input: b"x",
+        failing_reads: &[],
+        failing_writes: &[],
+        status: 2,
+        out: b"",
+        err: b"sn: usage\n",
+    },
+    Case {
+        name: "a leading zero",
+        words: LEADING_ZERO,
+        input: b"x",
+        failing_reads: &[],
+        failing_writes: &[],
+        status: 2,
+        out: b"",
+        err: b"sn: usage\n",
+    },
+    Case {
+        name: "seal: no UTF-8",
+        words: SEAL,
+        input: b"ab\xff",
+        failing_reads: &[],
+        failing_writes: &[],
+        status: 3,
+        out: b"",
+        err: b"sn: cli.2 InputUtf8 2\n",
+    },
+    Case {
+        name: "open: no parts",
+        words: OPEN,
+        input: b"x",
+        failing_reads: &[],
+        failing_writes: &[],
+        status: 3,
+        out: b"",
+        err: b"sn: string.1 Parts 1\n",
+    },
+    Case {
+        name: "open: another version",
+        words: OPEN,
+        input: b"004:b575ce3c2695f7385e3d9b9fd8888357bc2fddb015d6fa35e3086f83c423e455:00000000-0000-4000-8000-000000000001:76b8e0ada0f13d90405d6ae55386bd28://0LNp/oXedvv270MZbI7YEYIqJpGRG8VSSOyP2NKA0=:eyJpZGVudGlmaWVyIjoiYWxpY2UiLCJwd19jb3N0IjoxLCJwd19ub25jZSI6IjZlIiwidmVyc2lvbiI6IjAwMyJ9",
+        failing_reads: &[],
+        failing_writes: &[],
+        status: 3,
+        out: b"",
+        err: b"sn: string.2 Version 0\n",
+    },
+    Case {
+        name: "open: two line feeds",
+        words: OPEN,
+        input: b"003:b575ce3c2695f7385e3d9b9fd8888357bc2fddb015d6fa35e3086f83c423e455:00000000-0000-4000-8000-000000000001:76b8e0ada0f13d90405d6ae55386bd28://0LNp/oXedvv270MZbI7YEYIqJpGRG8VSSOyP2NKA0=:eyJpZGVudGlmaWVyIjoiYWxpY2UiLCJwd19jb3N0IjoxLCJwd19ub25jZSI6IjZlIiwidmVyc2lvbiI6IjAwMyJ9\n\n",
+        failing_reads: &[],
+        failing_writes: &[],
+        status: 3,
+        out: b"",
+        err: b"sn: string.7 Params 184\n",
+    },
+    Case {
+        name: "open: another uuid",
+        words: OPEN_OTHER,
+        input: b"003:b575ce3c2695f7385e3d9b9fd8888357bc2fddb015d6fa35e3086f83c423e455:00000000-0000-4000-8000-000000000001:76b8e0ada0f13d90405d6ae55386bd28://0LNp/oXedvv270MZbI7YEYIqJpGRG8VSSOyP2NKA0=:eyJpZGVudGlmaWVyIjoiYWxpY2UiLCJwd19jb3N0IjoxLCJwd19ub25jZSI6IjZlIiwidmVyc2lvbiI6IjAwMyJ9",
+        failing_reads: &[],
+        failing_writes: &[],
+        status: 3,
+        out: b"",
+        err: b"sn: items.8 OtherUuid 00000000-0000-4000-8000-000000000001\n",
+    },
+    Case {
+        name: "seal: the first read fails",
+        words: SEAL,
+        input: b"x",
+        failing_reads: &[0],
+        failing_writes: &[],
+        status: 6,
+        out: b"",
+        err: b"sn: read fault\n",
+    },
+    Case {
+        name: "open: the second read fails",
+        words: OPEN,
+        input: b"003:b575ce3c2695f7385e3d9b9fd8888357bc2fddb015d6fa35e3086f83c423e455:00000000-0000-4000-8000-000000000001:76b8e0ada0f13d90405d6ae55386bd28://0LNp/oXedvv270MZbI7YEYIqJpGRG8VSSOyP2NKA0=:eyJpZGVudGlmaWVyIjoiYWxpY2UiLCJwd19jb3N0IjoxLCJwd19ub25jZSI6IjZlIiwidmVyc2lvbiI6IjAwMyJ9",
+        failing_reads: &[1],
+        failing_writes: &[],
+        status: 6,
+        out: b"",
+        err: b"sn: read fault\n",
+    },
+    Case {
+        name: "seal: the first write fails",
+        words: SEAL,
+        input: b"x",
+        failing_reads: &[],
+        failing_writes: &[0],
+        status: 7,
+        out: b"",
+        err: b"sn: write fault\n",
+    },
+    Case {
+        name: "open: the first write fails",
+        words: OPEN,
+        input: b"003:b575ce3c2695f7385e3d9b9fd8888357bc2fddb015d6fa35e3086f83c423e455:00000000-0000-4000-8000-000000000001:76b8e0ada0f13d90405d6ae55386bd28://0LNp/oXedvv270MZbI7YEYIqJpGRG8VSSOyP2NKA0=:eyJpZGVudGlmaWVyIjoiYWxpY2UiLCJwd19jb3N0IjoxLCJwd19ub25jZSI6IjZlIiwidmVyc2lvbiI6IjAwMyJ9",
+        failing_reads: &[],
+        failing_writes: &[0],
+        status: 7,
+        out: b"",
+        err: b"sn: write fault\n",
+    },
+];
+
+fn owned(alloc: Global, words: &[&str]) -> Result<Vec<String>, Fail> {
+    let mut owned = Vec::new(alloc);
+    for word in words {
+        owned.push(word.to_string(alloc)?)?;
+    }
+    Ok(owned)
+}
+
+#[test]
+fn runs(rt: HostRuntime) -> Result<(), Fail> {
+    for case in CASES.iter() {
+        let words = owned(rt.alloc(), case.words)?;
+        let failing_reads = case.failing_reads.to_vec(rt.alloc())?;
+        let failing_writes = case.failing_writes.to_vec(rt.alloc())?;
+        let mut input = MemSource::new(case.input.to_vec(rt.alloc())?, 100, failing_reads);
+        let mut out = MemSink::new(rt.alloc(), 50, failing_writes);
+        let mut err = MemSink::new(rt.alloc(), 7, Vec::new(rt.alloc()));
+        let mut seeds = MemSeeds::new(Vec::new(rt.alloc()));
+        let status = run(
+            rt.alloc(),
+            &words,
+            &mut input,
+            &mut out,
+            &mut err,
+            &mut seeds,
+        );
+        assert_eq!(rt; status.code(), case.status, "{}", case.name);
+        assert_eq!(rt; out.bytes(), case.out, "{}", case.name);
+        assert_eq!(rt; err.bytes(), case.err, "{}", case.name);
+    }
+    Ok(())
+}
