@@ -1,5 +1,5 @@
 -- Words that are no command line.
-use Rattle.std.proofs.Common.{rules, arith, ◌≡◌, ◌⊎◌, inl, inr, ℕ, ◌<◌, ◌^◌, List, [], ◌∷◌, refl, sym, ap, get_or, subst, ◌∙◌, codes, Option, Some, None, IfNone}
+use Rattle.std.proofs.Common.{arith, ◌≡◌, inl, inr, ℕ, List, [], ◌∷◌, sym, ap, get_or, subst, ◌∙◌, codes, Option, Some, None, IfNone}
 use Rattle.std.specs.Fmt.{decimal}
 use Rattle.sn_cli.specs.CommandLine.{SealLine, OpenLine, IsSealLine, IsOpenLine, SpellsParams, BeginsWithItem, IsUsage}
 

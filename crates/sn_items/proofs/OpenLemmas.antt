@@ -1,12 +1,11 @@
 -- What the parts of a text fix.
-use Rattle.std.proofs.Common.{rules, arith, ◌≡◌, ◌≢◌, ◌⊎◌, inl, inr, ℕ, ◌<◌, ◌%◌, List, [], ◌∷◌, length, Result, Ok, Err, IfOk, IfErr, IsErrOf, Option, Some, None, String, string_bytes, refl, sym, ap, subst, ◌∙◌}
+use Rattle.std.proofs.Common.{◌≡◌, ◌⊎◌, inl, inr, ℕ, List, [], Result, Ok, Err, IfOk, IfErr, Option, Some, None, String, string_bytes, refl, sym, ap, subst, ◌∙◌}
 use Rattle.std.specs.declared.alloc.Global.{Global}
 use Rattle.std.specs.Str.{IsUtf8}
-use Rattle.hex.specs.Hex.{decode_sized}
 use Rattle.sn_cbc.specs.Cbc.{AreBytes, IsCbc, IsWhole, padded}
 use Rattle.sn_cbc.proofs.PaddingLemmas.{padded_injective}
 use Rattle.sn_cbc.proofs.UniqueLemmas as unique
-use Rattle.sn_items.specs.Opens.{Opens, Decrypts, IsAuthentic, NamesItem, hash_of}
+use Rattle.sn_items.specs.Opens.{Opens, Decrypts, IsAuthentic, hash_of}
 use Rattle.sn_items.specs.Refusals.{HasCause}
 use Rattle.sn_items.specs.Utf8.{IsValidTo}
 use Rattle.sn_items.specs.declared.error.ItemError.{ItemError}
@@ -14,11 +13,10 @@ use Rattle.sn_items.specs.declared.error.ItemError.TheVariants.{Form, OtherUuid,
 use Rattle.sn_string.specs.Base64.{IsBase64}
 use Rattle.sn_string.specs.Grammar.{Reading, Is003, IsCiphertext, parts_of}
 use Rattle.sn_string.specs.Hex.{IsLowerHex}
-use Rattle.sn_string.specs.Refusals.{Refuses, IsRefusal}
+use Rattle.sn_string.specs.Refusals.{Refuses}
 use Rattle.sn_string.specs.Uuids.{IsUuidText}
 use Rattle.sn_string.specs.declared.reader.StringError.{StringError}
 use Rattle.sn_string.specs.declared.reader.StringError.TheVariants as string
-use Rattle.sn_string.specs.declared.reader.Parts.{Parts}
 use Rattle.sn_string.proofs.Base64Facts.{same_bytes}
 use Rattle.sn_string.proofs.HexFacts.{decode_sized-lower}
 use Rattle.sn_string.proofs.Unique.{one_reading, read_back}

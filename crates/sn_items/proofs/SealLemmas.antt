@@ -1,5 +1,5 @@
 -- What is sealed opens.
-use Rattle.std.proofs.Common.{◌≡◌, ℕ, List, Result, Ok, Err, IfOk, String, string_bytes}
+use Rattle.std.proofs.Common.{ℕ, List, Result, Ok, Err, IfOk, String, string_bytes}
 use Rattle.std.specs.declared.alloc.Global.{Global}
 use Rattle.std.specs.Str.{IsUtf8}
 use Rattle.sn_items.specs.Opens.{Opens, Decrypts, hash_of}

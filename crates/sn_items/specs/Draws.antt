@@ -3,9 +3,7 @@ use Rattle.std.specs.Prelude.{ℕ, List}
 use Rattle.rand_chacha.specs.ChaCha.{ChaCha, next_word}
 use Rattle.rand_core.specs.Steps.{fill_via_u32}
 use Rattle.uuid.specs.Parts.{with_version, with_variant}
-use Rattle.uuid.specs.declared.Variant.{Variant}
 use Rattle.uuid.specs.declared.Variant.TheVariants.{RFC4122}
-use Rattle.uuid.specs.declared.Version.{Version}
 use Rattle.uuid.specs.declared.Version.TheVariants.{Random}
 
 -- the next n bytes and the words after them: whole words of the ChaCha20 stream in order, each as four little-endian bytes

@@ -1,5 +1,5 @@
 -- What holds of every text that opens.
-use Rattle.std.specs.Prelude.{◌≡◌, ◌⊎◌, ℕ, List, length, Result, Ok, Err, IfOk, IfErr}
+use Rattle.std.specs.Prelude.{◌≡◌, ◌⊎◌, ℕ, List, Result, Ok, Err, IfOk, IfErr}
 use Rattle.sn_cbc.specs.Cbc.{AreBytes}
 use Rattle.sn_items.specs.Opens.{Opens}
 use Rattle.sn_items.specs.Refusals.{HasCause}

@@ -1,5 +1,5 @@
 -- When a 003 string opens to a plain text.
-use Rattle.std.specs.Prelude.{◌≡◌, ℕ, List, [], ◌∷◌}
+use Rattle.std.specs.Prelude.{ℕ, List, [], ◌∷◌}
 use Rattle.std.specs.Str.{IsUtf8}
 use Rattle.sn_cbc.specs.Cbc.{IsCbc}
 use Rattle.sn_hmac.specs.Hmac.{hmac_sha256}

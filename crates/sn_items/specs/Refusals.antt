@@ -1,7 +1,7 @@
 -- Why a text doesn't open.
 use Rattle.std.specs.Prelude.{◌≡◌, ◌≢◌, ℕ, List, ⊤}
 use Rattle.sn_cbc.specs.Cbc.{AreBytes}
-use Rattle.sn_items.specs.Opens.{Opens, NamesItem, IsAuthentic, Decrypts, hash_of}
+use Rattle.sn_items.specs.Opens.{NamesItem, IsAuthentic, Decrypts, hash_of}
 use Rattle.sn_items.specs.Utf8.{IsValidTo}
 use Rattle.sn_items.specs.declared.error.ItemError.{ItemError}
 use Rattle.sn_items.specs.declared.error.ItemError.TheVariants.{Form, OtherUuid, HashMismatch, Padding, NotUtf8, Memory}

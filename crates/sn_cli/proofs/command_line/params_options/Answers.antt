@@ -1,4 +1,4 @@
-use Rattle.std.proofs.Common.{rules, refl}
+use Rattle.std.proofs.Common.{refl}
 use Rattle.sn_cli.specs.Words.{texts}
 use Rattle.sn_cli.proofs.CommandLines.{no_identifier, no_nonce, no_nonce_alone}
 use Rattle.sn_cli.proofs.command_line.params_options.Goals as goal

@@ -1,10 +1,10 @@
-use Rattle.std.proofs.Common.{rules, ◌≡◌, sym, ap, subst, ◌∙◌, string_bytes}
+use Rattle.std.proofs.Common.{rules, subst, ◌∙◌, string_bytes}
 use Rattle.std.specs.Io.KnownBytes.{Appends}
-use Rattle.rand_chacha.specs.ChaCha.{ChaCha, of_seed}
+use Rattle.rand_chacha.specs.ChaCha.{of_seed}
 use Rattle.sn_items.specs.Draws.{drawn}
 use Rattle.sn_items.specs.Seals.{IsSealed}
 use Rattle.sn_cli.specs.Commands.{seal_line}
-use Rattle.sn_cli.specs.Runs.{Seals, encryption_half, authentication_half}
+use Rattle.sn_cli.specs.Runs.{encryption_half, authentication_half}
 use Rattle.sn_cli.proofs.commands.seal_input.Goals as goal
 
 pub returns-in-Ok-sealed_line-clause-done : goal.returns-in-Ok-sealed_line-clause-done

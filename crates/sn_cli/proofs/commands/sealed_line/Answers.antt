@@ -1,5 +1,4 @@
-use Rattle.std.proofs.Common.{rules, ◌≡◌, sym, ap, ap₂, subst, ◌∙◌, string_bytes}
-use Rattle.rand_chacha.specs.ChaCha.{ChaCha}
+use Rattle.std.proofs.Common.{rules, string_bytes}
 use Rattle.sn_items.specs.Draws.{drawn}
 use Rattle.sn_items.specs.Seals.{IsSealed}
 use Rattle.sn_cli.specs.Commands.{seal_line}

@@ -1,4 +1,4 @@
-use Rattle.std.proofs.Common.{rules, arith, sym, ap, subst, get_or}
+use Rattle.std.proofs.Common.{rules}
 use Rattle.sn_cli.proofs.Numerals.{spelled, read, first_digit, positive}
 use Rattle.sn_cli.proofs.number.positive_number.Goals as goal
 

@@ -1,7 +1,6 @@
-use Rattle.std.proofs.Common.{rules, ◌≡◌, ◌≢◌, ℕ, List, Err, refl, sym, ap, subst, ◌∙◌}
-use Rattle.sn_items.specs.Opens.{IsAuthentic, NamesItem, hash_of}
+use Rattle.std.proofs.Common.{rules, ◌≢◌, Err, ap}
+use Rattle.sn_items.specs.Opens.{hash_of}
 use Rattle.sn_items.proofs.OpenLemmas.{opened_text, refused_text}
-use Rattle.sn_string.specs.Grammar.{Reading, Is003}
 use Rattle.sn_string.specs.Hex.{IsLowerHex}
 use Rattle.sn_string.specs.Parts.{reading_of}
 use Rattle.sn_string.specs.Uuids.{IsUuidText}

@@ -1,5 +1,4 @@
-use Rattle.std.proofs.Common.{rules, ◌≡◌, ℕ, List}
-use Rattle.sn_cbc.specs.Cbc.{AreBytes, IsCbc, IsWhole}
+use Rattle.std.proofs.Common.{rules}
 use Rattle.sn_items.proofs.OpenLemmas.{no_plain, whole_bytes}
 use Rattle.sn_string.specs.Base64.{IsBase64}
 use Rattle.sn_items.proofs.opening.plain_bytes.Goals as goal

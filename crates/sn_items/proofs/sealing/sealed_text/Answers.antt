@@ -1,4 +1,4 @@
-use Rattle.std.proofs.Common.{rules, ◌≡◌}
+use Rattle.std.proofs.Common.{rules}
 use Rattle.sn_items.specs.Opens.{Decrypts, hash_of}
 use Rattle.sn_items.proofs.SealLemmas.{opens_written}
 use Rattle.sn_string.specs.Grammar.{Reading, written}
