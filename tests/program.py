@@ -1,10 +1,12 @@
-"""Runs the built program."""
+"""Runs the built program, which `tests/run` has made by `./sn`."""
 
+import glob
 import os
 import resource
 import subprocess
 
-SN = os.path.join(os.path.dirname(os.path.abspath(__file__)), "..", "sn")
+TOP = os.path.join(os.path.dirname(os.path.abspath(__file__)), "..")
+SN = (glob.glob(os.path.join(TOP, ".built", "sn-*")) + [os.path.join(TOP, "sn")])[0]
 
 UUID = "00000000-0000-4000-8000-000000000001"
 KEY = bytes(range(64))
