@@ -33,7 +33,7 @@ four_small a b c d p q r s (suc (suc (suc (suc k)))) = lit< tt
 below_256 : (n : ℕ) → n % 256 < 256
 below_256 n = omega arith
 
-word_small : (w : ℕ) → AreBytes (to_be_bytes w32 w)
+pub word_small : (w : ℕ) → AreBytes (to_be_bytes w32 w)
 word_small w = four_small _ _ _ _ (below_256 (w / 256 ^ 3)) (below_256 (w / 256 ^ 2)) (below_256 (w / 256 ^ 1)) (below_256 w)
 
 pub words_small : (w : List ℕ) (i : ℕ) → AreBytes (four_words w i)

@@ -1,7 +1,8 @@
 -- The bytes of words under exclusive or, and rounds on words.
-use Rattle.std.proofs.Common.{◌≡◌, ℕ, zero, suc, ◌+◌, ◌-◌, ◌/◌, ◌%◌, ◌^◌, ◌<◌, List, [], ◌∷◌, ◌++◌, bit_xor, refl, ap, ap₂, ◌∙◌, get_or, lit<, add-one}
-use Rattle.std.proofs.lemmas.Nat.{be_bytes_4, xor_mod, xor_shr}
-use Rattle.std.specs.Int.{w32, from_be_bytes, to_be_bytes}
+use Rattle.std.proofs.Common.{◌≡◌, ℕ, suc, ◌+◌, ◌-◌, ◌/◌, ◌%◌, ◌^◌, List, [], ◌∷◌, ◌++◌, bit_xor, ap, ap₂, ◌∙◌, add-one}
+use Rattle.std.proofs.lemmas.Nat.{xor_mod, xor_shr}
+use Rattle.std.specs.Int.Bits.{xor_zero_l, xor_zero_r}
+use Rattle.std.specs.Int.{w32, to_be_bytes}
 use Rattle.sn_aes.specs.Field.{product}
 use Rattle.sn_aes.specs.Inverse.{inverse_mix_column, inverse_round, inverse_rounds}
 use Rattle.sn_aes.specs.Cipher.{sbox, mix_column, xor_bytes, four_words, round, rounds, add_round_key}
@@ -42,18 +43,6 @@ rounds_more w b s r n m e p q =
     let last : m ≡ suc n = e ∙ add-one n in
     rw last (rw (p, e) at q)
 
-each_byte : (a b c d : ℕ) → a < 256 → b < 256 → c < 256 → d < 256 → (i : ℕ) → get_or (a ∷ b ∷ c ∷ d ∷ []) i 0 < 256
-each_byte a b c d p q r s zero = p
-each_byte a b c d p q r s (suc zero) = q
-each_byte a b c d p q r s (suc (suc zero)) = r
-each_byte a b c d p q r s (suc (suc (suc zero))) = s
-each_byte a b c d p q r s (suc (suc (suc (suc i)))) = lit< tt
-
--- the bytes of a word that four bytes made
-pub bytes_of_four : (a b c d n : ℕ) → a < 256 → b < 256 → c < 256 → d < 256 → n ≡ from_be_bytes w32 (a ∷ b ∷ c ∷ d ∷ [])
-    → to_be_bytes w32 n ≡ a ∷ b ∷ c ∷ d ∷ []
-bytes_of_four a b c d n p q r s e = be_bytes_4 (a ∷ b ∷ c ∷ d ∷ []) n refl (each_byte a b c d p q r s) e
-
 -- one more round of the inverse cipher
 pub inverse_rounds_more : (w b s r : List ℕ) (n m k : ℕ) → m ≡ n + 1 → k ≡ 13 - n → s ≡ inverse_rounds w b n
     → r ≡ add_round_key w (inverse_round s) k → r ≡ inverse_rounds w b m
@@ -79,3 +68,18 @@ pub inverse_column_bytes : (a b c d t u v w key : ℕ)
     ≡ xor_bytes (inverse_mix_column a b c d) (to_be_bytes w32 key)
 inverse_column_bytes a b c d t u v w key p q r s =
     bytes_xor (bit_xor (bit_xor (bit_xor t u) v) w) key ∙ ap (λ l. xor_bytes l (to_be_bytes w32 key)) (four_bytes t u v w p q r s)
+
+-- a word of each row, and a key
+pub last_column_bytes : (a b c d t u v w key : ℕ)
+    → to_be_bytes w32 t ≡ a ∷ 0 ∷ 0 ∷ 0 ∷ []
+    → to_be_bytes w32 u ≡ 0 ∷ b ∷ 0 ∷ 0 ∷ []
+    → to_be_bytes w32 v ≡ 0 ∷ 0 ∷ c ∷ 0 ∷ []
+    → to_be_bytes w32 w ≡ 0 ∷ 0 ∷ 0 ∷ d ∷ []
+    → to_be_bytes w32 (bit_xor (bit_xor (bit_xor (bit_xor t u) v) w) key) ≡ xor_bytes (a ∷ b ∷ c ∷ d ∷ []) (to_be_bytes w32 key)
+last_column_bytes a b c d t u v w key p q r s =
+    let first : bit_xor (bit_xor (bit_xor a 0) 0) 0 ≡ a = simp xor_zero_r in
+    let second : bit_xor (bit_xor (bit_xor 0 b) 0) 0 ≡ b = simp (xor_zero_l, xor_zero_r) in
+    let third : bit_xor (bit_xor (bit_xor 0 0) c) 0 ≡ c = simp (xor_zero_l, xor_zero_r) in
+    let fourth : bit_xor (bit_xor (bit_xor 0 0) 0) d ≡ d = simp xor_zero_l in
+    bytes_xor (bit_xor (bit_xor (bit_xor t u) v) w) key
+    ∙ ap (λ l. xor_bytes l (to_be_bytes w32 key)) (four_bytes t u v w p q r s ∙ same_four first second third fourth)

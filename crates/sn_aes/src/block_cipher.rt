@@ -1,9 +1,9 @@
 // The cipher and its inverse on one block.
 ghost use Rattle.std.specs.Prelude.{◌≡◌, ℕ, List};
 ghost use Rattle.sn_aes.specs.Inverse.{AreInverseKeys};
-ghost use Rattle.sn_aes.specs.Cipher.{IsBlock, expanded, aes256};
+ghost use Rattle.sn_aes.specs.Cipher.{IsBlock, expanded, aes256, four_words};
 
-use crate::bytes::{load, store};
+use crate::bytes::{block_of_columns, columns_of_block};
 use crate::decryption::decrypt_words;
 use crate::encryption::encrypt_words;
 use crate::key_schedule::{expand, inverse_mixed};
@@ -43,7 +43,7 @@ impl Aes256 {
     pub fn encrypt(&self, block: &[u8; 16]) -> [u8; 16]
         ensures { result ≡ aes256 self.now block.now }
     {
-        store(encrypt_words(load(block), &self.keys))
+        block_of_columns(self.encrypt_columns(columns_of_block(block)))
     }
 
     /// The one block that the cipher takes to `block`.
@@ -51,6 +51,23 @@ impl Aes256 {
         ensures block { aes256 self.now result ≡ block.now }
         ensures only { (b : List ℕ) → IsBlock b → aes256 self.now b ≡ block.now → b ≡ result }
     {
-        store(decrypt_words(load(block), &self.inverse_keys))
+        block_of_columns(self.decrypt_columns(columns_of_block(block)))
+    }
+
+    /// The cipher's block of the block of these columns, by its columns.
+    #[inline(always)]
+    pub fn encrypt_columns(&self, columns: [u32; 4]) -> [u32; 4]
+        ensures { four_words result 0 ≡ aes256 self.now (four_words columns 0) }
+    {
+        encrypt_words(columns, &self.keys)
+    }
+
+    /// The one block that the cipher takes to the block of these columns, by its columns.
+    #[inline(always)]
+    pub fn decrypt_columns(&self, columns: [u32; 4]) -> [u32; 4]
+        ensures block { aes256 self.now (four_words result 0) ≡ four_words columns 0 }
+        ensures only { (b : List ℕ) → IsBlock b → aes256 self.now b ≡ four_words columns 0 → b ≡ four_words result 0 }
+    {
+        decrypt_words(columns, &self.inverse_keys)
     }
 }

@@ -7,7 +7,8 @@ ghost use Rattle.sn_aes.specs.Cipher.{xor_bytes, four_words, add_round_key};
 use crate::bytes::{byte0, byte1, byte2, byte3};
 use crate::encryption::add_words;
 use crate::substitution::{
-    inverse_substitute, inverse_table0, inverse_table1, inverse_table2, inverse_table3,
+    inverse_last_table0, inverse_last_table1, inverse_last_table2, inverse_last_table3,
+    inverse_table0, inverse_table1, inverse_table2, inverse_table3,
 };
 
 // The column that a, b, c and d give after INVSHIFTROWS.
@@ -46,12 +47,11 @@ pub fn inverse_last_column(a: u32, b: u32, c: u32, d: u32, key: u32) -> u32
         (inverse_sbox (byte_at 3 a) ∷ inverse_sbox (byte_at 2 b) ∷ inverse_sbox (byte_at 1 c) ∷ inverse_sbox (byte_at 0 d) ∷ [])
         (to_be_bytes w32 key) }
 {
-    u32::from_be_bytes([
-        inverse_substitute(byte0(a)),
-        inverse_substitute(byte1(b)),
-        inverse_substitute(byte2(c)),
-        inverse_substitute(byte3(d)),
-    ]) ^ key
+    inverse_last_table0(byte0(a))
+        ^ inverse_last_table1(byte1(b))
+        ^ inverse_last_table2(byte2(c))
+        ^ inverse_last_table3(byte3(d))
+        ^ key
 }
 
 // The last round, whose key is the cipher's first.
@@ -81,6 +81,7 @@ pub fn four_inverse_rounds(s: [u32; 4], keys: &[u32; 60], n: usize) -> [u32; 4]
 }
 
 // EQINVCIPHER, on the words of a block.
+#[inline(always)]
 pub fn decrypt_words(s: [u32; 4], keys: &[u32; 60]) -> [u32; 4]
     ensures { four_words result 0 ≡ inverse_cipher keys.now (four_words s 0) }
 {

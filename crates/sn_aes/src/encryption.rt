@@ -4,7 +4,9 @@ ghost use Rattle.std.specs.Int.{w32, byte_at, to_be_bytes};
 ghost use Rattle.sn_aes.specs.Cipher.{sbox, mix_column, xor_bytes, four_words, round, rounds, add_round_key, cipher, sub_bytes, shift_rows};
 
 use crate::bytes::{byte0, byte1, byte2, byte3};
-use crate::substitution::{substitute, table0, table1, table2, table3};
+use crate::substitution::{
+    last_table0, last_table1, last_table2, last_table3, table0, table1, table2, table3,
+};
 
 // The column that a, b, c and d give after SHIFTROWS.
 #[inline(always)]
@@ -38,12 +40,11 @@ pub fn last_column(a: u32, b: u32, c: u32, d: u32, key: u32) -> u32
         (sbox (byte_at 3 a) ∷ sbox (byte_at 2 b) ∷ sbox (byte_at 1 c) ∷ sbox (byte_at 0 d) ∷ [])
         (to_be_bytes w32 key) }
 {
-    u32::from_be_bytes([
-        substitute(byte0(a)),
-        substitute(byte1(b)),
-        substitute(byte2(c)),
-        substitute(byte3(d)),
-    ]) ^ key
+    last_table0(byte0(a))
+        ^ last_table1(byte1(b))
+        ^ last_table2(byte2(c))
+        ^ last_table3(byte3(d))
+        ^ key
 }
 
 // Round 14, with its key.
@@ -88,6 +89,7 @@ pub fn four_rounds(s: [u32; 4], keys: &[u32; 60], n: usize) -> [u32; 4]
 }
 
 // CIPHER, on the words of a block.
+#[inline(always)]
 pub fn encrypt_words(s: [u32; 4], keys: &[u32; 60]) -> [u32; 4]
     ensures { four_words result 0 ≡ cipher keys.now (four_words s 0) }
 {

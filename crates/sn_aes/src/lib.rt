@@ -10,6 +10,7 @@ mod substitution;
 mod tables;
 
 pub use block_cipher::Aes256;
+pub use bytes::{block_of_columns, columns_of_block, xor_columns};
 
 #[cfg(test)]
 mod tests;

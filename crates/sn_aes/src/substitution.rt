@@ -1,11 +1,12 @@
-// The S-boxes and the columns that they add, looked up in tables.
+// The S-boxes and the columns that they add, looked up in tables. The four rows of a column stand in one table, since
+// the compiled code then needs one register for its address.
 ghost use Rattle.std.specs.Prelude.{◌≡◌, [], ◌∷◌, ◌<◌};
 ghost use Rattle.std.specs.Int.{w32, to_be_bytes};
 ghost use Rattle.sn_aes.specs.Field.{product};
 ghost use Rattle.sn_aes.specs.Inverse.{inverse_sbox};
 ghost use Rattle.sn_aes.specs.Cipher.{sbox};
 
-use crate::tables::{D0, D1, D2, D3, INVERSE_SBOX, SBOX, T0, T1, T2, T3};
+use crate::tables::{INVERSE_LAST_TABLE, INVERSE_ROUND_TABLE, LAST_TABLE, ROUND_TABLE, SBOX};
 
 // SBOX.
 #[inline(always)]
@@ -22,7 +23,7 @@ pub fn table0(x: usize) -> u32
     requires { x < 256 }
     ensures { to_be_bytes w32 result ≡ product 2 (sbox x) ∷ sbox x ∷ sbox x ∷ product 3 (sbox x) ∷ [] }
 {
-    T0[x]
+    ROUND_TABLE[x]
 }
 
 // The same in row 1.
@@ -31,7 +32,7 @@ pub fn table1(x: usize) -> u32
     requires { x < 256 }
     ensures { to_be_bytes w32 result ≡ product 3 (sbox x) ∷ product 2 (sbox x) ∷ sbox x ∷ sbox x ∷ [] }
 {
-    T1[x]
+    ROUND_TABLE[256 + x]
 }
 
 // The same in row 2.
@@ -40,7 +41,7 @@ pub fn table2(x: usize) -> u32
     requires { x < 256 }
     ensures { to_be_bytes w32 result ≡ sbox x ∷ product 3 (sbox x) ∷ product 2 (sbox x) ∷ sbox x ∷ [] }
 {
-    T2[x]
+    ROUND_TABLE[512 + x]
 }
 
 // The same in row 3.
@@ -49,16 +50,43 @@ pub fn table3(x: usize) -> u32
     requires { x < 256 }
     ensures { to_be_bytes w32 result ≡ sbox x ∷ sbox x ∷ product 3 (sbox x) ∷ product 2 (sbox x) ∷ [] }
 {
-    T3[x]
+    ROUND_TABLE[768 + x]
 }
 
-// INVSBOX.
+// The S-box of `x` in row 0, and 0 in the others.
 #[inline(always)]
-pub fn inverse_substitute(x: usize) -> u8
+pub fn last_table0(x: usize) -> u32
     requires { x < 256 }
-    ensures { result ≡ inverse_sbox x }
+    ensures { to_be_bytes w32 result ≡ sbox x ∷ 0 ∷ 0 ∷ 0 ∷ [] }
 {
-    INVERSE_SBOX[x]
+    LAST_TABLE[x]
+}
+
+// The same in row 1.
+#[inline(always)]
+pub fn last_table1(x: usize) -> u32
+    requires { x < 256 }
+    ensures { to_be_bytes w32 result ≡ 0 ∷ sbox x ∷ 0 ∷ 0 ∷ [] }
+{
+    LAST_TABLE[256 + x]
+}
+
+// The same in row 2.
+#[inline(always)]
+pub fn last_table2(x: usize) -> u32
+    requires { x < 256 }
+    ensures { to_be_bytes w32 result ≡ 0 ∷ 0 ∷ sbox x ∷ 0 ∷ [] }
+{
+    LAST_TABLE[512 + x]
+}
+
+// The same in row 3.
+#[inline(always)]
+pub fn last_table3(x: usize) -> u32
+    requires { x < 256 }
+    ensures { to_be_bytes w32 result ≡ 0 ∷ 0 ∷ 0 ∷ sbox x ∷ [] }
+{
+    LAST_TABLE[768 + x]
 }
 
 // What the inverse S-box of `x`, in row 0, adds to each row of its column.
@@ -68,7 +96,7 @@ pub fn inverse_table0(x: usize) -> u32
     ensures { to_be_bytes w32 result ≡ product 14 (inverse_sbox x) ∷ product 9 (inverse_sbox x)
         ∷ product 13 (inverse_sbox x) ∷ product 11 (inverse_sbox x) ∷ [] }
 {
-    D0[x]
+    INVERSE_ROUND_TABLE[x]
 }
 
 // The same in row 1.
@@ -78,7 +106,7 @@ pub fn inverse_table1(x: usize) -> u32
     ensures { to_be_bytes w32 result ≡ product 11 (inverse_sbox x) ∷ product 14 (inverse_sbox x)
         ∷ product 9 (inverse_sbox x) ∷ product 13 (inverse_sbox x) ∷ [] }
 {
-    D1[x]
+    INVERSE_ROUND_TABLE[256 + x]
 }
 
 // The same in row 2.
@@ -88,7 +116,7 @@ pub fn inverse_table2(x: usize) -> u32
     ensures { to_be_bytes w32 result ≡ product 13 (inverse_sbox x) ∷ product 11 (inverse_sbox x)
         ∷ product 14 (inverse_sbox x) ∷ product 9 (inverse_sbox x) ∷ [] }
 {
-    D2[x]
+    INVERSE_ROUND_TABLE[512 + x]
 }
 
 // The same in row 3.
@@ -98,5 +126,41 @@ pub fn inverse_table3(x: usize) -> u32
     ensures { to_be_bytes w32 result ≡ product 9 (inverse_sbox x) ∷ product 13 (inverse_sbox x)
         ∷ product 11 (inverse_sbox x) ∷ product 14 (inverse_sbox x) ∷ [] }
 {
-    D3[x]
+    INVERSE_ROUND_TABLE[768 + x]
+}
+
+// The inverse S-box of `x` in row 0, and 0 in the others.
+#[inline(always)]
+pub fn inverse_last_table0(x: usize) -> u32
+    requires { x < 256 }
+    ensures { to_be_bytes w32 result ≡ inverse_sbox x ∷ 0 ∷ 0 ∷ 0 ∷ [] }
+{
+    INVERSE_LAST_TABLE[x]
+}
+
+// The same in row 1.
+#[inline(always)]
+pub fn inverse_last_table1(x: usize) -> u32
+    requires { x < 256 }
+    ensures { to_be_bytes w32 result ≡ 0 ∷ inverse_sbox x ∷ 0 ∷ 0 ∷ [] }
+{
+    INVERSE_LAST_TABLE[256 + x]
+}
+
+// The same in row 2.
+#[inline(always)]
+pub fn inverse_last_table2(x: usize) -> u32
+    requires { x < 256 }
+    ensures { to_be_bytes w32 result ≡ 0 ∷ 0 ∷ inverse_sbox x ∷ 0 ∷ [] }
+{
+    INVERSE_LAST_TABLE[512 + x]
+}
+
+// The same in row 3.
+#[inline(always)]
+pub fn inverse_last_table3(x: usize) -> u32
+    requires { x < 256 }
+    ensures { to_be_bytes w32 result ≡ 0 ∷ 0 ∷ 0 ∷ inverse_sbox x ∷ [] }
+{
+    INVERSE_LAST_TABLE[768 + x]
 }

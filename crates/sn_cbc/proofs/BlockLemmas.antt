@@ -1,21 +1,7 @@
 -- One block written into a text.
-use Rattle.std.proofs.Common.{◌≡◌, ℕ, zero, suc, ◌+◌, ◌-◌, ◌<◌, ◌≤◌, List, [], ◌∷◌, ◌++◌, length, take, drop, set, get_or, bit_xor, refl, sym, ap, ◌∙◌, add-one, arith}
+use Rattle.std.proofs.Common.{◌≡◌, ℕ, ◌+◌, ◌-◌, ◌≤◌, List, ◌++◌, length, take, drop, sym, ap, ◌∙◌, arith}
 use Rattle.std.proofs.Math.Seq.{take-append_seam}
 use Rattle.std.proofs.lemmas.List.{drop-drop, length-take-le, drop-append-le, take-append-le, take-take, drop-take, drop_at, length-drop}
-use Rattle.sn_aes.specs.Cipher.{xor_bytes}
-
-xor_next : (xs ys : List ℕ) (i : ℕ) → i < length xs → i < length ys
-    → set (xor_bytes (take i xs) (take i ys) ++ drop i xs) i
-    (bit_xor (get_or (xor_bytes (take i xs) (take i ys) ++ drop i xs) i 0) (get_or ys i 0))
-    ≡ xor_bytes (take (suc i) xs) (take (suc i) ys) ++ drop (suc i) xs
-xor_next [] ys i h k = absurd (omega arith)
-xor_next (x ∷ xs) [] i h k = absurd (omega arith)
-xor_next (x ∷ xs) (y ∷ ys) zero h k = refl
-xor_next (x ∷ xs) (y ∷ ys) (suc i) h k = ap (λ (l : List ℕ). bit_xor x y ∷ l) (xor_next xs ys i (omega arith) (omega arith))
-
-pub xor_more : (xs ys zs : List ℕ) (i : ℕ) → i < length xs → i < length ys → zs ≡ xor_bytes (take i xs) (take i ys) ++ drop i xs
-    → set zs i (bit_xor (get_or zs i 0) (get_or ys i 0)) ≡ xor_bytes (take (i + 1) xs) (take (i + 1) ys) ++ drop (i + 1) xs
-xor_more xs ys zs i h k e = rw (e, add-one i) (xor_next xs ys i h k)
 
 -- a block of the text before the one that was written
 pub before_write : (at k : ℕ) (text rest : List ℕ) → k + 16 ≤ at → at ≤ length text

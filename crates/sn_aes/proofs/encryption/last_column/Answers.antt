@@ -1,17 +1,8 @@
-use Rattle.std.proofs.Common.{◌<◌, ◌∙◌, ap, List, ℕ}
-use Rattle.std.proofs.Common.{rules}
-use Rattle.std.specs.Int.{w32, to_be_bytes}
-use Rattle.sn_aes.specs.Cipher.{xor_bytes}
-use Rattle.sn_aes.proofs.Words.{bytes_xor, bytes_of_four}
+use Rattle.sn_aes.proofs.Words.{last_column_bytes}
 use Rattle.sn_aes.proofs.encryption.last_column.Goals as goal
 
 pub returns : goal.returns
 returns c =
-    let a : c.substitute.result < 256 = search rules in
-    let b : c.substitute-2.result < 256 = search rules in
-    let d : c.substitute-3.result < 256 = search rules in
-    let e : c.substitute-4.result < 256 = search rules in
-    let four = bytes_of_four _ _ _ _ _ a b d e c.from_be_bytes.ensures in
-    bytes_xor c.from_be_bytes.result c.args.key
-    ∙ ap (λ (l : List ℕ). xor_bytes l (to_be_bytes w32 c.args.key))
-    (rw (c.substitute.ensures, c.substitute-2.ensures, c.substitute-3.ensures, c.substitute-4.ensures, c.byte0.ensures, c.byte1.ensures, c.byte2.ensures, c.byte3.ensures) at four)
+    last_column_bytes _ _ _ _ _ _ _ _ c.args.key
+    (rw c.byte0.ensures at c.last_table0.ensures) (rw c.byte1.ensures at c.last_table1.ensures)
+    (rw c.byte2.ensures at c.last_table2.ensures) (rw c.byte3.ensures at c.last_table3.ensures)

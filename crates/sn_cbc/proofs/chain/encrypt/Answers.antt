@@ -1,14 +1,18 @@
-use Rattle.std.proofs.Common.{◌≡◌, ◌+◌, ◌*◌, ◌≤◌, ◌∙◌, ap, length, rules}
-use Rattle.sn_aes.specs.Cipher.{aes256, xor_bytes}
+use Rattle.std.proofs.Common.{◌≡◌, ◌+◌, ◌*◌, ◌≤◌, ◌++◌, ◌∙◌, refl, ap, length, take, drop, rules}
+use Rattle.sn_aes.specs.Cipher.{aes256, xor_bytes, four_words}
 use Rattle.sn_cbc.proofs.Chains.{encrypted_more}
 use Rattle.sn_cbc.proofs.chain.encrypt.Goals as goal
 
 pub texts-preserved : goal.texts-preserved
 texts-preserved c =
-    let long : length c.encrypt-next.result ≡ 16 = search rules in
-    let high : 16 * c.texts.i + 16 ≤ length c.texts.text = search rules in
-    let same : length c.write_block.new.text ≡ length c.texts.text = search rules in
-    encrypted_more c.args.aes.now c.args.iv.now c.args.text.now c.texts.text c.texts.last c.encrypt-next.result c.write_block.new.text
-    c.texts.i c.texts.invariant high long
-    (c.encrypt-next.ensures ∙ ap (aes256 c.args.aes.now) (c.xor_blocks.ensures ∙ ap (λ b. xor_bytes b c.texts.last) c.block_at-block.ensures))
-    c.write_block.ensures same
+    let key = c.args.aes.now in
+    let now = c.texts.text in
+    let last = four_words c.texts.last 0 in
+    let next = four_words c.encrypt_columns-next.result 0 in
+    let at = 16 * c.texts.i in
+    let high : at + 16 ≤ length now = search rules in
+    let same : length c.write_block.new.text ≡ length now = search rules in
+    encrypted_more key c.args.iv.now c.args.text.now now last next c.write_block.new.text c.texts.i c.texts.invariant high refl
+    (c.encrypt_columns-next.ensures ∙ ap (aes256 key)
+    (c.xor_columns.ensures ∙ ap (λ b. xor_bytes b last) (c.columns_of_block-block.ensures ∙ c.block_at.ensures)))
+    (c.write_block.ensures ∙ ap (λ b. take at now ++ (b ++ drop (at + 16) now)) c.block_of_columns.ensures) same

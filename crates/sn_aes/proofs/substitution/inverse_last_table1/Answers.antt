@@ -1,0 +1,5 @@
+use Rattle.sn_aes.proofs.TableRows.{inverse_last_table1_at}
+use Rattle.sn_aes.proofs.substitution.inverse_last_table1.Goals as goal
+
+pub returns : goal.returns
+returns c = inverse_last_table1_at c.args.x c.requires
