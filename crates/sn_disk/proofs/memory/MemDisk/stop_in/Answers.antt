@@ -1,0 +1,20 @@
+use Rattle.std.proofs.Common.{sym, subst}
+use Rattle.sn_disk.specs.Disk.{Follows}
+use Rattle.sn_disk.specs.Steps.{Told, Leaves, StepLeaves, step_of}
+use Rattle.sn_disk.proofs.Records.{follows_same, follows_stop}
+use Rattle.sn_disk.proofs.memory.MemDisk.stop_in.Goals as goal
+
+pub returns-in_default-clause-crash : goal.returns-in_default-clause-crash
+returns-in_default-clause-crash c = follows_same c.args.self.now.history (step_of c.args.call.now) c.requires.call
+
+pub returns-in-Ok-make-clause-crash : goal.returns-in-Ok-make-clause-crash
+returns-in-Ok-make-clause-crash c =
+    let old = c.args.self.now.history in
+    let step = step_of c.args.call.now in
+    subst (λ (told : Told). Follows (StepLeaves step) (Leaves old) (Leaves told)) (sym c.in-Ok-make.ensures.ok) (follows_stop c.args.image old step c.in-Ok.left.items c.in-Ok.ensures)
+
+pub returns-in-Err-clause-crash : goal.returns-in-Err-clause-crash
+returns-in-Err-clause-crash c =
+    let old = c.args.self.now.history in
+    let step = step_of c.args.call.now in
+    subst (λ (told : Told). Follows (StepLeaves step) (Leaves old) (Leaves told)) (sym c.in-Err.ensures.err) (follows_same old step c.requires.call)
