@@ -1,0 +1,5 @@
+use Rattle.sn_journal.proofs.Findings.{one_finding}
+use Rattle.sn_journal.proofs.laws.one_finding.Goals as goal
+
+pub returns : goal.returns
+returns c = one_finding

@@ -1,0 +1,120 @@
+// The journal and its one change.
+ghost use Rattle.std.specs.Prelude.{◌≡◌, ◌+◌, ◌<◌, ◌≤◌, ◌^◌, ◌++◌, [], ◌∷◌, List, ℕ, length, IfOk, IfErr};
+ghost use Rattle.sn_journal.specs.Image.{counted};
+
+use crate::Owner;
+use sn_disk::{Disk, write_durably};
+use std::alloc::{AllocError, Global};
+
+const MOST_PAYLOAD: usize = 1 << 30;
+
+/// An open journal: its disk, and the place of its closed gate.
+#[derive(Drop)]
+pub struct Journal<D: Disk> {
+    alloc: Global,
+    disk: D,
+    owner: Owner,
+    gate: u64,
+    ghost within: { D.told → gate < length (D.seen disk) },
+}
+
+/// Why a batch wasn't appended.
+#[derive(Drop)]
+pub enum AppendError<D: Disk> {
+    /// The payload has this many bytes, more than 2^30. The journal is as it was.
+    TooLarge(Journal<D>, u64),
+    /// The journal is as it was.
+    Memory(Journal<D>),
+    /// The disk is to be loaded again: it has the batches from before, or those with the new one.
+    DiskFault(D),
+}
+
+impl<D: Disk> Journal<D> {
+    ghost use Rattle.sn_disk.specs.Disk.{LeavesOnly};
+    ghost use Rattle.sn_journal.specs.Image.{IsBeforeOrAfter};
+    ghost use Rattle.sn_journal.specs.Settled.{IsSettled, disk_of, owner_of, disk_after};
+    ghost use Rattle.sn_journal.specs.Append.{IsRefusal};
+
+    /// Its disk.
+    pub fn disk(&self) -> &D
+        ensures { result.now ≡ disk_of self.now }
+    {
+        &self.disk
+    }
+
+    /// Gives the disk back. Nothing is in flight.
+    pub fn close(self) -> D
+        ensures { result ≡ disk_of self }
+    {
+        self.disk
+    }
+
+    pub(crate) fn opened(alloc: Global, disk: D, owner: Owner, gate: u64) -> Journal<D>
+        requires { D.told → gate < length (D.seen disk) }
+        ensures disk { result.disk ≡ disk }
+        ensures owner { result.owner ≡ owner }
+        ensures gate { result.gate ≡ gate }
+    {
+        Journal {
+            alloc,
+            disk,
+            owner,
+            gate,
+        }
+    }
+
+    /// Adds a batch behind the last one.
+    pub fn append(self, payload: &[u8]) -> Result<Journal<D>, AppendError<D>>
+        // At `Ok` each crash leaves the batches with the new one.
+        ensures done { D.told → (payloads : List (List ℕ)) → IsSettled self payloads →
+            IfOk result (λ journal. IsSettled journal (payloads ++ payload.now ∷ [])) }
+        ensures owner { IfOk result (λ journal. owner_of journal ≡ owner_of self) }
+
+        // A crash at any moment leaves the batches from before, or those with the new one.
+        ensures any_moment { D.told → (payloads : List (List ℕ)) → IsSettled self payloads →
+            LeavesOnly D.moment D.left_since (disk_of self) (disk_after result) (IsBeforeOrAfter (owner_of self) payloads payload.now) }
+
+        ensures refused { IfErr result (IsRefusal self (length payload.now)) }
+        ensures large { 2 ^ 30 < length payload.now → result ≡ Err (AppendError.TooLarge self (length payload.now)) }
+        ensures later { D.fault_count (disk_of self) ≤ D.fault_count (disk_after result) }
+    {
+        if payload.len() > MOST_PAYLOAD {
+            let size = payload.len() as u64;
+            return Err(AppendError::TooLarge(self, size));
+        }
+        let Ok(behind) = behind_gate(self.alloc, payload) else {
+            return Err(AppendError::Memory(self));
+        };
+        let Journal {
+            alloc,
+            mut disk,
+            owner,
+            gate,
+        } = self;
+        if write_durably(&mut disk, gate.saturating_add(1), &behind).is_err() {
+            return Err(AppendError::DiskFault(disk));
+        }
+        if write_durably(&mut disk, gate, &[1]).is_err() {
+            return Err(AppendError::DiskFault(disk));
+        }
+        Ok(Journal {
+            alloc,
+            disk,
+            owner,
+            gate: gate.saturating_add(payload.len() as u64 + 5),
+        })
+    }
+}
+
+// What stands behind the gate: the length, the payload and the next gate, closed.
+#[tactic(auto, unfolding(crate::specs::Image::counted))]
+fn behind_gate(alloc: Global, payload: &[u8]) -> Result<Vec<u8>, AllocError>
+    requires { length payload.now ≤ 2 ^ 30 }
+    ensures { IfOk result (λ bytes. bytes.items ≡ counted payload.now ++ 0 ∷ []) }
+{
+    let mut bytes = Vec::with_capacity(alloc, payload.len() + 5)?;
+    bytes.extend_from_slice(&(payload.len() as u32).to_be_bytes())?;
+    bytes.extend_from_slice(payload)?;
+    bytes.push(0)?;
+    Ok(bytes)
+}
