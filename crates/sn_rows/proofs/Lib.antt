@@ -1,0 +1,8 @@
+pub mod ColumnLemmas
+pub mod FieldLemmas
+pub mod FormLemmas
+pub mod Glue
+pub mod Loop
+pub mod Same
+pub mod TableLemmas
+pub mod TextLemmas

@@ -1,0 +1,75 @@
+-- The tests of texts, and the facts that they stand for.
+use Rattle.std.proofs.Common.{◌≡◌, ℕ, zero, suc, ◌+◌, ◌^◌, ◌-◌, ◌<◌, ◌≤◌, Bool, true, false, ◌||◌, inl, inr, List, [], ◌∷◌, length, drop, get_or, refl, arith}
+use Rattle.std.specs.Prelude.{nat_le}
+use Rattle.std.specs.Str.{IsUtf8, is_utf8}
+use Rattle.std.proofs.lemmas.Bool.{le-leb, leb-true, eq-eqb, cases_Bool, and_parts}
+use Rattle.std.proofs.lemmas.Str.{is_utf8-from_IsUtf8, IsUtf8-from_is_utf8}
+use Rattle.sn_rows.specs.Bounds.{is_text_of, is_device_string, has_device_lengths, has_colon, is_colon, before_colon, after_colon}
+
+pub within : (t : List ℕ) (least most : ℕ) → IsUtf8 t → least ≤ length t → nat_le (length t) most ≡ is_text_of least most t
+within t least most u h = rw (is_utf8-from_IsUtf8 t u, le-leb least (length t) h) refl
+
+pub device : (t : List ℕ) → IsUtf8 t → has_device_lengths t ≡ is_device_string t
+device t u = rw (is_utf8-from_IsUtf8 t u) refl
+
+or_parts : (x y : Bool) → (x || y) ≡ false → (x ≡ false) × (y ≡ false)
+or_parts false false e = (refl, refl)
+or_parts true y e = absurd cc
+or_parts false true e = absurd cc
+
+or_right : (x y : Bool) → y ≡ true → (x || y) ≡ true
+or_right true y e = refl
+or_right false y e = e
+
+-- a text without a colon
+pub no_colon : (t : List ℕ) → has_colon t ≡ false → (before_colon t ≡ t) × (after_colon t ≡ [])
+no_colon [] h = (refl, refl)
+no_colon (b ∷ t) h =
+    let p = or_parts (is_colon b) (has_colon t) h in
+    (rw (p.1, p.0) refl, rw (p.1, p.0) refl)
+
+colon_there : (i : ℕ) (t : List ℕ) → i < length t → is_colon (get_or t i 0) ≡ true → has_colon t ≡ true
+colon_there i [] lt e = absurd (omega arith)
+colon_there zero (b ∷ t) lt e = rw e refl
+colon_there (suc i) (b ∷ t) lt e = or_right (is_colon b) (has_colon t) (colon_there i t (omega arith) e)
+
+-- a text whose last colon stands at i
+pub last_colon : (i : ℕ) (t : List ℕ) → i < length t → is_colon (get_or t i 0) ≡ true → has_colon (drop (suc i) t) ≡ false → (length (before_colon t) ≡ i) × (length (after_colon t) ≡ length t - suc i)
+last_colon i [] lt e h = absurd (omega arith)
+last_colon zero (b ∷ t) lt e h = (rw (h, e) refl, rw (h, e) (omega arith))
+last_colon (suc i) (b ∷ t) lt e h =
+    let there = colon_there i t (omega arith) e in
+    let rest = last_colon i t (omega arith) e h in
+    (rw there (omega (arith, rest.0)), rw there (omega (arith, rest.1)))
+
+pub colon_at : (i j : ℕ) (t : List ℕ) → i ≡ suc j → i ≤ length t → get_or t j 0 ≡ 58 → has_colon (drop i t) ≡ false → (length (before_colon t) ≡ j) × (length (after_colon t) ≡ length t - i)
+colon_at i j t e le at h =
+    let colon : is_colon (get_or t j 0) ≡ true = eq-eqb (get_or t j 0) 58 at in
+    let none : has_colon (drop (suc j) t) ≡ false = rw (← e) h in
+    let two = last_colon j t (omega arith) colon none in
+    (two.0, omega (arith, two.1, e))
+
+-- bytes that are no text
+pub not_utf8 : (t : List ℕ) → (IsUtf8 t → ⊥) → is_utf8 t ≡ false
+not_utf8 t h = elim (cases_Bool (is_utf8 t)) [
+  | inl is ↦ absurd (h (IsUtf8-from_is_utf8 t is))
+  | inr other ↦ other
+]
+
+-- the two parts and the colon
+pub colon_parts : (t : List ℕ) → length t ≤ length (before_colon t) + (length (after_colon t) + 1)
+colon_parts [] = omega arith
+colon_parts (b ∷ t) = elim (cases_Bool (has_colon t)) [
+  | inl there ↦ rw there (omega (arith, colon_parts t))
+  | inr none ↦ elim (cases_Bool (is_colon b)) [
+    | inl colon ↦ rw (none, colon) (omega arith)
+    | inr other ↦ rw (none, other) (omega arith)
+  ]
+]
+
+-- a device's string is short enough for its length's four bytes
+pub device_short : (t : List ℕ) → is_device_string t ≡ true → length t < 2 ^ 32
+device_short t e =
+    let p = and_parts (is_utf8 t) (has_device_lengths t) e in
+    let q = and_parts (nat_le (length (before_colon t)) 1048576) (nat_le (length (after_colon t)) 8192) p.1 in
+    omega (arith, colon_parts t, leb-true (length (before_colon t)) 1048576 q.0, leb-true (length (after_colon t)) 8192 q.1)

@@ -1,0 +1,5 @@
+use Rattle.sn_rows.proofs.TableLemmas.{keys_compare}
+use Rattle.sn_rows.proofs.laws.keys_compare.Goals as goal
+
+pub returns : goal.returns
+returns c = keys_compare

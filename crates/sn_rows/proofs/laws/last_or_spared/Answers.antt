@@ -1,0 +1,5 @@
+use Rattle.sn_rows.proofs.TableLemmas.{last_or_spared}
+use Rattle.sn_rows.proofs.laws.last_or_spared.Goals as goal
+
+pub returns : goal.returns
+returns c = last_or_spared

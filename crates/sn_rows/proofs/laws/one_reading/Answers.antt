@@ -1,0 +1,5 @@
+use Rattle.sn_rows.proofs.Same.{one_reading}
+use Rattle.sn_rows.proofs.laws.one_reading.Goals as goal
+
+pub returns : goal.returns
+returns c = λ bytes a b x y. one_reading bytes a b x y

@@ -1,0 +1,45 @@
+//! Rows, and changes of them.
+
+ghost use Rattle.std.specs.Prelude.{◌≡◌};
+ghost use Rattle.sn_rows.specs.Kinds.{key_kind, value_kind};
+
+use crate::key::Key;
+use crate::value::Value;
+use sn_string::Twin;
+use std::alloc::{AllocError, Global};
+
+/// A row: a key, and a value of its kind.
+#[derive(Drop)]
+pub struct Row {
+    pub key: Key,
+    pub value: Value,
+    pub ghost one_kind: { key_kind key ≡ value_kind value },
+}
+
+impl Twin for Row {
+    fn twin(&self, alloc: Global) -> Result<Row, AllocError> {
+        let value = self.value.twin(alloc)?;
+        Ok(Row {
+            key: self.key,
+            value,
+        })
+    }
+}
+
+/// A change of one row of a table.
+#[derive(Drop)]
+pub enum Change {
+    /// The row of this key is from now on this one.
+    Put(Row),
+    /// There is no row of this key from now on.
+    Remove(Key),
+}
+
+impl Twin for Change {
+    fn twin(&self, alloc: Global) -> Result<Change, AllocError> {
+        match self {
+            Change::Put(row) => Ok(Change::Put(row.twin(alloc)?)),
+            Change::Remove(key) => Ok(Change::Remove(*key)),
+        }
+    }
+}
