@@ -1,5 +1,6 @@
 """The commands as a user runs them: sizes, refusals, statuses and the line of each."""
 
+import json
 import unittest
 
 import program
@@ -58,6 +59,9 @@ class Usage(unittest.TestCase):
         self.refused(opened + ["x"])
         self.refused(opened[:1] + opened[3:])
         self.refused(["--uuid"])
+        self.refused(["help"])
+        self.refused(["show", "--uuid", program.UUID])
+        self.refused(["open", "--uui=" + program.UUID] + opened[3:])
 
     def test_values_out_of_their_bounds(self):
         words = program.seal_words
@@ -78,6 +82,12 @@ class Usage(unittest.TestCase):
         self.refused(words(nonce=""))
         self.refused(words(nonce="n" * 257))
 
+    def test_options_in_another_order(self):
+        words = program.open_words()
+        sealed = program.run(program.seal_words(), b"x")[1]
+        other = ["open", "--key=" + words[4], "--uuid", words[2]]
+        self.assertEqual(program.run(other, sealed), (0, b"x", b""))
+
     def test_values_at_their_bounds(self):
         for words in (
             program.seal_words(cost="4294967295"),
@@ -96,6 +106,52 @@ class Open(unittest.TestCase):
     def test_one_line_feed_only(self):
         out = program.run(program.seal_words(), b"x")[1]
         self.assertEqual(program.run(program.open_words(), out + b"\n")[0], 3)
+
+
+class Show(unittest.TestCase):
+    def test_a_sealed_string(self):
+        identifier, nonce = 'a"\\ü', "6e"
+        text = program.run(program.seal_words(identifier=identifier, cost="7", nonce=nonce), b"x")[1][:-1]
+        parts = text.decode().split(":")
+        lines = [
+            "version 003",
+            "hash " + parts[1],
+            "uuid " + parts[2],
+            "iv " + parts[3],
+            "ciphertext 16",
+            "identifier " + json.dumps(identifier, ensure_ascii=False),
+            "pw_cost 7",
+            "pw_nonce " + json.dumps(nonce),
+            "salt-text " + json.dumps(identifier + ":SF:003:7:6e", ensure_ascii=False),
+        ]
+        self.assertEqual(program.run(["show"], text), (0, ("\n".join(lines) + "\n").encode(), b""))
+
+    def test_a_line_feed_counts(self):
+        text = program.run(program.seal_words(), b"x")[1]
+        place = len(text) - len(text.split(b":")[5])
+        self.assertEqual(program.run(["show"], text), (3, b"", b"sn: string.7 Params %d\n" % place))
+
+
+class Help(unittest.TestCase):
+    def answer(self, words):
+        status, out, err = program.run(words, b"not read")
+        self.assertEqual((status, err), (0, b""), words)
+        return out.decode()
+
+    def test_the_version(self):
+        self.assertEqual(self.answer(["--version"]), "sn 0.1.0\n")
+
+    def test_each_command_is_named(self):
+        for words in (["--help"], ["-h"]):
+            text = self.answer(words)
+            for word in ("seal", "open", "show", "--help", "--version"):
+                self.assertIn(word, text)
+
+    def test_each_option_is_told(self):
+        for command, options in (("seal", "uuid key identifier cost nonce"), ("open", "uuid key"), ("show", "")):
+            text = self.answer([command, "--help"])
+            for option in options.split():
+                self.assertIn("--" + option, text)
 
 
 if __name__ == "__main__":

@@ -1,2 +1,4 @@
-pub mod CommandLines
+pub mod Free
+pub mod Givens
 pub mod Numerals
+pub mod ShownLemmas

@@ -1,7 +1,10 @@
--- The command lines: a command, then each of its options in its order, as a name and a value, two words.
-use Rattle.std.specs.Prelude.{◌≡◌, ◌⊎◌, ℕ, List, [], ◌∷◌, codes}
+-- The command lines: what each says, by the values that its words give the options.
+use Rattle.std.specs.Prelude.{◌≡◌, ◌≢◌, ◌⊎◌, ℕ, List, [], ◌∷◌, codes, Some, None}
 use Rattle.std.specs.Fmt.{decimal}
+use Rattle.clap.specs.Faults.{fault_of}
+use Rattle.clap.specs.declared.error.kind.ErrorKind.TheVariants.{DisplayHelp, DisplayVersion}
 use Rattle.hex.specs.Hex.{encode_lower}
+use Rattle.sn_cli.specs.Syntax.{Takes, command_named, sn_app, value_of}
 use Rattle.sn_string.specs.Bounds.{IsIdentifier, IsCost, IsNonce}
 use Rattle.sn_string.specs.Hex.{IsLowerHex}
 use Rattle.sn_string.specs.Uuids.{IsUuidText, uuid_text}
@@ -23,36 +26,51 @@ pub record OpenLine : Type 0 where
 abbrev pub USUAL_COST : ℕ
 USUAL_COST = 110000
 
--- the words begin with an item's uuid and key, each in its form
-pub record BeginsWithItem (words : List (List ℕ)) (uuid key : List ℕ) (rest : List (List ℕ)) : Type 0 where
+-- the words give an item's uuid and key, each in its form
+pub record GivesItem (words : List (List ℕ)) (uuid key : List ℕ) : Type 0 where
   pub uuid_form : IsUuidText (uuid_text uuid) uuid
+  pub uuid_given : value_of words (codes "uuid") ≡ Some (uuid_text uuid)
   pub key_form : IsLowerHex 64 (encode_lower key) key
-  pub spelled : words ≡ codes "--uuid" ∷ uuid_text uuid ∷ codes "--key" ∷ encode_lower key ∷ rest
+  pub key_given : value_of words (codes "key") ≡ Some (encode_lower key)
 
--- the words are auth parameters, each within its bounds; the cost is a decimal without a leading zero, or left out
-pub record SpellsParams (words : List (List ℕ)) (identifier : List ℕ) (cost : ℕ) (nonce : List ℕ) : Type 0 where
+-- the words give this cost: a decimal without a leading zero, or nothing for the usual one
+abbrev pub GivesCost : List (List ℕ) → ℕ → Type 0
+GivesCost words cost = (value_of words (codes "cost") ≡ Some (decimal cost))
+    ⊎ ((cost ≡ USUAL_COST) × (value_of words (codes "cost") ≡ None))
+
+-- the words give auth parameters, each within its bounds
+pub record GivesParams (words : List (List ℕ)) (identifier : List ℕ) (cost : ℕ) (nonce : List ℕ) : Type 0 where
   pub identifier_fits : IsIdentifier identifier
+  pub identifier_given : value_of words (codes "identifier") ≡ Some identifier
   pub cost_fits : IsCost cost
+  pub cost_given : GivesCost words cost
   pub nonce_fits : IsNonce nonce
-  pub spelled :
-      (words ≡ codes "--identifier" ∷ identifier ∷ codes "--cost" ∷ decimal cost ∷ codes "--nonce" ∷ nonce ∷ [])
-      ⊎ ((cost ≡ USUAL_COST) × (words ≡ codes "--identifier" ∷ identifier ∷ codes "--nonce" ∷ nonce ∷ []))
+  pub nonce_given : value_of words (codes "nonce") ≡ Some nonce
+
+-- the words name this command, and `clap` takes them
+pub record Names (words : List (List ℕ)) (command : List ℕ) : Type 0 where
+  pub takes : Takes words
+  pub named : command_named words ≡ Some command
 
 -- the words are a line of `seal` that says this
 pub record IsSealLine (words : List (List ℕ)) (line : SealLine) : Type 0 where
-  pub options : List (List ℕ)
-  pub params_words : List (List ℕ)
-  pub command : words ≡ codes "seal" ∷ options
-  pub item : BeginsWithItem options line.uuid line.key params_words
-  pub params : SpellsParams params_words line.identifier line.cost line.nonce
+  pub command : Names words (codes "seal")
+  pub item : GivesItem words line.uuid line.key
+  pub params : GivesParams words line.identifier line.cost line.nonce
 
 -- the words are a line of `open` that says this
 pub record IsOpenLine (words : List (List ℕ)) (line : OpenLine) : Type 0 where
-  pub options : List (List ℕ)
-  pub command : words ≡ codes "open" ∷ options
-  pub item : BeginsWithItem options line.uuid line.key []
+  pub command : Names words (codes "open")
+  pub item : GivesItem words line.uuid line.key
 
--- the words are no command line
+-- the words are a line of `show`
+abbrev pub IsShowLine : List (List ℕ) → Type 0
+IsShowLine words = Names words (codes "show")
+
+-- the words are no command line, and ask neither for help nor for the version
 pub record IsUsage (words : List (List ℕ)) : Type 0 where
   pub no_seal : (line : SealLine) → ¬ (IsSealLine words line)
   pub no_open : (line : OpenLine) → ¬ (IsOpenLine words line)
+  pub no_show : ¬ (IsShowLine words)
+  pub no_help : fault_of sn_app words ≢ DisplayHelp ∷ []
+  pub no_version : fault_of sn_app words ≢ DisplayVersion ∷ []

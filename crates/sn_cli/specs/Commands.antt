@@ -1,10 +1,13 @@
 -- The words of a command with its options.
-use Rattle.std.specs.Prelude.{ℕ, List}
-use Rattle.sn_cli.specs.CommandLine.{SealLine, OpenLine, IsSealLine, IsOpenLine}
+use Rattle.std.specs.Prelude.{ℕ, List, ⊤}
+use Rattle.sn_cli.specs.CommandLine.{SealLine, OpenLine, IsSealLine, IsOpenLine, IsShowLine, IsUsage}
+use Rattle.sn_cli.specs.Syntax.{AsksForHelp, AsksForVersion}
 use Rattle.sn_cli.specs.declared.command_line.ItemOptions.{ItemOptions}
 use Rattle.sn_cli.specs.declared.command_line.ParamsOptions.{ParamsOptions}
 use Rattle.sn_cli.specs.declared.command_line.Command.{Command}
-use Rattle.sn_cli.specs.declared.command_line.Command.TheVariants.{Seal, Open}
+use Rattle.sn_cli.specs.declared.command_line.Command.TheVariants.{Seal, Open, Show, Help, Version}
+use Rattle.sn_cli.specs.declared.command_line.LineError.{LineError}
+use Rattle.sn_cli.specs.declared.command_line.LineError.TheVariants.{Usage, Memory}
 
 abbrev pub seal_line : ItemOptions → ParamsOptions → SealLine
 seal_line item params = record {
@@ -22,3 +25,11 @@ open_line item = record { uuid = item.uuid; key = item.key }
 abbrev pub IsCommand : List (List ℕ) → Command → Type 0
 IsCommand words (Seal item params) = IsSealLine words (seal_line item params)
 IsCommand words (Open item) = IsOpenLine words (open_line item)
+IsCommand words Show = IsShowLine words
+IsCommand words (Help text) = AsksForHelp words
+IsCommand words (Version text) = AsksForVersion words
+
+-- the words spell none
+abbrev pub IsLineError : List (List ℕ) → LineError → Type 0
+IsLineError words Usage = IsUsage words
+IsLineError words Memory = ⊤

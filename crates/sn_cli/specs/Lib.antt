@@ -1,6 +1,9 @@
 pub mod CommandLine
 pub mod Commands
+pub mod Given
 pub mod Inputs
 pub mod Lines
 pub mod Runs
+pub mod Shown
+pub mod Syntax
 pub mod Words

@@ -3,7 +3,7 @@ use Rattle.std.specs.Prelude.{ℕ, List, [], ◌∷◌, ◌++◌, codes, ⊤}
 use Rattle.std.specs.Fmt.{decimal}
 use Rattle.hex.specs.Hex.{encode_lower}
 use Rattle.sn_cli.specs.declared.status.Refusal.{Refusal}
-use Rattle.sn_cli.specs.declared.status.Refusal.TheVariants.{InputLong, InputUtf8, Item}
+use Rattle.sn_cli.specs.declared.status.Refusal.TheVariants.{InputLong, InputUtf8, Form, Item}
 use Rattle.sn_cli.specs.declared.status.Status.{Status}
 use Rattle.sn_cli.specs.declared.status.Status.TheVariants as status
 use Rattle.sn_items.specs.declared.error.ItemError.{ItemError}
@@ -38,11 +38,15 @@ item_text (item.OtherUuid written) = codes "items.8 OtherUuid " ++ uuid_text wri
 item_text (item.HashMismatch written computed) = codes "items.9 HashMismatch " ++ (encode_lower written ++ (codes " " ++ encode_lower computed))
 item_text item.Padding = codes "items.10 Padding"
 item_text (item.NotUtf8 place) = codes "items.11 NotUtf8 " ++ decimal place
+item_text item.NotItemKey = codes "items.12 NotItemKey"
+item_text item.NotObject = codes "items.13 NotObject"
+item_text (item.OtherSet nonce) = codes "items.14 OtherSet " ++ nonce
 item_text item.Memory = codes "memory"
 
 abbrev pub refusal_text : Refusal → List ℕ
 refusal_text InputLong = codes "cli.1 InputLong"
 refusal_text (InputUtf8 place) = codes "cli.2 InputUtf8 " ++ decimal place
+refusal_text (Form error) = form_text error
 refusal_text (Item error) = item_text error
 
 -- the line of a status

@@ -4,7 +4,9 @@ use Rattle.std.specs.declared.option.Option.{Option}
 use Rattle.std.specs.Io.KnownBytes.{Appends}
 use Rattle.std.specs.Str.{IsUtf8}
 use Rattle.rand_chacha.specs.ChaCha.{of_seed}
-use Rattle.sn_cli.specs.CommandLine.{SealLine, OpenLine, IsSealLine, IsOpenLine}
+use Rattle.sn_cli.specs.CommandLine.{SealLine, OpenLine, IsSealLine, IsOpenLine, IsShowLine}
+use Rattle.sn_cli.specs.Shown.{IsShown}
+use Rattle.sn_cli.specs.Syntax.{AsksForHelp, AsksForVersion}
 use Rattle.sn_io.specs.Streams.{Gains, HasGiven}
 use Rattle.sn_items.specs.Draws.{drawn}
 use Rattle.sn_items.specs.Opens.{Opens}
@@ -12,7 +14,10 @@ use Rattle.sn_items.specs.Refusals.{HasCause}
 use Rattle.sn_items.specs.Seals.{IsSealed}
 use Rattle.sn_items.specs.Utf8.{IsValidTo}
 use Rattle.sn_items.specs.declared.error.ItemError.{ItemError}
+use Rattle.sn_string.specs.Grammar.{parts_of}
+use Rattle.sn_string.specs.Refusals.{Refuses}
 use Rattle.sn_string.specs.declared.params.Params.{Params}
+use Rattle.sn_string.specs.declared.reader.StringError.{StringError}
 
 -- the most bytes of an input
 abbrev pub MOST_INPUT : ℕ
@@ -76,6 +81,42 @@ pub record RefusesText (words : List (List ℕ)) (input_before input_after : Opt
   pub text : List ℕ
   pub read : ReadsText words input_before input_after line text
   pub cause : HasCause text line.uuid (encryption_half line.key) (authentication_half line.key) error
+
+-- `show` read its whole input, as one text
+pub record ReadsString (words : List (List ℕ)) (input_before input_after : Option (List ℕ)) (text : List ℕ) : Type 0 where
+  pub spelled : IsShowLine words
+  pub given : HasGiven MOST_INPUT input_before input_after text
+  pub utf8 : IsUtf8 text
+
+-- and wrote the lines of its parts
+pub record ShowsText (words : List (List ℕ)) (input_before input_after out_before out_after : Option (List ℕ)) : Type 0 where
+  pub text : List ℕ
+  pub read : ReadsString words input_before input_after text
+  pub lines : List ℕ
+  pub shown : IsShown text lines
+  pub wrote : Appends out_before out_after lines
+
+-- or the text is no 003 string, for this cause
+pub record RefusesForm (words : List (List ℕ)) (input_before input_after : Option (List ℕ)) (error : StringError) : Type 0 where
+  pub text : List ℕ
+  pub read : ReadsString words input_before input_after text
+  pub cause : Refuses (parts_of text) error
+
+-- the words ask for help or for the version; a text was written, and nothing read
+pub record Answers (words : List (List ℕ)) (input_before input_after out_before out_after : Option (List ℕ)) : Type 0 where
+  pub asks : AsksForHelp words ⊎ AsksForVersion words
+  pub input : input_after ≡ input_before
+  pub text : List ℕ
+  pub wrote : Appends out_before out_after text
+
+-- what a run that is done did: one of these, by its words
+unfoldable pub Does : (words : List (List ℕ)) (input_before input_after out_before out_after : Option (List ℕ))
+    (seeds_before seeds_after : Option (List (List ℕ))) → Type 0
+Does words input_before input_after out_before out_after seeds_before seeds_after =
+    Seals words input_before input_after out_before out_after seeds_before seeds_after
+    ⊎ OpensText words input_before input_after out_before out_after
+    ⊎ ShowsText words input_before input_after out_before out_after
+    ⊎ Answers words input_before input_after out_before out_after
 
 -- the whole input was read, and its longest UTF-8 prefix ends at this place
 pub record IsInputUtf8 (input_before input_after : Option (List ℕ)) (place : ℕ) : Type 0 where

@@ -1,13 +1,16 @@
 // The command lines.
-ghost use Rattle.std.specs.Prelude.{◌≡◌, ℕ, List, [], ◌∷◌, codes, IsSome, IfSome, IfNone, IsTrue, ◌↔◌, ◌≤◌, length};
+ghost use Rattle.std.specs.Prelude.{◌≡◌, ℕ, List, codes, IsSome, IfSome, IfNone, IfOk, IfErr, IsTrue, ◌↔◌, ◌≤◌, length};
 ghost use Rattle.sn_string.specs.Bounds.{IsIdentifier, IsCost, IsNonce};
-ghost use Rattle.sn_cli.specs.CommandLine.{SealLine, OpenLine, IsSealLine, IsOpenLine, IsUsage, BeginsWithItem, SpellsParams};
-ghost use Rattle.sn_cli.specs.Commands.{IsCommand};
+ghost use Rattle.sn_cli.specs.CommandLine.{SealLine, OpenLine, IsSealLine, IsOpenLine, GivesItem, GivesCost, GivesParams};
+ghost use Rattle.sn_cli.specs.Commands.{IsCommand, IsLineError};
+ghost use Rattle.sn_cli.specs.Given.{IsGivenBy};
 ghost use Rattle.sn_cli.specs.Words.{texts};
 
+use crate::given::{Given, NotTaken, read_words, value};
 use crate::number::positive_number;
-use crate::words::option_value;
+use clap::Error;
 use sn_string::{key_bytes, uuid_of};
+use std::alloc::Global;
 use uuid::Uuid;
 
 /// The cost where no option gives one.
@@ -28,87 +31,112 @@ pub struct ParamsOptions<'a> {
     pub nonce: &'a str,
 }
 
-/// A command with its options.
+/// A command with its options, or the text that the words ask for.
 #[derive(Drop)]
 pub enum Command<'a> {
     Seal(ItemOptions, ParamsOptions<'a>),
     Open(ItemOptions),
+    Show,
+    Help(Error),
+    Version(Error),
+}
+
+/// Why words spell no command.
+#[derive(Debug, Drop)]
+pub enum LineError {
+    /// They are no command line, or a value is out of its form or its bounds.
+    Usage,
+    Memory,
 }
 
 /// The command that the words spell.
-pub fn command_of<'a>(words: &'a [String]) -> Option<Command<'a>>
-    ensures some { IfSome result (IsCommand (texts words.now)) }
-    ensures none { IfNone result (IsUsage (texts words.now)) }
+pub fn command_of<'a>(alloc: Global, words: &'a [String]) -> Result<Command<'a>, LineError>
+    ensures command { IfOk result (IsCommand (texts words.now)) }
+    ensures none { IfErr result (IsLineError (texts words.now)) }
 {
-    let (command, options) = words.split_first()?;
-    match command.as_str() {
-        "seal" => seal_command(options),
-        "open" => open_command(options),
+    match read_words(alloc, words) {
+        Ok(given) => match given_command(&given) {
+            Some(command) => Ok(command),
+            None => Err(LineError::Usage),
+        },
+        Err(NotTaken::Help(text)) => Ok(Command::Help(text)),
+        Err(NotTaken::Version(text)) => Ok(Command::Version(text)),
+        Err(NotTaken::Fault) => Err(LineError::Usage),
+        Err(NotTaken::Memory) => Err(LineError::Memory),
+    }
+}
+
+fn given_command<'a>(given: &Given<'a>) -> Option<Command<'a>>
+    ensures some { IfSome result (λ command. (words : List (List ℕ)) → IsGivenBy words given.now → IsCommand words command) }
+    ensures none { IfNone result ((words : List (List ℕ)) → IsGivenBy words given.now → IsLineError words LineError.Usage) }
+{
+    match given.command {
+        "seal" => seal_command(given),
+        "open" => open_command(given),
+        "show" => Some(Command::Show),
         _ => None,
     }
 }
 
-fn seal_command<'a>(options: &'a [String]) -> Option<Command<'a>>
-    ensures some { IfSome result (λ command. IsCommand (codes "seal" ∷ texts options.now) command) }
-    ensures none { IfNone result ((line : SealLine) → ¬ (IsSealLine (codes "seal" ∷ texts options.now) line)) }
+fn seal_command<'a>(given: &Given<'a>) -> Option<Command<'a>>
+    requires { given.now.command.now ≡ codes "seal" }
+    ensures some { IfSome result (λ command. (words : List (List ℕ)) → IsGivenBy words given.now → IsCommand words command) }
+    ensures none { IfNone result ((words : List (List ℕ)) → IsGivenBy words given.now → (line : SealLine) → ¬ (IsSealLine words line)) }
 {
-    match item_options(options) {
+    match item_options(given) {
         None => None,
-        Some((item, rest)) => match params_options(rest) {
+        Some(item) => match params_options(given) {
             None => None,
             Some(params) => Some(Command::Seal(item, params)),
         },
     }
 }
 
-fn open_command<'a>(options: &'a [String]) -> Option<Command<'a>>
-    ensures some { IfSome result (λ command. IsCommand (codes "open" ∷ texts options.now) command) }
-    ensures none { IfNone result ((line : OpenLine) → ¬ (IsOpenLine (codes "open" ∷ texts options.now) line)) }
+fn open_command<'a>(given: &Given<'a>) -> Option<Command<'a>>
+    requires { given.now.command.now ≡ codes "open" }
+    ensures some { IfSome result (λ command. (words : List (List ℕ)) → IsGivenBy words given.now → IsCommand words command) }
+    ensures none { IfNone result ((words : List (List ℕ)) → IsGivenBy words given.now → (line : OpenLine) → ¬ (IsOpenLine words line)) }
 {
-    match item_options(options) {
+    match item_options(given) {
+        Some(item) => Some(Command::Open(item)),
         None => None,
-        Some((item, rest)) => {
-            if rest.is_empty() {
-                Some(Command::Open(item))
-            } else {
-                None
-            }
-        }
     }
 }
 
-fn item_options<'a>(words: &'a [String]) -> Option<(ItemOptions, &'a [String])>
-    ensures some { IfSome result (λ found. BeginsWithItem (texts words.now) found.0.uuid found.0.key (texts found.1.now)) }
-    ensures none { IfNone result ((uuid key : List ℕ) (rest : List (List ℕ)) → ¬ (BeginsWithItem (texts words.now) uuid key rest)) }
+fn item_options(given: &Given<'_>) -> Option<ItemOptions>
+    ensures some { IfSome result (λ item. (words : List (List ℕ)) → IsGivenBy words given.now → GivesItem words item.uuid item.key) }
+    ensures none { IfNone result ((words : List (List ℕ)) (uuid key : List ℕ) → IsGivenBy words given.now → ¬ (GivesItem words uuid key)) }
 {
-    let (uuid, rest) = option_value(words, "--uuid")?;
-    let (key, rest) = option_value(rest, "--key")?;
-    let uuid = uuid_of(uuid)?;
-    let key = key_bytes(key)?;
-    Some((ItemOptions { uuid, key }, rest))
+    let uuid = uuid_of(value(given, "uuid")?)?;
+    let key = key_bytes(value(given, "key")?)?;
+    Some(ItemOptions { uuid, key })
 }
 
-fn params_options<'a>(words: &'a [String]) -> Option<ParamsOptions<'a>>
-    ensures some { IfSome result (λ found. SpellsParams (texts words.now) found.identifier.now found.cost found.nonce.now) }
-    ensures none { IfNone result ((identifier nonce : List ℕ) (cost : ℕ) → ¬ (SpellsParams (texts words.now) identifier cost nonce)) }
+fn params_options<'a>(given: &Given<'a>) -> Option<ParamsOptions<'a>>
+    ensures some { IfSome result (λ params. (words : List (List ℕ)) → IsGivenBy words given.now
+        → GivesParams words params.identifier.now params.cost params.nonce.now) }
+    ensures none { IfNone result ((words : List (List ℕ)) (identifier nonce : List ℕ) (cost : ℕ) → IsGivenBy words given.now
+        → ¬ (GivesParams words identifier cost nonce)) }
 {
-    let Some((identifier, rest)) = option_value(words, "--identifier") else {
+    let Some(identifier) = value(given, "identifier") else {
         return None;
     };
-    match option_value(rest, "--cost") {
-        Some((cost, rest)) => {
-            let cost = positive_number(cost)?;
-            let Some(nonce) = last_value(rest, "--nonce") else {
-                return None;
-            };
-            within_bounds(identifier, cost, nonce)
-        }
-        None => {
-            let Some(nonce) = last_value(rest, "--nonce") else {
-                return None;
-            };
-            within_bounds(identifier, USUAL_COST, nonce)
-        }
+    let Some(cost) = cost_option(given) else {
+        return None;
+    };
+    let Some(nonce) = value(given, "nonce") else {
+        return None;
+    };
+    within_bounds(identifier, cost, nonce)
+}
+
+fn cost_option(given: &Given<'_>) -> Option<u32>
+    ensures some { IfSome result (λ cost. IsCost cost × ((words : List (List ℕ)) → IsGivenBy words given.now → GivesCost words cost)) }
+    ensures none { IfNone result ((words : List (List ℕ)) (cost : ℕ) → IsGivenBy words given.now → IsCost cost → ¬ (GivesCost words cost)) }
+{
+    match value(given, "cost") {
+        Some(cost) => positive_number(cost),
+        None => Some(USUAL_COST),
     }
 }
 
@@ -125,15 +153,6 @@ fn within_bounds<'a>(identifier: &'a str, cost: u32, nonce: &'a str) -> Option<P
     } else {
         None
     }
-}
-
-/// The value of the option with this name, where the words are these two and no more.
-fn last_value<'a>(words: &'a [String], name: &str) -> Option<&'a str>
-    ensures some { IfSome result (λ value. texts words.now ≡ name.now ∷ value.now ∷ []) }
-    ensures none { IfNone result ((value : List ℕ) → ¬ (texts words.now ≡ name.now ∷ value ∷ [])) }
-{
-    let (value, rest) = option_value(words, name)?;
-    if rest.is_empty() { Some(value) } else { None }
 }
 
 fn fits(text: &str, most: usize) -> bool

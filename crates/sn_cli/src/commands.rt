@@ -9,6 +9,7 @@ ghost use Rattle.sn_items.specs.Seals.{IsSealed};
 ghost use Rattle.sn_items.specs.declared.error.ItemError.{ItemError};
 ghost use Rattle.sn_string.specs.Bounds.{IsIdentifier, IsCost, IsNonce};
 ghost use Rattle.sn_string.specs.declared.params.Params.{Params};
+ghost use Rattle.sn_string.specs.declared.reader.StringError.{StringError};
 ghost use Rattle.sn_cli.specs.CommandLine.{IsSealLine, IsOpenLine};
 ghost use Rattle.sn_cli.specs.Commands.{seal_line, open_line};
 ghost use Rattle.sn_cli.specs.Inputs.{input_status};
@@ -36,6 +37,7 @@ pub fn seal_input<I: Source, O: Sink, R: Seeds>(
     ensures done { result ≡ Status.Done → (words : List (List ℕ)) → IsSealLine words (seal_line item.now params.now)
         → Seals words (I.left input.old) (I.left input.new) (O.held out.old) (O.held out.new) (R.given seeds.old) (R.given seeds.new) }
     ensures item { (error : ItemError) → result ≢ Status.Refused (Refusal.Item error) }
+    ensures form { (error : StringError) → result ≢ Status.Refused (Refusal.Form error) }
     ensures usage { result ≢ Status.Usage }
     ensures long { result ≡ Status.Refused Refusal.InputLong → GivesPart (I.left input.old) (I.left input.new) (MOST_INPUT + 1) }
     ensures utf8 { (place : ℕ) → result ≡ Status.Refused (Refusal.InputUtf8 place)
@@ -66,6 +68,7 @@ pub fn open_input<I: Source, O: Sink>(
         → OpensText words (I.left input.old) (I.left input.new) (O.held out.old) (O.held out.new) }
     ensures item { (error : ItemError) → result ≡ Status.Refused (Refusal.Item error) → (words : List (List ℕ))
         → IsOpenLine words (open_line item.now) → RefusesText words (I.left input.old) (I.left input.new) error }
+    ensures form { (error : StringError) → result ≢ Status.Refused (Refusal.Form error) }
     ensures usage { result ≢ Status.Usage }
     ensures long { result ≡ Status.Refused Refusal.InputLong → GivesPart (I.left input.old) (I.left input.new) (MOST_INPUT + 1) }
     ensures utf8 { (place : ℕ) → result ≡ Status.Refused (Refusal.InputUtf8 place)
@@ -146,7 +149,7 @@ fn halves(key: &[u8; 64]) -> ([u8; 32], [u8; 32])
     (first, second)
 }
 
-fn write_out<O: Sink>(out: &mut O, bytes: &[u8]) -> Status
+pub fn write_out<O: Sink>(out: &mut O, bytes: &[u8]) -> Status
     ensures done { result ≡ Status.Done → Appends (O.held out.old) (O.held out.new) bytes.now }
     ensures write { result ≢ Status.Done → (result ≡ Status.WriteFault) × Rose (O.fault_count out.old) (O.fault_count out.new) }
 {
@@ -156,7 +159,7 @@ fn write_out<O: Sink>(out: &mut O, bytes: &[u8]) -> Status
     }
 }
 
-fn status_of(error: InputError) -> Status
+pub fn status_of(error: InputError) -> Status
     ensures { result ≡ input_status error }
 {
     match error {

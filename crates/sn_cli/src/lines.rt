@@ -68,6 +68,7 @@ fn refusal_line(alloc: Global, refusal: &Refusal) -> Result<String, AllocError>
     let text = match refusal {
         Refusal::InputLong => format!(in alloc; "cli.1 InputLong")?,
         Refusal::InputUtf8 { place } => format!(in alloc; "cli.2 InputUtf8 {place}")?,
+        Refusal::Form(error) => form_line(alloc, error)?,
         Refusal::Item(error) => item_line(alloc, error)?,
     };
     format!(in alloc; "sn: {text}\n")
@@ -89,6 +90,12 @@ fn item_line(alloc: Global, error: &ItemError) -> Result<String, AllocError>
         }
         ItemError::Padding => format!(in alloc; "items.10 Padding"),
         ItemError::NotUtf8 { place } => format!(in alloc; "items.11 NotUtf8 {place}"),
+        ItemError::NotItemKey => format!(in alloc; "items.12 NotItemKey"),
+        ItemError::NotObject => format!(in alloc; "items.13 NotObject"),
+        ItemError::OtherSet { nonce } => {
+            let nonce = nonce.as_str();
+            format!(in alloc; "items.14 OtherSet {nonce}")
+        }
         ItemError::Memory => format!(in alloc; "memory"),
     }
 }

@@ -3,15 +3,18 @@
 
 mod command_line;
 mod commands;
+mod given;
+mod help;
 mod input;
 mod lines;
 mod number;
 mod outside;
 mod program;
+mod showing;
 mod status;
+mod syntax;
 #[cfg(test)]
 mod tests;
-mod words;
 
 use outside::{DrawnSeed, Input, Output};
 use program::run;

@@ -4,14 +4,18 @@ ghost use Rattle.std.specs.Io.KnownBytes.{Keeps};
 ghost use Rattle.sn_io.specs.Causes.{Rose};
 ghost use Rattle.sn_io.specs.Streams.{GivesPart, Tells};
 ghost use Rattle.sn_items.specs.declared.error.ItemError.{ItemError};
+ghost use Rattle.sn_string.specs.declared.reader.StringError.{StringError};
 ghost use Rattle.sn_cli.specs.CommandLine.{IsUsage};
 ghost use Rattle.sn_cli.specs.Lines.{line_of, IsSilent};
-ghost use Rattle.sn_cli.specs.Runs.{MOST_INPUT, Seals, OpensText, RefusesText, IsInputUtf8};
+ghost use Rattle.sn_cli.specs.Runs.{MOST_INPUT, Does, RefusesText, RefusesForm, IsInputUtf8};
+ghost use Rattle.sn_cli.specs.Syntax.{AsksForHelp, AsksForVersion};
 ghost use Rattle.sn_cli.specs.Words.{texts};
 
-use crate::command_line::{Command, command_of};
+use crate::command_line::{Command, LineError, command_of};
 use crate::commands::{open_input, seal_input};
+use crate::help::answer_help;
 use crate::lines::tell;
+use crate::showing::show_input;
 use crate::status::{Refusal, Status};
 use sn_io::{Seeds, Sink, Source};
 use std::alloc::Global;
@@ -25,15 +29,18 @@ pub fn run<I: Source, O: Sink, E: Sink, R: Seeds>(
     err: &mut E,
     seeds: &mut R,
 ) -> Status
-    ensures usage { result ≡ Status.Usage ↔ IsUsage (texts words.now) }
+    ensures usage { result ≡ Status.Usage → IsUsage (texts words.now) }
+    ensures spelled { IsUsage (texts words.now) → ¬ (AsksForHelp (texts words.now)) → ¬ (AsksForVersion (texts words.now))
+        → (result ≡ Status.Usage) ⊎ (result ≡ Status.Memory) }
     ensures untouched { result ≡ Status.Usage → (I.left input.new ≡ I.left input.old) × (R.given seeds.new ≡ R.given seeds.old) }
-    ensures done { result ≡ Status.Done
-        → Seals (texts words.now) (I.left input.old) (I.left input.new) (O.held out.old) (O.held out.new) (R.given seeds.old) (R.given seeds.new)
-        ⊎ OpensText (texts words.now) (I.left input.old) (I.left input.new) (O.held out.old) (O.held out.new) }
+    ensures done { result ≡ Status.Done → Does (texts words.now) (I.left input.old) (I.left input.new) (O.held out.old) (O.held out.new)
+        (R.given seeds.old) (R.given seeds.new) }
 
     // A refusal comes by its cause, and nothing is written.
     ensures item { (error : ItemError) → result ≡ Status.Refused (Refusal.Item error)
         → RefusesText (texts words.now) (I.left input.old) (I.left input.new) error }
+    ensures form { (error : StringError) → result ≡ Status.Refused (Refusal.Form error)
+        → RefusesForm (texts words.now) (I.left input.old) (I.left input.new) error }
     ensures long { result ≡ Status.Refused Refusal.InputLong → GivesPart (I.left input.old) (I.left input.new) (MOST_INPUT + 1) }
     ensures utf8 { (place : ℕ) → result ≡ Status.Refused (Refusal.InputUtf8 place)
         → IsInputUtf8 (I.left input.old) (I.left input.new) place }
@@ -48,6 +55,7 @@ pub fn run<I: Source, O: Sink, E: Sink, R: Seeds>(
 }
 
 // All but the line.
+#[tactic(auto, unfolding(crate::specs::Runs::Does))]
 fn answer<I: Source, O: Sink, R: Seeds>(
     alloc: Global,
     words: &[String],
@@ -55,13 +63,16 @@ fn answer<I: Source, O: Sink, R: Seeds>(
     out: &mut O,
     seeds: &mut R,
 ) -> Status
-    ensures usage { result ≡ Status.Usage ↔ IsUsage (texts words.now) }
+    ensures usage { result ≡ Status.Usage → IsUsage (texts words.now) }
+    ensures spelled { IsUsage (texts words.now) → ¬ (AsksForHelp (texts words.now)) → ¬ (AsksForVersion (texts words.now))
+        → (result ≡ Status.Usage) ⊎ (result ≡ Status.Memory) }
     ensures untouched { result ≡ Status.Usage → (I.left input.new ≡ I.left input.old) × (R.given seeds.new ≡ R.given seeds.old) }
-    ensures done { result ≡ Status.Done
-        → Seals (texts words.now) (I.left input.old) (I.left input.new) (O.held out.old) (O.held out.new) (R.given seeds.old) (R.given seeds.new)
-        ⊎ OpensText (texts words.now) (I.left input.old) (I.left input.new) (O.held out.old) (O.held out.new) }
+    ensures done { result ≡ Status.Done → Does (texts words.now) (I.left input.old) (I.left input.new) (O.held out.old) (O.held out.new)
+        (R.given seeds.old) (R.given seeds.new) }
     ensures item { (error : ItemError) → result ≡ Status.Refused (Refusal.Item error)
         → RefusesText (texts words.now) (I.left input.old) (I.left input.new) error }
+    ensures form { (error : StringError) → result ≡ Status.Refused (Refusal.Form error)
+        → RefusesForm (texts words.now) (I.left input.old) (I.left input.new) error }
     ensures long { result ≡ Status.Refused Refusal.InputLong → GivesPart (I.left input.old) (I.left input.new) (MOST_INPUT + 1) }
     ensures utf8 { (place : ℕ) → result ≡ Status.Refused (Refusal.InputUtf8 place)
         → IsInputUtf8 (I.left input.old) (I.left input.new) place }
@@ -69,9 +80,13 @@ fn answer<I: Source, O: Sink, R: Seeds>(
     ensures read { result ≡ Status.ReadFault → Rose (I.fault_count input.old) (I.fault_count input.new) }
     ensures write { result ≡ Status.WriteFault → Rose (O.fault_count out.old) (O.fault_count out.new) }
 {
-    match command_of(words) {
-        None => Status::Usage,
-        Some(Command::Seal(item, params)) => seal_input(alloc, &item, &params, input, out, seeds),
-        Some(Command::Open(item)) => open_input(alloc, &item, input, out),
+    match command_of(alloc, words) {
+        Err(LineError::Usage) => Status::Usage,
+        Err(LineError::Memory) => Status::Memory,
+        Ok(Command::Seal(item, params)) => seal_input(alloc, &item, &params, input, out, seeds),
+        Ok(Command::Open(item)) => open_input(alloc, &item, input, out),
+        Ok(Command::Show) => show_input(alloc, input, out),
+        Ok(Command::Help(text)) => answer_help(alloc, &text, out),
+        Ok(Command::Version(text)) => answer_help(alloc, &text, out),
     }
 }

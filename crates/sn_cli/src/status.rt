@@ -2,6 +2,7 @@
 ghost use Rattle.std.specs.Prelude.{◌≡◌};
 
 use sn_items::ItemError;
+use sn_string::StringError;
 
 /// Why a command was refused.
 #[derive(Debug, Drop)]
@@ -10,6 +11,8 @@ pub enum Refusal {
     InputLong,
     /// The input isn't UTF-8; the length of its longest prefix that is.
     InputUtf8 { place: usize },
+    /// The input is no 003 string.
+    Form(StringError),
     /// The string doesn't open.
     Item(ItemError),
 }

@@ -64,6 +64,48 @@ const LEADING_ZERO: &[&str] = &[
     "6e",
 ];
 
+const SHOW: &[&str] = &["show"];
+
+const SHOW_MORE: &[&str] = &["show", "--uuid", "00000000-0000-4000-8000-000000000001"];
+
+const OTHER_ORDER: &[&str] = &[
+    "seal",
+    "--nonce=6e",
+    "--key",
+    "000102030405060708090a0b0c0d0e0f101112131415161718191a1b1c1d1e1f202122232425262728292a2b2c2d2e2f303132333435363738393a3b3c3d3e3f",
+    "--cost",
+    "1",
+    "--identifier=alice",
+    "--uuid",
+    "00000000-0000-4000-8000-000000000001",
+];
+
+const TWICE: &[&str] = &[
+    "open",
+    "--uuid",
+    "00000000-0000-4000-8000-000000000001",
+    "--uuid",
+    "00000000-0000-4000-8000-000000000001",
+    "--key",
+    "000102030405060708090a0b0c0d0e0f101112131415161718191a1b1c1d1e1f202122232425262728292a2b2c2d2e2f303132333435363738393a3b3c3d3e3f",
+];
+
+const CUT_SHORT: &[&str] = &[
+    "open",
+    "--uui",
+    "00000000-0000-4000-8000-000000000001",
+    "--key",
+    "000102030405060708090a0b0c0d0e0f101112131415161718191a1b1c1d1e1f202122232425262728292a2b2c2d2e2f303132333435363738393a3b3c3d3e3f",
+];
+
+const UPPER_CASE: &[&str] = &[
+    "open",
+    "--uuid",
+    "00000000-0000-4000-8000-000000000001",
+    "--key",
+    "000102030405060708090A0B0C0D0E0F101112131415161718191A1B1C1D1E1F202122232425262728292A2B2C2D2E2F303132333435363738393A3B3C3D3E3F",
+];
+
 struct Case {
     name: &'static str,
     words: &'static [&'static str],
@@ -75,7 +117,7 @@ struct Case {
     err: &'static [u8],
 }
 
-static CASES: [Case; 17] = [
+static CASES: [Case; 28] = [
     Case {
         name: "the empty text",
         words: SEAL,
@@ -245,6 +287,116 @@ static CASES: [Case; 17] = [
         status: 7,
         out: b"",
         err: b"sn: write fault\n",
+    },
+    Case {
+        name: "shows",
+        words: SHOW,
+        input: b"003:0000000000000000000000000000000000000000000000000000000000000000:00000000-0000-4000-8000-000000000001:00000000000000000000000000000000:AAAAAAAAAAAAAAAAAAAAAA==:eyJpZGVudGlmaWVyIjoiYWxpY2UiLCJwd19jb3N0IjoxLCJwd19ub25jZSI6IjZlIiwidmVyc2lvbiI6IjAwMyJ9",
+        failing_reads: &[],
+        failing_writes: &[],
+        status: 0,
+        out: b"version 003\nhash 0000000000000000000000000000000000000000000000000000000000000000\nuuid 00000000-0000-4000-8000-000000000001\niv 00000000000000000000000000000000\nciphertext 16\nidentifier \"alice\"\npw_cost 1\npw_nonce \"6e\"\nsalt-text \"alice:SF:003:1:6e\"\n",
+        err: b"",
+    },
+    Case {
+        name: "show: a line feed",
+        words: SHOW,
+        input: b"003:0000000000000000000000000000000000000000000000000000000000000000:00000000-0000-4000-8000-000000000001:00000000000000000000000000000000:AAAAAAAAAAAAAAAAAAAAAA==:eyJpZGVudGlmaWVyIjoiYWxpY2UiLCJwd19jb3N0IjoxLCJwd19ub25jZSI6IjZlIiwidmVyc2lvbiI6IjAwMyJ9\n",
+        failing_reads: &[],
+        failing_writes: &[],
+        status: 3,
+        out: b"",
+        err: b"sn: string.7 Params 164\n",
+    },
+    Case {
+        name: "show: no parts",
+        words: SHOW,
+        input: b"",
+        failing_reads: &[],
+        failing_writes: &[],
+        status: 3,
+        out: b"",
+        err: b"sn: string.1 Parts 1\n",
+    },
+    Case {
+        name: "show: an upper-case hash",
+        words: SHOW,
+        input: b"003:A000000000000000000000000000000000000000000000000000000000000000:00000000-0000-4000-8000-000000000001:00000000000000000000000000000000:AAAAAAAAAAAAAAAAAAAAAA==:eyJpZGVudGlmaWVyIjoiYWxpY2UiLCJwd19jb3N0IjoxLCJwd19ub25jZSI6IjZlIiwidmVyc2lvbiI6IjAwMyJ9",
+        failing_reads: &[],
+        failing_writes: &[],
+        status: 3,
+        out: b"",
+        err: b"sn: string.3 Hash 4\n",
+    },
+    Case {
+        name: "show: an option that it doesn't have",
+        words: SHOW_MORE,
+        input: b"003:0000000000000000000000000000000000000000000000000000000000000000:00000000-0000-4000-8000-000000000001:00000000000000000000000000000000:AAAAAAAAAAAAAAAAAAAAAA==:eyJpZGVudGlmaWVyIjoiYWxpY2UiLCJwd19jb3N0IjoxLCJwd19ub25jZSI6IjZlIiwidmVyc2lvbiI6IjAwMyJ9",
+        failing_reads: &[],
+        failing_writes: &[],
+        status: 2,
+        out: b"",
+        err: b"sn: usage\n",
+    },
+    Case {
+        name: "show: the first read fails",
+        words: SHOW,
+        input: b"003:0000000000000000000000000000000000000000000000000000000000000000:00000000-0000-4000-8000-000000000001:00000000000000000000000000000000:AAAAAAAAAAAAAAAAAAAAAA==:eyJpZGVudGlmaWVyIjoiYWxpY2UiLCJwd19jb3N0IjoxLCJwd19ub25jZSI6IjZlIiwidmVyc2lvbiI6IjAwMyJ9",
+        failing_reads: &[0],
+        failing_writes: &[],
+        status: 6,
+        out: b"",
+        err: b"sn: read fault\n",
+    },
+    Case {
+        name: "show: the second write fails",
+        words: SHOW,
+        input: b"003:0000000000000000000000000000000000000000000000000000000000000000:00000000-0000-4000-8000-000000000001:00000000000000000000000000000000:AAAAAAAAAAAAAAAAAAAAAA==:eyJpZGVudGlmaWVyIjoiYWxpY2UiLCJwd19jb3N0IjoxLCJwd19ub25jZSI6IjZlIiwidmVyc2lvbiI6IjAwMyJ9",
+        failing_reads: &[],
+        failing_writes: &[1],
+        status: 7,
+        out: b"version 003\nhash 000000000000000000000000000000000",
+        err: b"sn: write fault\n",
+    },
+    Case {
+        name: "the options in another order, and with =",
+        words: OTHER_ORDER,
+        input: b"0123456789abcdef",
+        failing_reads: &[],
+        failing_writes: &[],
+        status: 0,
+        out: b"003:b575ce3c2695f7385e3d9b9fd8888357bc2fddb015d6fa35e3086f83c423e455:00000000-0000-4000-8000-000000000001:76b8e0ada0f13d90405d6ae55386bd28://0LNp/oXedvv270MZbI7YEYIqJpGRG8VSSOyP2NKA0=:eyJpZGVudGlmaWVyIjoiYWxpY2UiLCJwd19jb3N0IjoxLCJwd19ub25jZSI6IjZlIiwidmVyc2lvbiI6IjAwMyJ9\n",
+        err: b"",
+    },
+    Case {
+        name: "an option twice",
+        words: TWICE,
+        input: b"x",
+        failing_reads: &[],
+        failing_writes: &[],
+        status: 2,
+        out: b"",
+        err: b"sn: usage\n",
+    },
+    Case {
+        name: "an option cut short",
+        words: CUT_SHORT,
+        input: b"x",
+        failing_reads: &[],
+        failing_writes: &[],
+        status: 2,
+        out: b"",
+        err: b"sn: usage\n",
+    },
+    Case {
+        name: "a key in upper case",
+        words: UPPER_CASE,
+        input: b"x",
+        failing_reads: &[],
+        failing_writes: &[],
+        status: 2,
+        out: b"",
+        err: b"sn: usage\n",
     },
 ];
 

@@ -1,2 +1,6 @@
+pub mod ItemLawLemmas
+pub mod ItemLemmas
+pub mod ObjectLemmas
 pub mod OpenLemmas
 pub mod SealLemmas
+pub mod Utf8Bytes

@@ -9,7 +9,7 @@ use Rattle.sn_items.specs.Opens.{Opens, Decrypts, IsAuthentic, hash_of}
 use Rattle.sn_items.specs.Refusals.{HasCause}
 use Rattle.sn_items.specs.Utf8.{IsValidTo}
 use Rattle.sn_items.specs.declared.error.ItemError.{ItemError}
-use Rattle.sn_items.specs.declared.error.ItemError.TheVariants.{Form, OtherUuid, HashMismatch, Padding, NotUtf8, Memory}
+use Rattle.sn_items.specs.declared.error.ItemError.TheVariants.{Form, OtherUuid, HashMismatch, Padding, NotUtf8, NotItemKey, NotObject, OtherSet, Memory}
 use Rattle.sn_string.specs.Base64.{IsBase64}
 use Rattle.sn_string.specs.Grammar.{Reading, Is003, IsCiphertext, parts_of}
 use Rattle.sn_string.specs.Hex.{IsLowerHex}
@@ -117,7 +117,7 @@ unfolding IsOther
 is_memory error e = subst IsOther (sym e) tt
 
 -- a 003 string has no refusal of its form
-no_form_refusal : (text : List ℕ) (reading : Reading) (error : StringError) → Is003 text reading → ¬ (Refuses (parts_of text) error)
+pub no_form_refusal : (text : List ℕ) (reading : Reading) (error : StringError) → Is003 text reading → ¬ (Refuses (parts_of text) error)
 unfolding IsOther
 no_form_refusal text reading (string.Parts n) reads refusal =
     is_memory (string.Parts n) (read_back text reading reads (Err (string.Parts n)) refusal)
@@ -160,6 +160,9 @@ no_refusal text uuid encryption_key authentication_key plain (NotUtf8 place) sma
     let plain_same : plain ≡ cause.plain =
     one_plain cause.reading.iv cause.reading.ciphertext encryption_key plain cause.plain small cause.valid.are decrypts cause.decrypts in
     absurd (cause.valid.invalid (subst IsUtf8 plain_same opens.utf8))
+no_refusal text uuid encryption_key authentication_key plain NotItemKey small opens cause = absurd cause
+no_refusal text uuid encryption_key authentication_key plain NotObject small opens cause = absurd cause
+no_refusal text uuid encryption_key authentication_key plain (OtherSet nonce) small opens cause = absurd cause
 no_refusal text uuid encryption_key authentication_key plain Memory small opens cause = refl
 
 -- so what opening may answer is the plain text or want of memory

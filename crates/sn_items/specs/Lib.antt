@@ -1,5 +1,9 @@
 pub mod Draws
+pub mod ItemLaws
+pub mod ItemRefusals
+pub mod Items
 pub mod Laws
+pub mod Objects
 pub mod Opens
 pub mod Refusals
 pub mod Seals

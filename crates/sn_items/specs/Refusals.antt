@@ -4,7 +4,7 @@ use Rattle.sn_cbc.specs.Cbc.{AreBytes}
 use Rattle.sn_items.specs.Opens.{NamesItem, IsAuthentic, Decrypts, hash_of}
 use Rattle.sn_items.specs.Utf8.{IsValidTo}
 use Rattle.sn_items.specs.declared.error.ItemError.{ItemError}
-use Rattle.sn_items.specs.declared.error.ItemError.TheVariants.{Form, OtherUuid, HashMismatch, Padding, NotUtf8, Memory}
+use Rattle.sn_items.specs.declared.error.ItemError.TheVariants.{Form, OtherUuid, HashMismatch, Padding, NotUtf8, NotItemKey, NotObject, OtherSet, Memory}
 use Rattle.sn_string.specs.Grammar.{Reading, parts_of}
 use Rattle.sn_string.specs.Hex.{IsLowerHex}
 use Rattle.sn_string.specs.Refusals.{Refuses}
@@ -37,11 +37,14 @@ pub record IsNotUtf8 (text uuid encryption_key authentication_key : List ℕ) (p
   pub decrypts : Decrypts reading.iv reading.ciphertext encryption_key plain
   pub valid : IsValidTo plain place
 
--- the error's cause stands, and none before it; want of memory alone is free
+-- the error's cause stands, and none before it; want of memory alone is free, and what only an item refuses never comes
 abbrev pub HasCause : List ℕ → List ℕ → List ℕ → List ℕ → ItemError → Type 0
 HasCause text uuid encryption_key authentication_key (Form error) = Refuses (parts_of text) error
 HasCause text uuid encryption_key authentication_key (OtherUuid written) = IsOtherUuid text uuid written
 HasCause text uuid encryption_key authentication_key (HashMismatch written computed) = IsHashMismatch text uuid authentication_key written computed
 HasCause text uuid encryption_key authentication_key Padding = IsPaddingFault text uuid encryption_key authentication_key
 HasCause text uuid encryption_key authentication_key (NotUtf8 place) = IsNotUtf8 text uuid encryption_key authentication_key place
+HasCause text uuid encryption_key authentication_key NotItemKey = ⊥
+HasCause text uuid encryption_key authentication_key NotObject = ⊥
+HasCause text uuid encryption_key authentication_key (OtherSet nonce) = ⊥
 HasCause text uuid encryption_key authentication_key Memory = ⊤

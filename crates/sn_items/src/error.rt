@@ -1,8 +1,8 @@
-// Why a text doesn't open.
+// Why a text or an item doesn't open.
 ghost use Rattle.std.specs.Prelude.{◌≡◌};
 ghost use Rattle.sn_items.specs.declared.error.ItemError.TheVariants.{Memory};
 
-use sn_string::StringError;
+use sn_string::{StringError, Text};
 use std::alloc::AllocError;
 use thiserror::Error;
 use uuid::Uuid;
@@ -30,6 +30,17 @@ pub enum ItemError {
     #[error("the opened bytes aren't UTF-8 from byte {place} on")]
     NotUtf8 {
         place: usize,
+    },
+    /// The key string opens to a text that isn't 128 lower-case hex digits.
+    #[error("the key string holds no item key")]
+    NotItemKey,
+    /// The content opens to a text that is no JSON object.
+    #[error("the content is no JSON object")]
+    NotObject,
+    /// The string carries other parameters than the key set's; its nonce.
+    #[error("the string carries the parameters of another key set")]
+    OtherSet {
+        nonce: Text,
     },
     #[error("out of memory")]
     Memory,

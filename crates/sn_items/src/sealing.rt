@@ -1,6 +1,7 @@
 // Sealing a text.
 ghost use Rattle.std.specs.Prelude.{◌≡◌, ℕ, List, IfOk, string_bytes};
 ghost use Rattle.sn_items.specs.Draws.{drawn};
+ghost use Rattle.sn_items.specs.Items.{CarriesParams};
 ghost use Rattle.sn_items.specs.Opens.{Opens};
 ghost use Rattle.sn_items.specs.Seals.{IsSealed};
 
@@ -24,6 +25,7 @@ pub fn seal_text(
     ensures sealed { (iv : List ℕ) × ((iv, words.new) ≡ drawn 16 words.old) × IfOk result (λ text.
         IsSealed plain.now uuid iv encryption_key.now authentication_key.now params.now (string_bytes text)) }
     ensures opens { IfOk result (λ text. Opens (string_bytes text) uuid encryption_key.now authentication_key.now plain.now) }
+    ensures carries { IfOk result (λ text. CarriesParams (string_bytes text) params.now) }
 {
     let iv = words.iv();
     sealed_text(
@@ -37,7 +39,8 @@ pub fn seal_text(
     )
 }
 
-fn sealed_text(
+/// The 003 string of a plain text under this initialization vector.
+pub fn sealed_text(
     alloc: Global,
     iv: &[u8; 16],
     plain: &str,
@@ -49,6 +52,7 @@ fn sealed_text(
     ensures sealed { IfOk result (λ text.
         IsSealed plain.now uuid iv.now encryption_key.now authentication_key.now params.now (string_bytes text)) }
     ensures opens { IfOk result (λ text. Opens (string_bytes text) uuid encryption_key.now authentication_key.now plain.now) }
+    ensures carries { IfOk result (λ text. CarriesParams (string_bytes text) params.now) }
 {
     let bytes = seal(alloc, encryption_key, iv, plain.as_bytes())?;
     let ciphertext = base64_text(alloc, &bytes)?;

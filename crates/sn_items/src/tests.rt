@@ -4,6 +4,8 @@ use crate::{ItemError, Words, open_text, seal_text};
 use sn_string::{Params, StringError, Text, hash_bytes, iv_bytes, key_bytes, uuid_of, with_params};
 use std::test::Fail;
 
+mod items;
+
 struct DrawCase {
     seed: &'static str,
     iv: &'static str,

@@ -1,0 +1,53 @@
+-- The program's command line as `clap` takes it: a command, then its options in any order, each with one value.
+use Rattle.std.specs.Prelude.{◌≡◌, ℕ, List, [], ◌∷◌, codes, Bool, true, false, Option, Some, option_map, option_and_then}
+use Rattle.clap.specs.Faults.{fault_of}
+use Rattle.clap.specs.Kinds.{IsAmong}
+use Rattle.clap.specs.Simple.{App, Shape, new_app, new_shape, new_rule, with_subcommand, on_top, subcommand_of}
+use Rattle.clap.specs.Walk.{Rule, first_of}
+use Rattle.clap.specs.declared.error.kind.ErrorKind.TheVariants.{DisplayHelp, DisplayVersion}
+
+-- an option `--name VALUE` or `--name=VALUE`, which may stand once
+abbrev pub option_rule : List ℕ → Bool → Rule
+option_rule name required = record (new_rule name) { long = Some name; required = required; value_names = 1 }
+
+-- a command with these options
+abbrev pub command_shape : List ℕ → List Rule → Shape
+command_shape name rules = record (new_shape name) { rules = rules }
+
+unfoldable pub seal_shape : Shape
+seal_shape = command_shape (codes "seal") (option_rule (codes "uuid") true ∷ option_rule (codes "key") true
+    ∷ option_rule (codes "identifier") true ∷ option_rule (codes "cost") false ∷ option_rule (codes "nonce") true ∷ [])
+
+unfoldable pub open_shape : Shape
+open_shape = command_shape (codes "open") (option_rule (codes "uuid") true ∷ option_rule (codes "key") true ∷ [])
+
+unfoldable pub show_shape : Shape
+show_shape = command_shape (codes "show") []
+
+-- `sn` without its commands: one of them must be named; it answers `--help` and `--version`
+unfoldable pub sn_top : App
+sn_top = on_top
+    (λ s. record s { no_binary_name = true; subcommand_required = true; disable_help_subcommand = true; has_version = true })
+    (new_app (codes "sn"))
+
+unfoldable pub sn_app : App
+sn_app = with_subcommand (with_subcommand (with_subcommand sn_top seal_shape) open_shape) show_shape
+
+-- `clap` takes the words
+abbrev pub Takes : List (List ℕ) → Type 0
+Takes words = fault_of sn_app words ≡ []
+
+-- the command that the words name
+abbrev pub command_named : List (List ℕ) → Option (List ℕ)
+command_named words = option_map (λ named. named.0) (subcommand_of sn_app words)
+
+-- the value that the words give an option of the command
+abbrev pub value_of : List (List ℕ) → List ℕ → Option (List ℕ)
+value_of words name = option_and_then (λ named. first_of name named.1) (subcommand_of sn_app words)
+
+-- the words ask for help or for the version, before `clap` finds a fault in them
+unfoldable pub AsksForHelp : List (List ℕ) → Type 0
+AsksForHelp words = IsAmong DisplayHelp (fault_of sn_app words)
+
+unfoldable pub AsksForVersion : List (List ℕ) → Type 0
+AsksForVersion words = IsAmong DisplayVersion (fault_of sn_app words)
