@@ -1,0 +1,530 @@
+-- The tests of the code are the relation.
+use Rattle.std.proofs.Common.{◌≡◌, ◌≢◌, ◌⊎◌, ◌<◌, ◌≤◌, ℕ, List, [], ◌∷◌, length, Option, Some, None, Bool, true, false, refl, sym, ap, ◌∙◌, subst, inl, inr, ⊎_elim}
+use Rattle.std.specs.Prelude.{IsTrue, ◌&&◌, ◌||◌, ◌==◌, ◌↔◌, not, is_some, is_none, nat_lt, nat_le, if◌then◌else◌}
+use Rattle.std.specs.List.{list_all, list_any}
+use Rattle.std.specs.Str.{bytes_eq}
+use Rattle.std.proofs.lemmas.Bool.{and_parts}
+use Rattle.sn_items.specs.Objects.{is_object}
+use Rattle.sn_laws.specs.declared.ideal.Content.{Content}
+use Rattle.sn_laws.specs.declared.ideal.Content.TheVariants.{Plain, Deleted}
+use Rattle.sn_laws.specs.declared.ideal.Body.{Body}
+use Rattle.sn_laws.specs.declared.ideal.Body.TheVariants.{Under, Gone}
+use Rattle.sn_laws.specs.declared.ideal.Version.{Version}
+use Rattle.sn_laws.specs.declared.ideal.Account.{Account}
+use Rattle.sn_laws.specs.declared.ideal.Posted.{Posted}
+use Rattle.sn_laws.specs.declared.ideal.Draft.{Draft}
+use Rattle.sn_laws.specs.declared.ideal.Device.{Device}
+use Rattle.sn_laws.specs.declared.ideal.Ideal.{Ideal}
+use Rattle.sn_laws.specs.declared.moves.Move.{Move}
+use Rattle.sn_laws.specs.declared.moves.Move.TheVariants.{Register, Join, Edit, Post, Accept, Settle}
+use Rattle.sn_laws.specs.Each.{Each, One}
+use Rattle.sn_laws.specs.Lookups.{Bytes, account_named, account_of, device_named, draft_at, has_item, is_account, is_of, last_of}
+use Rattle.sn_laws.specs.Moves.{after, all_below, allows, has_live, is_as, is_content_of, is_last, is_live, is_live_at, is_new_stamp, is_on_last, is_plain, is_said, is_sent_under, is_unsent, is_writable, last_stamp, longest_text, may_accept, may_delete, may_edit, may_join, may_post, may_settle, may_stand, may_write, number_is, same_base, sent_content}
+use Rattle.sn_laws.specs.Relation.{HasDraft, HasLive, HeldBefore, IsAllowed, IsContentOf, IsLive, IsLiveAt, IsNewStamp, IsOnLast, IsPlain, IsSaid, MayAccept, MayDelete, MayEdit, MayJoin, MayPost, MayRegister, MaySettle, MayWrite, Moves}
+use Rattle.sn_laws.specs.Runs.{step_of}
+use Rattle.sn_laws.proofs.EachLemmas.{and_both, at_most, below, clash, each_from, each_to, is_at_most, is_below, none_from, none_to, not_false, not_true, number_same, one_from, one_to, or_cases, or_left, or_right, same_number, same_text, text_same}
+
+-- four tests in a row
+four : (a b c d : Bool) → (a && b && c && d) ≡ true → (a ≡ true) × (b ≡ true) × (c ≡ true) × (d ≡ true)
+four true b c d h =
+    let last = and_parts (b && c) d h in
+    let first = and_parts b c last.0 in
+    (refl, first.0, first.1, last.1)
+four false b c d h = absurd (cc)
+
+all_four : (a b c d : Bool) → a ≡ true → b ≡ true → c ≡ true → d ≡ true → (a && b && c && d) ≡ true
+all_four a b c d ha hb hc hd = and_both (a && b && c) d (and_both (a && b) c (and_both a b ha hb) hc) hd
+
+three : (a b c : Bool) → (a && b && c) ≡ true → (a ≡ true) × (b ≡ true) × (c ≡ true)
+three a b c h =
+    let last = and_parts (a && b) c h in
+    let first = and_parts a b last.0 in
+    (first.0, first.1, last.1)
+
+all_three : (a b c : Bool) → a ≡ true → b ≡ true → c ≡ true → (a && b && c) ≡ true
+all_three a b c ha hb hc = and_both (a && b) c (and_both a b ha hb) hc
+
+-- Register
+
+register_from : (s : Ideal) (identifier : Bytes) → not (list_any (is_account identifier) s.accounts) ≡ true → MayRegister s identifier
+register_from s identifier h =
+    none_from (is_account identifier) (λ (a : Account). a.identifier ≡ identifier) (λ a e. text_same a.identifier identifier e) s.accounts
+    (not_false (list_any (is_account identifier) s.accounts) h)
+
+register_to : (s : Ideal) (identifier : Bytes) → MayRegister s identifier → not (list_any (is_account identifier) s.accounts) ≡ true
+register_to s identifier h =
+    not_true (list_any (is_account identifier) s.accounts)
+    (none_to (is_account identifier) (λ (a : Account). a.identifier ≡ identifier) (λ a e. same_text a.identifier identifier e) s.accounts h)
+
+-- Join
+
+-- nothing that is there is missing
+missing : {A : Type 0} (x : A) (found : Option A) → found ≡ None → found ≡ Some x → ⊥
+missing x found e k = cc
+
+pub one_there : {A : Type 0} (x y : A) (found : Option A) → found ≡ Some x → found ≡ Some y → x ≡ y
+one_there x y found e k = cc
+
+held_from : (a : Account) (d : Device) (number : ℕ)
+    → (bytes_eq d.account a.identifier && (number == length a.sets) && nat_le (length d.held) 1 && list_all (λ m. nat_lt m number) d.held) ≡ true
+    → HeldBefore d a.identifier number × (number ≡ length a.sets)
+held_from a d number h =
+    let parts = four (bytes_eq d.account a.identifier) (number == length a.sets) (nat_le (length d.held) 1) (list_all (λ m. nat_lt m number) d.held) h in (
+      record {
+        same = same_text d.account a.identifier parts.0;
+        one = at_most (length d.held) 1 parts.2;
+        below = each_from (λ m. nat_lt m number) (λ m. m < number) (λ m e. below m number e) d.held parts.3;
+      },
+      same_number number (length a.sets) parts.1,
+    )
+
+held_to : (a : Account) (d : Device) (number : ℕ) → HeldBefore d a.identifier number → number ≡ length a.sets
+    → (bytes_eq d.account a.identifier && (number == length a.sets) && nat_le (length d.held) 1 && list_all (λ m. nat_lt m number) d.held) ≡ true
+held_to a d number h last =
+    all_four (bytes_eq d.account a.identifier) (number == length a.sets) (nat_le (length d.held) 1) (list_all (λ m. nat_lt m number) d.held)
+    (text_same d.account a.identifier h.same) (number_same number (length a.sets) last) (is_at_most (length d.held) 1 h.one)
+    (each_to (λ m. nat_lt m number) (λ m. m < number) (λ m e. is_below m number e) d.held h.below)
+
+join_from : (s : Ideal) (device identifier : Bytes) (number : ℕ) (a : Option Account) (d : Option Device)
+    → account_named s identifier ≡ a → device_named s device ≡ d → may_join a d number ≡ true → MayJoin s device identifier number
+join_from s device identifier number None d e k h = absurd (cc)
+join_from s device identifier number (Some a) None e k h =
+    record { account = a; named = e; last = same_number number (length a.sets) h; before = λ d f. absurd (missing d (device_named s device) k f) }
+join_from s device identifier number (Some a) (Some d) e k h =
+    let both = held_from a d number h in
+    record {
+      account = a;
+      named = e;
+      last = both.1;
+      before = λ other f. subst (λ x. HeldBefore x a.identifier number) (one_there d other (device_named s device) k f) both.0;
+    }
+
+join_to : (s : Ideal) (device identifier : Bytes) (number : ℕ) (a : Option Account) (d : Option Device)
+    → account_named s identifier ≡ a → device_named s device ≡ d → MayJoin s device identifier number → may_join a d number ≡ true
+join_to s device identifier number None d e k h = absurd (missing h.account (account_named s identifier) e h.named)
+join_to s device identifier number (Some a) None e k h =
+    let same : h.account ≡ a = one_there h.account a (account_named s identifier) h.named e in
+    number_same number (length a.sets) (h.last ∙ ap (λ (x : Account). length x.sets) same)
+join_to s device identifier number (Some a) (Some d) e k h =
+    let same : h.account ≡ a = one_there h.account a (account_named s identifier) h.named e in
+    held_to a d number (subst (λ (x : Account). HeldBefore d x.identifier number) same (h.before d k))
+    (h.last ∙ ap (λ (x : Account). length x.sets) same)
+
+-- Edit
+
+live_from : (b : Body) → is_live b ≡ true → IsLive b
+live_from (Under text set) h = tt
+live_from Gone h = absurd (cc)
+
+live_to : (b : Body) → IsLive b → is_live b ≡ true
+live_to (Under text set) h = refl
+live_to Gone h = absurd h
+
+plain_from : (c : Content) → is_plain c ≡ true → IsPlain c
+plain_from (Plain text) h = tt
+plain_from Deleted h = absurd (cc)
+
+plain_to : (c : Content) → IsPlain c → is_plain c ≡ true
+plain_to (Plain text) h = refl
+plain_to Deleted h = absurd h
+
+live_at_from : (uuid kind : Bytes) (stamp : ℕ) (v : Version) → is_live_at uuid kind stamp v ≡ true → IsLiveAt uuid kind stamp v
+live_at_from uuid kind stamp v h =
+    let parts = four (bytes_eq v.uuid uuid) (bytes_eq v.kind kind) (v.stamp == stamp) (is_live v.body) h in
+    record {
+      item = same_text v.uuid uuid parts.0;
+      kind_is = same_text v.kind kind parts.1;
+      stamp_is = same_number v.stamp stamp parts.2;
+      live = live_from v.body parts.3;
+    }
+
+live_at_to : (uuid kind : Bytes) (stamp : ℕ) (v : Version) → IsLiveAt uuid kind stamp v → is_live_at uuid kind stamp v ≡ true
+live_at_to uuid kind stamp v h =
+    all_four (bytes_eq v.uuid uuid) (bytes_eq v.kind kind) (v.stamp == stamp) (is_live v.body) (text_same v.uuid uuid h.item)
+    (text_same v.kind kind h.kind_is) (number_same v.stamp stamp h.stamp_is) (live_to v.body h.live)
+
+stand_from : (a : Account) (uuid kind : Bytes) (base : Option ℕ) → may_stand a uuid kind base ≡ true
+    → (stamp : ℕ) → base ≡ Some stamp → HasLive a uuid kind stamp
+stand_from a uuid kind None h stamp e = absurd (cc)
+stand_from a uuid kind (Some n) h stamp e =
+    let same : n ≡ stamp = cc in
+    subst (HasLive a uuid kind) same (one_from (is_live_at uuid kind n) (IsLiveAt uuid kind n) (live_at_from uuid kind n) a.versions h)
+
+stand_to : (a : Account) (uuid kind : Bytes) (base : Option ℕ) → ((stamp : ℕ) → base ≡ Some stamp → HasLive a uuid kind stamp)
+    → may_stand a uuid kind base ≡ true
+stand_to a uuid kind None h = refl
+stand_to a uuid kind (Some n) h = one_to (is_live_at uuid kind n) (IsLiveAt uuid kind n) (live_at_to uuid kind n) a.versions (h n refl)
+
+base_from : (base other : Option ℕ) → same_base base other ≡ true → base ≡ other
+base_from None None h = refl
+base_from None (Some n) h = absurd (cc)
+base_from (Some m) None h = absurd (cc)
+base_from (Some m) (Some n) h = ap Some (sym (same_number n m h))
+
+base_to : (base other : Option ℕ) → base ≡ other → same_base base other ≡ true
+base_to None None h = refl
+base_to None (Some n) h = absurd (cc)
+base_to (Some m) None h = absurd (cc)
+base_to (Some m) (Some n) h = let same : m ≡ n = cc in number_same n m (sym same)
+
+writable_from : (text : Bytes) → is_writable text ≡ true → (length text ≤ longest_text) × IsTrue (is_object text)
+writable_from text h =
+    let both = and_parts (nat_le (length text) longest_text) (is_object text) h in
+    (at_most (length text) longest_text both.0, both.1)
+
+writable_to : (text : Bytes) → length text ≤ longest_text → IsTrue (is_object text) → is_writable text ≡ true
+writable_to text short object = and_both (nat_le (length text) longest_text) (is_object text) (is_at_most (length text) longest_text short) object
+
+write_from : (s : Ideal) (device uuid kind : Bytes) (base : Option ℕ) (text : Bytes) (a : Account) (d : Option Draft)
+    → account_of s device ≡ Some a → draft_at s device uuid ≡ d → may_write a d uuid kind base text ≡ true → MayWrite s device uuid kind base text
+write_from s device uuid kind base text a None e k h =
+    let both = and_parts (may_stand a uuid kind base) (is_writable text) h in
+    let fits = writable_from text both.1 in
+    record {
+      account = a;
+      has = e;
+      short = fits.0;
+      object = fits.1;
+      new = λ _. stand_from a uuid kind base both.0;
+      there = λ d f. absurd (missing d (draft_at s device uuid) k f);
+    }
+write_from s device uuid kind base text a (Some d) e k h =
+    let parts = three (is_as d kind base) (is_plain d.latest) (is_writable text) h in
+    let said = and_parts (bytes_eq d.kind kind) (same_base d.base base) parts.0 in
+    let fits = writable_from text parts.2 in
+    record {
+      account = a;
+      has = e;
+      short = fits.0;
+      object = fits.1;
+      new = λ f. absurd (missing d (draft_at s device uuid) f k);
+      there = λ other f. subst (λ (x : Draft). (x.kind ≡ kind) × (x.base ≡ base) × IsPlain x.latest) (one_there d other (draft_at s device uuid) k f)
+          (same_text d.kind kind said.0, base_from d.base base said.1, plain_from d.latest parts.1);
+    }
+
+write_to : (s : Ideal) (device uuid kind : Bytes) (base : Option ℕ) (text : Bytes) (a : Account) (d : Option Draft)
+    → account_of s device ≡ Some a → draft_at s device uuid ≡ d → MayWrite s device uuid kind base text → may_write a d uuid kind base text ≡ true
+write_to s device uuid kind base text a None e k h =
+    let same : h.account ≡ a = one_there h.account a (account_of s device) h.has e in
+    and_both (may_stand a uuid kind base) (is_writable text)
+    (stand_to a uuid kind base (λ stamp f. subst (λ x. HasLive x uuid kind stamp) same (h.new k stamp f))) (writable_to text h.short h.object)
+write_to s device uuid kind base text a (Some d) e k h =
+    let parts = h.there d k in
+    all_three (is_as d kind base) (is_plain d.latest) (is_writable text)
+    (and_both (bytes_eq d.kind kind) (same_base d.base base) (text_same d.kind kind parts.0) (base_to d.base base parts.1))
+    (plain_to d.latest parts.2) (writable_to text h.short h.object)
+
+some_from : {A : Type 0} (x : Option A) → is_some x ≡ true → x ≢ None
+some_from None h = absurd (cc)
+some_from (Some x) h = λ e. cc
+
+some_to : {A : Type 0} (x : Option A) → x ≢ None → is_some x ≡ true
+some_to None h = absurd (h refl)
+some_to (Some x) h = refl
+
+based : (base : Option ℕ) → is_some base ≡ true → (stamp : ℕ) × (base ≡ Some stamp)
+based None h = absurd (cc)
+based (Some n) h = (n, refl)
+
+delete_from : (s : Ideal) (device uuid kind : Bytes) (base : Option ℕ) (a : Account) (d : Option Draft)
+    → account_of s device ≡ Some a → draft_at s device uuid ≡ d → may_delete a d uuid kind base ≡ true → MayDelete s device uuid kind base
+delete_from s device uuid kind base a None e k h =
+    let both = and_parts (is_some base) (may_stand a uuid kind base) h in
+    let on = based base both.0 in
+    record {
+      account = a;
+      has = e;
+      new = λ _. (on.0, on.1, stand_from a uuid kind base both.1 on.0 on.1);
+      there = λ d f. absurd (missing d (draft_at s device uuid) k f);
+    }
+delete_from s device uuid kind base a (Some d) e k h =
+    let both = and_parts (is_as d kind base) (is_some d.base || is_some d.posted) h in
+    let said = and_parts (bytes_eq d.kind kind) (same_base d.base base) both.0 in
+    record {
+      account = a;
+      has = e;
+      new = λ f. absurd (missing d (draft_at s device uuid) f k);
+      there = λ other f.
+          subst (λ (x : Draft). (x.kind ≡ kind) × (x.base ≡ base) × ((x.base ≢ None) ⊎ (x.posted ≢ None))) (one_there d other (draft_at s device uuid) k f) (
+            same_text d.kind kind said.0,
+            base_from d.base base said.1,
+            ⊎_elim (λ g. inl (some_from d.base g)) (λ g. inr (some_from d.posted g)) (or_cases (is_some d.base) (is_some d.posted) both.1),
+          );
+    }
+
+delete_to : (s : Ideal) (device uuid kind : Bytes) (base : Option ℕ) (a : Account) (d : Option Draft)
+    → account_of s device ≡ Some a → draft_at s device uuid ≡ d → MayDelete s device uuid kind base → may_delete a d uuid kind base ≡ true
+delete_to s device uuid kind base a None e k h =
+    let same : h.account ≡ a = one_there h.account a (account_of s device) h.has e in
+    let on = h.new k in
+    let live : HasLive a uuid kind on.0 = subst (λ x. HasLive x uuid kind on.0) same on.2 in
+    subst (λ b. (is_some b && may_stand a uuid kind b) ≡ true) (sym on.1)
+    (one_to (is_live_at uuid kind on.0) (IsLiveAt uuid kind on.0) (live_at_to uuid kind on.0) a.versions live)
+delete_to s device uuid kind base a (Some d) e k h =
+    let parts = h.there d k in
+    and_both (is_as d kind base) (is_some d.base || is_some d.posted)
+    (and_both (bytes_eq d.kind kind) (same_base d.base base) (text_same d.kind kind parts.0) (base_to d.base base parts.1))
+    (⊎_elim (λ g. or_left (is_some d.base) (is_some d.posted) (some_to d.base g)) (λ g. or_right (is_some d.base) (is_some d.posted) (some_to d.posted g)) parts.2)
+
+edit_from : (s : Ideal) (device uuid kind : Bytes) (base : Option ℕ) (latest : Content) (a : Option Account)
+    → account_of s device ≡ a → may_edit a (draft_at s device uuid) uuid kind base latest ≡ true → MayEdit s device uuid kind base latest
+edit_from s device uuid kind base (Plain text) None e h = absurd (cc)
+edit_from s device uuid kind base Deleted None e h = absurd (cc)
+edit_from s device uuid kind base (Plain text) (Some a) e h = write_from s device uuid kind base text a (draft_at s device uuid) e refl h
+edit_from s device uuid kind base Deleted (Some a) e h = delete_from s device uuid kind base a (draft_at s device uuid) e refl h
+
+edit_to : (s : Ideal) (device uuid kind : Bytes) (base : Option ℕ) (latest : Content) (a : Option Account)
+    → account_of s device ≡ a → MayEdit s device uuid kind base latest → may_edit a (draft_at s device uuid) uuid kind base latest ≡ true
+edit_to s device uuid kind base (Plain text) None e h = absurd (missing h.account (account_of s device) e h.has)
+edit_to s device uuid kind base Deleted None e h = absurd (missing h.account (account_of s device) e h.has)
+edit_to s device uuid kind base (Plain text) (Some a) e h = write_to s device uuid kind base text a (draft_at s device uuid) e refl h
+edit_to s device uuid kind base Deleted (Some a) e h = delete_to s device uuid kind base a (draft_at s device uuid) e refl h
+
+-- Post
+
+none_is : (n : Option ℕ) → is_none n ≡ true → n ≡ None
+none_is None h = refl
+none_is (Some n) h = absurd (cc)
+
+is_nothing : (n : Option ℕ) → n ≡ None → is_none n ≡ true
+is_nothing None h = refl
+is_nothing (Some n) h = absurd (cc)
+
+unsent_from : (posted : Option Posted) → is_unsent posted ≡ true → (p : Posted) → posted ≡ Some p → p.set ≡ None
+unsent_from None h p e = absurd (cc)
+unsent_from (Some q) h p e =
+    let same : q ≡ p = cc in
+    subst (λ (x : Posted). x.set ≡ None) same (none_is q.set h)
+
+unsent_to : (posted : Option Posted) → ((p : Posted) → posted ≡ Some p → p.set ≡ None) → is_unsent posted ≡ true
+unsent_to None h = refl
+unsent_to (Some q) h = is_nothing q.set (h q refl)
+
+post_from : (s : Ideal) (device uuid : Bytes) (a : Option Account) (d : Option Draft) → account_of s device ≡ a → draft_at s device uuid ≡ d
+    → may_post a d ≡ true → MayPost s device uuid
+post_from s device uuid None d e k h = absurd (cc)
+post_from s device uuid (Some a) None e k h = absurd (cc)
+post_from s device uuid (Some a) (Some d) e k h =
+    record { account = a; draft = d; is = record { has = e; at = k }; unsent = unsent_from d.posted h }
+
+post_to : (s : Ideal) (device uuid : Bytes) (a : Option Account) (d : Option Draft) → account_of s device ≡ a → draft_at s device uuid ≡ d
+    → MayPost s device uuid → may_post a d ≡ true
+post_to s device uuid None d e k h = absurd (missing h.account (account_of s device) e h.is.has)
+post_to s device uuid (Some a) None e k h = absurd (missing h.draft (draft_at s device uuid) k h.is.at)
+post_to s device uuid (Some a) (Some d) e k h =
+    let same : h.draft ≡ d = one_there h.draft d (draft_at s device uuid) h.is.at k in
+    unsent_to d.posted (subst (λ (x : Draft). (p : Posted) → x.posted ≡ Some p → p.set ≡ None) same h.unsent)
+
+-- Accept
+
+number_from : (n : ℕ) (set : Option ℕ) → number_is n set ≡ true → set ≡ Some n
+number_from n None h = absurd (cc)
+number_from n (Some m) h = ap Some (same_number m n h)
+
+number_to : (n : ℕ) (set : Option ℕ) → set ≡ Some n → number_is n set ≡ true
+number_to n None h = absurd (cc)
+number_to n (Some m) h = let same : m ≡ n = cc in number_same m n same
+
+sent_from : (n : ℕ) (posted : Option Posted) → is_sent_under n posted ≡ true → (p : Posted) × (posted ≡ Some p) × (p.set ≡ Some n)
+sent_from n None h = absurd (cc)
+sent_from n (Some p) h = (p, refl, number_from n p.set h)
+
+said_from : (n : ℕ) (c : Content) (under : Option ℕ) → is_said n c under ≡ true → IsSaid n c under
+said_from n (Plain text) under h = number_from n under h
+said_from n Deleted under h = none_is under h
+
+said_to : (n : ℕ) (c : Content) (under : Option ℕ) → IsSaid n c under → is_said n c under ≡ true
+said_to n (Plain text) under h = number_to n under h
+said_to n Deleted under h = is_nothing under h
+
+free_from : (s : Ideal) (uuid : Bytes) → not (list_any (has_item uuid) s.accounts) ≡ true
+    → Each (λ (b : Account). Each (λ (v : Version). v.uuid ≢ uuid) b.versions) s.accounts
+free_from s uuid h = each_have s.accounts (not_false (list_any (has_item uuid) s.accounts) h)
+  where
+    parts : (x y : Bool) → (x || y) ≡ false → (x ≡ false) × (y ≡ false)
+    parts true y e = absurd (cc)
+    parts false y e = (refl, e)
+
+    each_have : (bs : List Account) → list_any (has_item uuid) bs ≡ false → Each (λ (b : Account). Each (λ (v : Version). v.uuid ≢ uuid) b.versions) bs
+    each_have [] e = tt
+    each_have (b ∷ bs) e =
+        let both = parts (has_item uuid b) (list_any (has_item uuid) bs) e in
+        (none_from (is_of uuid) (λ (v : Version). v.uuid ≡ uuid) (λ v k. text_same v.uuid uuid k) b.versions both.0, each_have bs both.1)
+
+free_to : (s : Ideal) (uuid : Bytes) → Each (λ (b : Account). Each (λ (v : Version). v.uuid ≢ uuid) b.versions) s.accounts
+    → not (list_any (has_item uuid) s.accounts) ≡ true
+free_to s uuid h = not_true (list_any (has_item uuid) s.accounts) (none_have s.accounts h)
+  where
+    none : (x y : Bool) → x ≡ false → y ≡ false → (x || y) ≡ false
+    none true y e k = absurd (cc)
+    none false y e k = k
+
+    none_have : (bs : List Account) → Each (λ (b : Account). Each (λ (v : Version). v.uuid ≢ uuid) b.versions) bs → list_any (has_item uuid) bs ≡ false
+    none_have [] e = refl
+    none_have (b ∷ bs) e =
+        none (has_item uuid b) (list_any (has_item uuid) bs)
+        (none_to (is_of uuid) (λ (v : Version). v.uuid ≡ uuid) (λ v k. same_text v.uuid uuid k) b.versions e.0) (none_have bs e.1)
+
+on_last_from : (s : Ideal) (a : Account) (uuid : Bytes) (base : Option ℕ) (last : Option Version) → last_of uuid a.versions ≡ last
+    → is_on_last s.accounts uuid base last ≡ true → IsOnLast s a uuid base
+on_last_from s a uuid None last e h = free_from s uuid h
+on_last_from s a uuid (Some stamp) None e h = absurd (cc)
+on_last_from s a uuid (Some stamp) (Some v) e h = (v, e, same_number v.stamp stamp h)
+
+on_last_to : (s : Ideal) (a : Account) (uuid : Bytes) (base : Option ℕ) (last : Option Version) → last_of uuid a.versions ≡ last
+    → IsOnLast s a uuid base → is_on_last s.accounts uuid base last ≡ true
+on_last_to s a uuid None last e h = free_to s uuid h
+on_last_to s a uuid (Some stamp) None e h = absurd (missing h.0 (last_of uuid a.versions) e h.1)
+on_last_to s a uuid (Some stamp) (Some v) e h =
+    let same : h.0 ≡ v = one_there h.0 v (last_of uuid a.versions) h.1 e in
+    number_same v.stamp stamp (subst (λ (x : Version). x.stamp ≡ stamp) same h.2)
+
+below_from : (stamp : ℕ) (a : Account) → all_below stamp a ≡ true → Each (λ (v : Version). v.stamp < stamp) a.versions
+below_from stamp a h = each_from (λ (v : Version). nat_lt v.stamp stamp) (λ (v : Version). v.stamp < stamp) (λ v e. below v.stamp stamp e) a.versions h
+
+below_to : (stamp : ℕ) (a : Account) → Each (λ (v : Version). v.stamp < stamp) a.versions → all_below stamp a ≡ true
+below_to stamp a h = each_to (λ (v : Version). nat_lt v.stamp stamp) (λ (v : Version). v.stamp < stamp) (λ v e. is_below v.stamp stamp e) a.versions h
+
+pub new_from : (s : Ideal) (stamp : ℕ) → is_new_stamp s.accounts stamp ≡ true → IsNewStamp s stamp
+new_from s stamp h =
+    let both = and_parts (list_all (all_below stamp) s.accounts) (nat_le stamp last_stamp) h in
+    record {
+      above = each_from (all_below stamp) (λ (a : Account). Each (λ (v : Version). v.stamp < stamp) a.versions) (below_from stamp) s.accounts both.0;
+      bounded = at_most stamp last_stamp both.1;
+    }
+
+new_to : (s : Ideal) (stamp : ℕ) → IsNewStamp s stamp → is_new_stamp s.accounts stamp ≡ true
+new_to s stamp h =
+    and_both (list_all (all_below stamp) s.accounts) (nat_le stamp last_stamp)
+    (each_to (all_below stamp) (λ (a : Account). Each (λ (v : Version). v.stamp < stamp) a.versions) (below_to stamp) s.accounts h.above)
+    (is_at_most stamp last_stamp h.bounded)
+
+accept_from : (s : Ideal) (device uuid : Bytes) (stamp : ℕ) (under : Option ℕ) (a : Option Account) (d : Option Draft)
+    → account_of s device ≡ a → draft_at s device uuid ≡ d → may_accept s.accounts a d uuid stamp under ≡ true → MayAccept s device uuid stamp under
+accept_from s device uuid stamp under None d e k h = absurd (cc)
+accept_from s device uuid stamp under (Some a) None e k h = absurd (cc)
+accept_from s device uuid stamp under (Some a) (Some d) e k h =
+    let parts = four (is_sent_under (length a.sets) d.posted) (is_said (length a.sets) (sent_content d.latest d.posted) under)
+    (is_on_last s.accounts uuid d.base (last_of uuid a.versions)) (is_new_stamp s.accounts stamp) h in
+    let sent = sent_from (length a.sets) d.posted parts.0 in
+    let said : is_said (length a.sets) sent.0.content under ≡ true =
+    subst (λ p. is_said (length a.sets) (sent_content d.latest p) under ≡ true) sent.1 parts.1 in
+    record {
+      account = a;
+      draft = d;
+      is = record { has = e; at = k };
+      posted = sent.0;
+      sent = sent.1;
+      last_set = sent.2;
+      said = said_from (length a.sets) sent.0.content under said;
+      on_last = on_last_from s a uuid d.base (last_of uuid a.versions) refl parts.2;
+      new = new_from s stamp parts.3;
+    }
+
+accept_parts : (s : Ideal) (a : Account) (d : Draft) (uuid : Bytes) (stamp : ℕ) (under : Option ℕ) (p : Posted) → d.posted ≡ Some p
+    → p.set ≡ Some (length a.sets) → IsSaid (length a.sets) p.content under → IsOnLast s a uuid d.base → IsNewStamp s stamp
+    → may_accept s.accounts (Some a) (Some d) uuid stamp under ≡ true
+accept_parts s a d uuid stamp under p sent set said on new =
+    all_four (is_sent_under (length a.sets) d.posted) (is_said (length a.sets) (sent_content d.latest d.posted) under)
+    (is_on_last s.accounts uuid d.base (last_of uuid a.versions)) (is_new_stamp s.accounts stamp)
+    (subst (λ x. is_sent_under (length a.sets) x ≡ true) (sym sent) (number_to (length a.sets) p.set set))
+    (subst (λ x. is_said (length a.sets) (sent_content d.latest x) under ≡ true) (sym sent) (said_to (length a.sets) p.content under said))
+    (on_last_to s a uuid d.base (last_of uuid a.versions) refl on) (new_to s stamp new)
+
+accept_to : (s : Ideal) (device uuid : Bytes) (stamp : ℕ) (under : Option ℕ) (a : Option Account) (d : Option Draft)
+    → account_of s device ≡ a → draft_at s device uuid ≡ d → MayAccept s device uuid stamp under → may_accept s.accounts a d uuid stamp under ≡ true
+accept_to s device uuid stamp under None d e k h = absurd (missing h.account (account_of s device) e h.is.has)
+accept_to s device uuid stamp under (Some a) None e k h = absurd (missing h.draft (draft_at s device uuid) k h.is.at)
+accept_to s device uuid stamp under (Some a) (Some d) e k h =
+    let account_same : h.account ≡ a = one_there h.account a (account_of s device) h.is.has e in
+    let draft_same : h.draft ≡ d = one_there h.draft d (draft_at s device uuid) h.is.at k in
+    subst (λ x. may_accept s.accounts (Some x) (Some d) uuid stamp under ≡ true) account_same
+    (subst (λ x. may_accept s.accounts (Some h.account) (Some x) uuid stamp under ≡ true) draft_same
+    (accept_parts s h.account h.draft uuid stamp under h.posted h.sent h.last_set h.said h.on_last h.new))
+
+-- Settle
+
+content_from : (kind : Bytes) (c : Content) (other : Bytes) (b : Body) → is_content_of kind c other b ≡ true → IsContentOf kind c other b
+content_from kind (Plain text) other (Under same set) h =
+    let both = and_parts (bytes_eq kind other) (bytes_eq text same) h in
+    (same_text kind other both.0, same_text text same both.1)
+content_from kind (Plain text) other Gone h = absurd (cc)
+content_from kind Deleted other (Under same set) h = absurd (cc)
+content_from kind Deleted other Gone h = tt
+
+content_to : (kind : Bytes) (c : Content) (other : Bytes) (b : Body) → IsContentOf kind c other b → is_content_of kind c other b ≡ true
+content_to kind (Plain text) other (Under same set) h =
+    and_both (bytes_eq kind other) (bytes_eq text same) (text_same kind other h.0) (text_same text same h.1)
+content_to kind (Plain text) other Gone h = absurd h
+content_to kind Deleted other (Under same set) h = absurd h
+content_to kind Deleted other Gone h = refl
+
+settle_last : (s : Ideal) (device uuid : Bytes) (a : Account) (d : Draft) (last : Option Version) → account_of s device ≡ Some a
+    → draft_at s device uuid ≡ Some d → last_of uuid a.versions ≡ last → is_last d last ≡ true → MaySettle s device uuid
+settle_last s device uuid a d None e k l h = absurd (cc)
+settle_last s device uuid a d (Some v) e k l h =
+    record {
+      account = a;
+      draft = d;
+      is = record { has = e; at = k };
+      version = v;
+      last = l;
+      content = content_from d.kind d.latest v.kind v.body h;
+    }
+
+pub settle_from : (s : Ideal) (device uuid : Bytes) (a : Option Account) (d : Option Draft) → account_of s device ≡ a → draft_at s device uuid ≡ d
+    → may_settle a d uuid ≡ true → MaySettle s device uuid
+settle_from s device uuid None d e k h = absurd (cc)
+settle_from s device uuid (Some a) None e k h = absurd (cc)
+settle_from s device uuid (Some a) (Some d) e k h = settle_last s device uuid a d (last_of uuid a.versions) e k refl h
+
+settle_to : (s : Ideal) (device uuid : Bytes) (a : Option Account) (d : Option Draft) → account_of s device ≡ a → draft_at s device uuid ≡ d
+    → MaySettle s device uuid → may_settle a d uuid ≡ true
+settle_to s device uuid None d e k h = absurd (missing h.account (account_of s device) e h.is.has)
+settle_to s device uuid (Some a) None e k h = absurd (missing h.draft (draft_at s device uuid) k h.is.at)
+settle_to s device uuid (Some a) (Some d) e k h =
+    let account_same : h.account ≡ a = one_there h.account a (account_of s device) h.is.has e in
+    let draft_same : h.draft ≡ d = one_there h.draft d (draft_at s device uuid) h.is.at k in
+    subst (λ x. may_settle (Some x) (Some d) uuid ≡ true) account_same
+    (subst (λ x. may_settle (Some h.account) (Some x) uuid ≡ true) draft_same
+    (subst (λ last. is_last h.draft last ≡ true) (sym h.last) (content_to h.draft.kind h.draft.latest h.version.kind h.version.body h.content)))
+
+-- each move
+
+pub allowed_from : (s : Ideal) (m : Move) → IsTrue (allows s m) → IsAllowed s m
+allowed_from s (Register identifier set) h = register_from s identifier h
+allowed_from s (Join device identifier number) h =
+    join_from s device identifier number (account_named s identifier) (device_named s device) refl refl h
+allowed_from s (Edit device uuid kind base latest) h = edit_from s device uuid kind base latest (account_of s device) refl h
+allowed_from s (Post device uuid) h = post_from s device uuid (account_of s device) (draft_at s device uuid) refl refl h
+allowed_from s (Accept device uuid stamp under) h =
+    accept_from s device uuid stamp under (account_of s device) (draft_at s device uuid) refl refl h
+allowed_from s (Settle device uuid) h = settle_from s device uuid (account_of s device) (draft_at s device uuid) refl refl h
+
+pub allowed_to : (s : Ideal) (m : Move) → IsAllowed s m → IsTrue (allows s m)
+allowed_to s (Register identifier set) h = register_to s identifier h
+allowed_to s (Join device identifier number) h = join_to s device identifier number (account_named s identifier) (device_named s device) refl refl h
+allowed_to s (Edit device uuid kind base latest) h = edit_to s device uuid kind base latest (account_of s device) refl h
+allowed_to s (Post device uuid) h = post_to s device uuid (account_of s device) (draft_at s device uuid) refl refl h
+allowed_to s (Accept device uuid stamp under) h = accept_to s device uuid stamp under (account_of s device) (draft_at s device uuid) refl refl h
+allowed_to s (Settle device uuid) h = settle_to s device uuid (account_of s device) (draft_at s device uuid) refl refl h
+
+pub steps : (s next : Ideal) (m : Move) → (step_of s m ≡ Some next) ↔ Moves s m next
+steps s next m = (there, back)
+  where
+    from : (b : Bool) → allows s m ≡ b → (if b then Some (after s m) else None) ≡ Some next → Moves s m next
+    from true e h = let same : next ≡ after s m = cc in record { allowed = allowed_from s m e; effect = same }
+    from false e h = absurd (cc)
+
+    there : step_of s m ≡ Some next → Moves s m next
+    there h = from (allows s m) refl h
+
+    to : (b : Bool) → b ≡ true → next ≡ after s m → (if b then Some (after s m) else None) ≡ Some next
+    to true e h = ap Some (sym h)
+    to false e h = absurd (cc)
+
+    back : Moves s m next → step_of s m ≡ Some next
+    back h = to (allows s m) (allowed_to s m h.allowed) h.effect
+
+pub one_next : (s a b : Ideal) (m : Move) → Moves s m a → Moves s m b → a ≡ b
+one_next s a b m first second = first.effect ∙ sym second.effect

@@ -1,0 +1,306 @@
+// What each move does.
+
+ghost use Rattle.std.specs.Prelude.{◌≡◌, List, [], ◌∷◌, ◌++◌, Option, Some, None, IfOk, find};
+ghost use Rattle.std.specs.Option.{option_copied};
+ghost use Rattle.sn_laws.specs.Lookups.{account_for, greatest, held_by, is_account, is_device, is_draft};
+ghost use Rattle.sn_laws.specs.Moves.{accepted, after, changed_where, edited, joined, posted_under, registered, sent_content, version_of, without};
+
+use crate::ideal::{Account, Body, Content, Device, Draft, Ideal, Posted, Version};
+use crate::lookups::{
+    account_of, device_named, draft_at, greatest_held, is_at, is_called, is_same_account,
+};
+use crate::moves::Move;
+use crate::twins::copies;
+use sn_string::{KeySet, Many, Text, Twin};
+use std::alloc::{AllocError, Global};
+use uuid::Uuid;
+
+fn registered(
+    alloc: Global,
+    accounts: &[Account],
+    identifier: &Text,
+    set: &KeySet,
+) -> Result<Many<Account>, AllocError>
+    ensures { IfOk result (λ next. next ≡ registered accounts.now identifier.now set.now) }
+{
+    let mut sets = Many::new(alloc);
+    sets.push(set.twin(alloc)?)?;
+    let mut next = copies(alloc, accounts)?;
+    next.push(Account {
+        identifier: identifier.twin(alloc)?,
+        sets,
+        versions: Many::new(alloc),
+    })?;
+    Ok(next)
+}
+
+fn with_set(
+    alloc: Global,
+    devices: &[Device],
+    name: &Text,
+    number: u64,
+) -> Result<Many<Device>, AllocError>
+    ensures { IfOk result (λ next. next
+        ≡ changed_where (is_device name.now) (λ e. record e { held = e.held ++ number ∷ [] }) devices.now) }
+{
+    let mut next = Many::new(alloc);
+    for device in devices {
+        let mut changed = device.twin(alloc)?;
+        if is_called(device, name) {
+            changed.held.push(number)?;
+        }
+        next.push(changed)?;
+    }
+    Ok(next)
+}
+
+fn joined(
+    alloc: Global,
+    devices: &[Device],
+    name: &Text,
+    identifier: &Text,
+    number: u64,
+) -> Result<Many<Device>, AllocError>
+    ensures { IfOk result (λ next. next
+        ≡ joined devices.now name.now identifier.now number (find (is_device name.now) devices.now)) }
+{
+    if device_named(devices, name).is_some() {
+        return with_set(alloc, devices, name, number);
+    }
+    let mut next = copies(alloc, devices)?;
+    let mut held = Many::new(alloc);
+    held.push(number)?;
+    next.push(Device {
+        name: name.twin(alloc)?,
+        account: identifier.twin(alloc)?,
+        held,
+    })?;
+    Ok(next)
+}
+
+fn with_latest(
+    alloc: Global,
+    drafts: &[Draft],
+    device: &Text,
+    uuid: &Uuid,
+    latest: &Content,
+) -> Result<Many<Draft>, AllocError>
+    ensures { IfOk result (λ next. next
+        ≡ changed_where (is_draft device.now uuid.now) (λ e. record e { latest = latest.now }) drafts.now) }
+{
+    let mut next = Many::new(alloc);
+    for draft in drafts {
+        let mut changed = draft.twin(alloc)?;
+        if is_at(draft, device, uuid) {
+            changed.latest = latest.twin(alloc)?;
+        }
+        next.push(changed)?;
+    }
+    Ok(next)
+}
+
+fn edited(
+    alloc: Global,
+    drafts: &[Draft],
+    device: &Text,
+    uuid: &Uuid,
+    kind: &Text,
+    base: Option<u64>,
+    latest: &Content,
+) -> Result<Many<Draft>, AllocError>
+    ensures { IfOk result (λ next. next ≡ edited drafts.now device.now uuid.now kind.now base latest.now
+        (find (is_draft device.now uuid.now) drafts.now)) }
+{
+    if draft_at(drafts, device, uuid).is_some() {
+        return with_latest(alloc, drafts, device, uuid, latest);
+    }
+    let mut next = copies(alloc, drafts)?;
+    next.push(Draft {
+        device: device.twin(alloc)?,
+        uuid: *uuid,
+        kind: kind.twin(alloc)?,
+        base,
+        latest: latest.twin(alloc)?,
+        posted: None,
+    })?;
+    Ok(next)
+}
+
+fn sent(alloc: Global, draft: &Draft) -> Result<Content, AllocError>
+    ensures { IfOk result (λ content. content ≡ sent_content draft.now.latest draft.now.posted) }
+{
+    match &draft.posted {
+        None => draft.latest.twin(alloc),
+        Some(posted) => posted.content.twin(alloc),
+    }
+}
+
+fn posted(alloc: Global, draft: &Draft, number: u64) -> Result<Draft, AllocError>
+    ensures { IfOk result (λ next. next ≡ posted_under number draft.now) }
+{
+    let content = sent(alloc, draft)?;
+    let mut next = draft.twin(alloc)?;
+    next.posted = Some(Posted {
+        content,
+        set: Some(number),
+    });
+    Ok(next)
+}
+
+fn with_posted(
+    alloc: Global,
+    drafts: &[Draft],
+    device: &Text,
+    uuid: &Uuid,
+    number: u64,
+) -> Result<Many<Draft>, AllocError>
+    ensures { IfOk result (λ next. next
+        ≡ changed_where (is_draft device.now uuid.now) (posted_under number) drafts.now) }
+{
+    let mut next = Many::new(alloc);
+    for draft in drafts {
+        if is_at(draft, device, uuid) {
+            next.push(posted(alloc, draft, number)?)?;
+        } else {
+            next.push(draft.twin(alloc)?)?;
+        }
+    }
+    Ok(next)
+}
+
+fn posted_drafts(
+    alloc: Global,
+    devices: &[Device],
+    drafts: &[Draft],
+    device: &Text,
+    uuid: &Uuid,
+) -> Result<Many<Draft>, AllocError>
+    ensures { IfOk result (λ next. next ≡ changed_where (is_draft device.now uuid.now)
+        (posted_under (greatest 0 (held_by (find (is_device device.now) devices.now)))) drafts.now) }
+{
+    let number = greatest_held(device_named(devices, device));
+    with_posted(alloc, drafts, device, uuid, number)
+}
+
+fn version(alloc: Global, draft: &Draft, stamp: u64, number: u64) -> Result<Version, AllocError>
+    ensures { IfOk result (λ next. next ≡ version_of stamp number draft.now) }
+{
+    let body = match sent(alloc, draft)? {
+        Content::Plain(text) => Body::Under(text, number),
+        Content::Deleted => Body::Gone,
+    };
+    Ok(Version {
+        uuid: draft.uuid,
+        stamp,
+        kind: draft.kind.twin(alloc)?,
+        body,
+    })
+}
+
+fn with_version(
+    alloc: Global,
+    accounts: &[Account],
+    account: &Account,
+    draft: &Draft,
+    stamp: u64,
+) -> Result<Many<Account>, AllocError>
+    ensures { IfOk result (λ next. next ≡ accepted accounts.now (Some account.now) (Some draft.now) stamp) }
+{
+    let number = account.sets.as_slice().len() as u64;
+    let mut next = Many::new(alloc);
+    for other in accounts {
+        let mut changed = other.twin(alloc)?;
+        if is_same_account(other, account) {
+            let version = version(alloc, draft, stamp, number)?;
+            changed.versions.push(version)?;
+        }
+        next.push(changed)?;
+    }
+    Ok(next)
+}
+
+fn accepted(
+    alloc: Global,
+    accounts: &[Account],
+    account: Option<&Account>,
+    draft: Option<&Draft>,
+    stamp: u64,
+) -> Result<Many<Account>, AllocError>
+    ensures { IfOk result (λ next. next
+        ≡ accepted accounts.now (option_copied account.entry) (option_copied draft.entry) stamp) }
+{
+    match (account, draft) {
+        (Some(account), Some(draft)) => with_version(alloc, accounts, account, draft, stamp),
+        _ => copies(alloc, accounts),
+    }
+}
+
+fn without_draft(
+    alloc: Global,
+    drafts: &[Draft],
+    device: &Text,
+    uuid: &Uuid,
+) -> Result<Many<Draft>, AllocError>
+    ensures { IfOk result (λ next. next ≡ without (is_draft device.now uuid.now) drafts.now) }
+{
+    let mut next = Many::new(alloc);
+    for draft in drafts {
+        if !is_at(draft, device, uuid) {
+            next.push(draft.twin(alloc)?)?;
+        }
+    }
+    Ok(next)
+}
+
+/// The state after a move.
+pub fn apply(alloc: Global, state: &Ideal, next: &Move) -> Result<Ideal, AllocError>
+    ensures { IfOk result (λ changed. changed ≡ after state.now next.now) }
+{
+    let mut changed = state.twin(alloc)?;
+    let devices = state.devices.as_slice();
+    let drafts = state.drafts.as_slice();
+    let accounts = state.accounts.as_slice();
+    match next {
+        Move::Register { identifier, set } => {
+            changed.accounts = registered(alloc, accounts, identifier, set)?;
+            Ok(changed)
+        }
+        Move::Join {
+            device,
+            identifier,
+            number,
+        } => {
+            changed.devices = joined(alloc, devices, device, identifier, *number)?;
+            Ok(changed)
+        }
+        Move::Edit {
+            device,
+            uuid,
+            kind,
+            base,
+            latest,
+        } => {
+            changed.drafts = edited(alloc, drafts, device, uuid, kind, *base, latest)?;
+            Ok(changed)
+        }
+        Move::Post { device, uuid } => {
+            changed.drafts = posted_drafts(alloc, devices, drafts, device, uuid)?;
+            Ok(changed)
+        }
+        Move::Accept {
+            device,
+            uuid,
+            stamp,
+            ..
+        } => {
+            let account = account_of(accounts, device_named(devices, device));
+            let draft = draft_at(drafts, device, uuid);
+            changed.accounts = accepted(alloc, accounts, account, draft, *stamp)?;
+            Ok(changed)
+        }
+        Move::Settle { device, uuid } => {
+            changed.drafts = without_draft(alloc, drafts, device, uuid)?;
+            Ok(changed)
+        }
+    }
+}

@@ -1,0 +1,19 @@
+//! The ideal account: what versions, drafts and key sets the two ends are to show, and the moves
+//! between such states.
+#![tactic(auto)]
+
+mod allowed;
+mod effects;
+pub mod ideal;
+pub mod laws;
+mod lookups;
+pub mod moves;
+mod run;
+mod twins;
+
+pub use ideal::{Account, Body, Content, Device, Draft, Ideal, Posted, Version};
+pub use moves::Move;
+pub use run::{first_illegal, step};
+
+#[cfg(test)]
+mod tests;

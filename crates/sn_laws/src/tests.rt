@@ -1,0 +1,154 @@
+//! Lists of moves with the place that the definitions refuse.
+
+use super::*;
+use sn_string::{KeySet, Many, Params, Text};
+use std::alloc::{AllocError, Global};
+use std::str::Split;
+use std::test::Fail;
+use tables::LISTS;
+use uuid::Uuid;
+
+mod tables;
+
+fn set_of(alloc: Global, identifier: &str) -> Result<KeySet, Fail> {
+    let nonce = Text::of(alloc, "6e")?;
+    let params = Params::new(Text::of(alloc, identifier)?, 1, nonce).ok_or("params")?;
+    Ok(KeySet {
+        params,
+        pw: [0; 32],
+        mk: [1; 32],
+        ak: [2; 32],
+    })
+}
+
+fn item(word: &str) -> Result<Uuid, Fail> {
+    let mut bytes = [0u8; 16];
+    bytes[15] = word.parse::<u8>()?;
+    Ok(Uuid::from_bytes(bytes))
+}
+
+fn number(word: &str) -> Result<Option<u64>, Fail> {
+    if word == "-" {
+        return Ok(None);
+    }
+    Ok(Some(word.parse::<u64>()?))
+}
+
+fn long_object(alloc: Global, length: usize) -> Result<Text, Fail> {
+    let mut text = "{\"n\":\"".to_string(alloc)?;
+    for _ in 8..length {
+        text.push('x')?;
+    }
+    text.push_str("\"}")?;
+    Ok(Text::of_string(text))
+}
+
+fn content(alloc: Global, word: &str) -> Result<Content, Fail> {
+    if word == "deleted" {
+        return Ok(Content::Deleted);
+    }
+    match word.strip_prefix("*") {
+        Some(length) => Ok(Content::Plain(long_object(alloc, length.parse::<usize>()?)?)),
+        None => Ok(Content::Plain(Text::of(alloc, word)?)),
+    }
+}
+
+fn move_of(alloc: Global, line: &str) -> Result<Move, Fail> {
+    let mut words = line.split(' ');
+    let name = words.next().ok_or("move")?;
+    let first = words.next().ok_or("first word")?;
+    if name == "register" {
+        return Ok(Move::Register {
+            identifier: Text::of(alloc, first)?,
+            set: set_of(alloc, first)?,
+        });
+    }
+    let device = Text::of(alloc, first)?;
+    let second = words.next().ok_or("second word")?;
+    let third = words.next().unwrap_or("");
+    let fourth = words.next().unwrap_or("");
+    let fifth = words.next().unwrap_or("");
+    match name {
+        "join" => Ok(Move::Join {
+            device,
+            identifier: Text::of(alloc, second)?,
+            number: third.parse::<u64>()?,
+        }),
+        "edit" => Ok(Move::Edit {
+            device,
+            uuid: item(second)?,
+            kind: Text::of(alloc, third)?,
+            base: number(fourth)?,
+            latest: content(alloc, fifth)?,
+        }),
+        "post" => Ok(Move::Post {
+            device,
+            uuid: item(second)?,
+        }),
+        "accept" => Ok(Move::Accept {
+            device,
+            uuid: item(second)?,
+            stamp: third.parse::<u64>()?,
+            under: number(fourth)?,
+        }),
+        _ => Ok(Move::Settle {
+            device,
+            uuid: item(second)?,
+        }),
+    }
+}
+
+fn moves_of(alloc: Global, line: &str) -> Result<Vec<Move>, Fail> {
+    let mut moves = Vec::new(alloc);
+    for word in line.split(';') {
+        moves.push(move_of(alloc, word)?)?;
+    }
+    Ok(moves)
+}
+
+#[test]
+fn first_illegal_places(rt: HostRuntime) -> Result<(), Fail> {
+    let none = Vec::new(rt.alloc());
+    assert_eq!(rt; first_illegal(rt.alloc(), &none)?, None);
+    for line in LISTS.lines() {
+        if line.is_empty() {
+            continue;
+        }
+        let (moves, place) = line.split_once('|').ok_or("place")?;
+        let moves = moves_of(rt.alloc(), moves)?;
+        let want = number(place)?;
+        let found = first_illegal(rt.alloc(), &moves)?;
+        assert_eq!(rt; found.map(|place| place as u64), want, "at {line}");
+    }
+    Ok(())
+}
+
+// An item put, sent, changed and accepted.
+const ACCEPTED: &str =
+    "register alice;join A alice 1;edit A 1 Note - {};post A 1;edit A 1 Note - {\"n\":2};accept A 1 1000 1";
+
+#[test]
+fn state_after_moves(rt: HostRuntime) -> Result<(), Fail> {
+    let mut state = Ideal::new(rt.alloc());
+    let moves = moves_of(rt.alloc(), ACCEPTED)?;
+    for next in &moves {
+        state = step(rt.alloc(), &state, next)?.ok_or("allowed")?;
+    }
+    let account = state.accounts.as_slice().first().ok_or("account")?;
+    assert_eq!(rt; account.identifier.as_str(), "alice");
+    assert_eq!(rt; account.sets.len(), 1);
+    assert_eq!(rt; account.versions.len(), 1);
+    let version = account.versions.as_slice().first().ok_or("version")?;
+    assert_eq!(rt; version.stamp, 1000);
+    assert_eq!(rt; version.kind.as_str(), "Note");
+    assert!(rt; matches!(&version.body, Body::Under(text, 1) if text.as_str() == "{}"));
+    let draft = state.drafts.as_slice().first().ok_or("draft")?;
+    assert_eq!(rt; draft.base, None);
+    assert!(rt; matches!(&draft.latest, Content::Plain(text) if text.as_str() == "{\"n\":2}"));
+    assert!(rt; matches!(&draft.posted, Some(posted) if posted.set == Some(1)));
+    let device = state.devices.as_slice().first().ok_or("device")?;
+    assert_eq!(rt; device.held.as_slice(), [1u64].as_slice());
+    let again = move_of(rt.alloc(), "accept A 1 1001 1")?;
+    assert!(rt; step(rt.alloc(), &state, &again)?.is_none());
+    Ok(())
+}
