@@ -16,8 +16,9 @@ import subprocess
 import sys
 import time
 
+import results
+
 HERE = pathlib.Path(__file__).resolve().parent
-RESULTS = HERE / "RESULTS.md"
 TITLE = "## Commands"
 
 UUID = "00000000-0000-4000-8000-000000000001"
@@ -138,10 +139,9 @@ def main():
         options.rounds,
     )
     lines = [TITLE, "", head, ""] + table(best, length) + [""]
-    print("\n".join(lines))
-    old = RESULTS.read_text() if RESULTS.exists() else "# Results\n"
-    before = old.split(TITLE)[0].rstrip() + "\n\n"
-    RESULTS.write_text(before + "\n".join(lines))
+    text = "\n".join(lines)
+    print(text)
+    results.put(text)
 
 
 if __name__ == "__main__":

@@ -8,13 +8,13 @@ import argparse
 import ctypes
 import datetime
 import os
-import pathlib
 import resource
 import subprocess
 import sys
 import time
 
-RESULTS = pathlib.Path(__file__).resolve().parent / "RESULTS.md"
+import results
+
 TITLE = "## The journal"
 
 # name, bytes a batch, batches
@@ -80,12 +80,7 @@ def main():
         return
     text = table(given.library, given.rounds)
     print(text)
-    # The table takes the place of the last one, before that of the commands.
-    sections = RESULTS.read_text().split("\n## ") if RESULTS.exists() else ["# Results\n"]
-    sections = [section.rstrip() + "\n" for section in sections if not section.startswith(TITLE[3:])]
-    place = next((i for i, section in enumerate(sections) if section.startswith("Commands")), len(sections))
-    sections.insert(place, text[3:])
-    RESULTS.write_text("\n## ".join(sections))
+    results.put(text)
 
 
 if __name__ == "__main__":

@@ -19,8 +19,9 @@ import subprocess
 import sys
 import time
 
+import results
+
 HERE = pathlib.Path(__file__).resolve().parent
-RESULTS = HERE / "RESULTS.md"
 
 # What OPENSSL_ia32cap switches off: bit 57 of the first word is AES, bit 41 SSSE3; bit 29 of the second is SHA.
 AES, SSSE3, SHA = 1 << 57, 1 << 41, 1 << 29
@@ -284,15 +285,6 @@ def processor():
     return "unknown processor"
 
 
-def write(section):
-    """Puts the section in the place of the one of the same heading, or at the end."""
-    heading = section.splitlines()[0]
-    text = RESULTS.read_text() if RESULTS.exists() else "# Results\n"
-    parts = text.split("\n## ")
-    rest = [part for part in parts[1:] if "## " + part.splitlines()[0] != heading]
-    RESULTS.write_text("\n## ".join([parts[0].rstrip("\n") + "\n", *rest, section[3:]]).rstrip("\n") + "\n")
-
-
 def main():
     parser = argparse.ArgumentParser()
     parser.add_argument("--library", required=True)
@@ -315,7 +307,7 @@ def main():
         f"{table(shortest)}\n"
     )
     print(section)
-    write(section)
+    results.put(section)
 
 
 main()
