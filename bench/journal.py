@@ -20,7 +20,6 @@ TITLE = "## The journal"
 # name, bytes a batch, batches
 RUNS = [
     ("1,000,000 batches of 64 bytes", 64, 1_000_000),
-    ("100,000 batches of 64 bytes", 64, 100_000),
     ("4 batches of 16 MiB", 16 << 20, 4),
 ]
 
