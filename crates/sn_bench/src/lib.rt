@@ -8,3 +8,4 @@ mod hmac;
 mod journal;
 mod pbkdf;
 mod rows;
+mod table;

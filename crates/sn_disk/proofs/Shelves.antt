@@ -1,8 +1,9 @@
 -- Disks by name.
-use Rattle.std.proofs.Common.{◌≡◌, ◌≢◌, ◌⊎◌, inl, inr, ◌<◌, ℕ, zero, suc, Bool, true, false, List, [], ◌∷◌, ◌++◌, length, set, get_or, ap, sym, ◌∙◌, refl, arith, bytes_eq, Some, None, if◌then◌else◌}
+use Rattle.std.proofs.Common.{subst, ◌≡◌, ◌≢◌, ◌⊎◌, inl, inr, ◌<◌, ◌≤◌, ℕ, zero, suc, Bool, true, false, List, [], ◌∷◌, ◌++◌, length, set, get_or, ap, sym, ◌∙◌, refl, arith, bytes_eq, Some, None, if◌then◌else◌}
 use Rattle.std.specs.declared.option.Option.{Option}
 use Rattle.std.proofs.lemmas.Slice.Eq.{bytes_eq-Decides}
-use Rattle.sn_disk.specs.Shelf.{Slot, unknown, out, holds}
+use Rattle.std.specs.Prelude.{IfSome, IfNone, OnSome}
+use Rattle.sn_disk.specs.Shelf.{Slot, unknown, out, holds, HoldsNone}
 use Rattle.sn_disk.specs.Names.{place_in, slot_of, slot_in}
 
 two : (b : Bool) → (b ≡ true) ⊎ (b ≡ false)
@@ -112,3 +113,22 @@ module _ {D : Type 0} where
 
   pub at_held : (names : List (List ℕ)) (disks : List (Option D)) (name : List ℕ) (at : ℕ) (d : Option D) → length names ≡ length disks → at ≡ place_in names name → at < length disks → slot_in names disks name ≡ slot_of (get_or disks at d)
   at_held names disks name at d paired is less = slot_at names disks name d paired (omega (arith, is, less, paired)) ∙ ap (λ (k : ℕ). slot_of (get_or disks k d)) (sym is)
+
+  -- what was taken of a place, by what stood there
+  pub taken_of : (slot : Slot D) (found : Option D) → slot ≡ slot_of found → IfSome found (λ disk. slot ≡ holds disk)
+  taken_of slot None is = tt
+  taken_of slot (Some disk) is = is
+
+  pub none_of : (slot : Slot D) (found : Option D) → slot ≡ slot_of found → IfNone found (HoldsNone slot)
+  none_of slot None is = subst (λ (s : Slot D). HoldsNone s) (sym is) tt
+  none_of slot (Some disk) is = tt
+
+  pub out_of : (slot : Slot D) (found : Option D) → slot ≡ out → OnSome found (slot ≡ out)
+  out_of slot None is = tt
+  out_of slot (Some disk) is = is
+
+  pub absent_none : (names : List (List ℕ)) (disks : List (Option D)) (name : List ℕ) (at : ℕ) → length names ≡ length disks → at ≡ place_in names name → length disks ≤ at → HoldsNone (slot_in names disks name)
+  absent_none names disks name at paired is more = elim (place_within names name) [
+    | inl less ↦ absurd (omega (arith, less, paired, is, more))
+    | inr same ↦ subst (λ (s : Slot D). HoldsNone s) (sym (slot_absent names disks name paired same)) tt
+  ]

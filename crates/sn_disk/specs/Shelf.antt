@@ -1,7 +1,14 @@
 -- What stands under a name of a shelf.
+use Rattle.std.specs.Prelude.{⊤}
 
 -- no disk, a disk that was taken and is to be given back, or this disk
 pub data Slot (D : Type 0) : Type 0 where
   unknown : Slot D
   out : Slot D
   holds : D → Slot D
+
+-- no disk stands there: there was none, or it was taken
+abbrev pub HoldsNone : {D : Type 0} → Slot D → Type 0
+HoldsNone unknown = ⊤
+HoldsNone out = ⊤
+HoldsNone (holds disk) = ⊥

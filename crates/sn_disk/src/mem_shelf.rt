@@ -1,14 +1,15 @@
 // A shelf of disks in memory.
-ghost use Rattle.std.specs.Prelude.{◌≡◌, ◌≢◌, List, ℕ, length, map, string_bytes, OnOk, OnErr};
+ghost use Rattle.std.specs.Prelude.{◌≡◌, ◌≢◌, ◌≤◌, List, ℕ, length, map, string_bytes, IfSome, OnSome, IfNone, IfOk, OnOk, OnErr};
+ghost use Rattle.sn_io.specs.Causes.{HasCause};
 ghost use Rattle.sn_io.specs.FaultPlan.{fresh};
-ghost use Rattle.sn_disk.specs.Shelf.{unknown, out, holds};
+ghost use Rattle.sn_disk.specs.Shelf.{unknown, out, holds, HoldsNone};
 ghost use Rattle.sn_disk.specs.Names.{place_in};
 
 use crate::{MemDisk, Shelf};
 use sn_io::{Failed, FaultPlan};
 use std::alloc::{AllocError, Global};
 
-/// Disks in memory by name. Taking fails where the call is listed, and where no disk stands under the name.
+/// Disks in memory by name. Taking fails just where the call is listed, and where no disk stands under the name.
 #[derive(Debug, Drop)]
 pub struct MemShelf {
     names: Vec<String>,
@@ -46,10 +47,27 @@ impl MemShelf {
         self.disks.push_reserved(Some(disk));
         Ok(())
     }
+
+    // Takes the disk of this name out, where one stands there.
+    fn take_out(&mut self, name: &str) -> Option<MemDisk>
+        ensures taken { IfSome result (λ disk. shelf_slot self.old name.now ≡ holds disk) }
+        ensures out { OnSome result (shelf_slot self.new name.now ≡ out) }
+        ensures none { IfNone result (HoldsNone (shelf_slot self.old name.now)) }
+        ensures stays { IfNone result (shelf_slot self.new name.now ≡ shelf_slot self.old name.now) }
+        ensures others { (other : List ℕ) → other ≢ name.now → shelf_slot self.new other ≡ shelf_slot self.old other }
+        ensures plan { shelf_plan self.new ≡ shelf_plan self.old }
+    {
+        let at = place_of(&self.names, name);
+        if at < self.disks.len() {
+            self.disks[at].take()
+        } else {
+            None
+        }
+    }
 }
 
 impl Shelf for MemShelf {
-    ghost use Rattle.sn_disk.specs.MemShelf.{shelf_slot};
+    ghost use Rattle.sn_disk.specs.MemShelf.{shelf_slot, TakeEnds};
 
     type D = MemDisk;
 
@@ -65,16 +83,18 @@ impl Shelf for MemShelf {
         self.plan.faults()
     }
 
-    fn take(&mut self, name: &str) -> Result<MemDisk, Failed> {
+    fn take(&mut self, name: &str) -> Result<MemDisk, Failed>
+        ensures taken { Unit {0} → IfOk result (λ disk. shelf_slot self.old name.now ≡ holds disk) }
+        ensures out { Unit {0} → OnOk result (shelf_slot self.new name.now ≡ out) }
+        ensures others { Unit {0} → (other : List ℕ) → other ≢ name.now → shelf_slot self.new other ≡ shelf_slot self.old other }
+        ensures stays { Unit {0} → OnErr result (shelf_slot self.new name.now ≡ shelf_slot self.old name.now) }
+        ensures cause { HasCause self.old.plan.faults self.new.plan.faults result }
+        ensures ends { TakeEnds name.now self.old self.new result }
+    {
         self.plan.begin()?;
-        let at = place_of(&self.names, name);
-        if at < self.disks.len() {
-            match self.disks[at].take() {
-                Some(disk) => Ok(disk),
-                None => Err(self.plan.fail()),
-            }
-        } else {
-            Err(self.plan.fail())
+        match self.take_out(name) {
+            Some(disk) => Ok(disk),
+            None => Err(self.plan.fail()),
         }
     }
 

@@ -1,21 +1,26 @@
 -- The rows of one kind among all entries.
-use Rattle.std.proofs.Common.{◌≡◌, Bool, true, false, List, [], ◌∷◌, ◌++◌, Option, Some, None, refl, sym, ap, subst, ◌∙◌, ⊎_elim, arith, eq-eqb}
-use Rattle.std.specs.Prelude.{◌==◌, if◌then◌else◌}
-use Rattle.std.specs.List.{flat_map, Contains, AllByRecursion}
+use Rattle.std.proofs.Common.{◌≡◌, Bool, true, false, List, [], ◌∷◌, ◌++◌, Option, Some, None, refl, sym, ap, subst, ◌∙◌, ⊎_elim, inl, inr, arith, eq-eqb}
+use Rattle.std.specs.Prelude.{◌==◌, ◌^◌, ◌-◌, ℕ, cond, if◌then◌else◌}
+use Rattle.std.specs.List.{flat_map, filter, Contains, AllByRecursion}
 use Rattle.std.specs.List.Sorted.{IsStrictlySortedBy}
 use Rattle.std.specs.Map.{keys_of}
 use Rattle.std.specs.BTreeMap as tree
+use Rattle.std.specs.BTreeMap.Range.{IsInRange, range_contains, entries_between}
+use Rattle.std.specs.declared.ops.Bound.{Bound}
+use Rattle.std.specs.declared.ops.Bound.TheVariants.{Included, Excluded, Unbounded}
 use Rattle.std.specs.Option.{option_and_then}
 use Rattle.std.specs.Ordering.{is_eq}
 use Rattle.std.specs.declared.cmp.Ordering.TheVariants.{Less}
-use Rattle.std.proofs.lemmas.Bool.{eqb-true}
+use Rattle.std.proofs.lemmas.Bool.{cases_Bool, eqb-true}
 use Rattle.std.proofs.lemmas.List.Elements.{Contains-append_cases, Contains-append_left, Contains-append_right, Contains-push_cases, Contains-push}
 use Rattle.std.proofs.lemmas.Map.Keys.{sorted_head, sorted_tail}
 use Rattle.std.proofs.lemmas.Map.Lookups.{CmpEqualImpliesEq}
-use Rattle.std.proofs.lemmas.Map.Views.{btree_map_get_iff}
+use Rattle.std.proofs.lemmas.Map.Views.{btree_map_get_iff, range_contains-from_IsInRange}
 use Rattle.sn_rows.specs.Kinds.{key_kind, kind_number, kind_of_number}
 use Rattle.sn_rows.specs.contracts.key.KeyOrd.TheImpl.Laws.{total-law}
 use Rattle.sn_rows.specs.declared.key.Key.{Key}
+use Rattle.sn_rows.specs.declared.key.Key.TheVariants as key
+use Rattle.sn_rows.specs.declared.key.Slot.TheVariants.{Asked}
 use Rattle.sn_rows.specs.declared.kind.RowKind.{RowKind}
 use Rattle.sn_rows.specs.declared.kind.RowKind.TheVariants.{Store, Account, Generation, Item, Owner, Set, Local}
 use Rattle.sn_rows.specs.declared.value.Value.{Value}
@@ -127,3 +132,62 @@ ranges m kind rows ordered is = subst (AreRowsOf m kind) (sym is) record {
     λ h. into_part kind m.entries.entries key value h.0 ((btree_map_get_iff total-law exact m.entries ordered key (Some value)).0 (inner_some (tree.get key_cmp m.entries key) value h.1)),
   );
 }
+
+-- bounds of a kind, the least uuid given
+abbrev lower : RowKind → Bound Key
+lower Store = Included key.Store
+lower Account = Excluded key.Store
+lower Generation = Excluded (key.Account (2 ^ 64 - 1))
+lower Item = Excluded (key.Generation (2 ^ 64 - 1) (2 ^ 64 - 1))
+lower Owner = Included key.Owner
+lower Set = Excluded key.Owner
+lower Local = Excluded (key.Set Asked)
+
+abbrev upper : List ℕ → RowKind → Bound Key
+upper least Store = Included key.Store
+upper least Account = Excluded (key.Generation 0 0)
+upper least Generation = Excluded (key.Item least)
+upper least Item = Excluded key.Owner
+upper least Owner = Included key.Owner
+upper least Set = Excluded (key.Local 0)
+upper least Local = Unbounded
+
+between_own : (least : List ℕ) (key : Key) → IsInRange key_cmp (lower (key_kind key)) (upper least (key_kind key)) key
+between_own least key.Store = (refl, refl)
+between_own least (key.Account n) = (refl, refl)
+between_own least (key.Generation n g) = (refl, refl)
+between_own least (key.Item u) = (refl, refl)
+between_own least key.Owner = (refl, refl)
+between_own least (key.Set s) = (refl, refl)
+between_own least (key.Local n) = (refl, tt)
+
+-- a key of a kind lies between the bounds of the kind
+pub between : (least : List ℕ) (kind : RowKind) (key : Key) → key_kind key ≡ kind → IsInRange key_cmp (lower kind) (upper least kind) key
+between least kind key is = subst (λ (k : RowKind). IsInRange key_cmp (lower k) (upper least k) key) is (between_own least key)
+
+never_both : (b : Bool) → b ≡ true → b ≡ false → ⊥
+never_both b t f = absurd cc
+
+-- an entry whose key doesn't pass a test that all keys of the kind pass
+outside : (test : Key → Bool) (kind : RowKind) → ((key : Key) → key_kind key ≡ kind → test key ≡ true) → (e : Key × Option Value) → test e.0 ≡ false → row_of_kind kind e ≡ []
+outside test kind passes (key, None) fails = refl
+outside test kind passes (key, Some value) fails = elim (cases_Bool (kind_number (key_kind key) == kind_number kind)) [
+  | inl same ↦ absurd (never_both (test key) (passes key (same_kind (key_kind key) kind (eqb-true (kind_number (key_kind key)) (kind_number kind) same))) fails)
+  | inr other ↦ ap (λ (b : Bool). if b then (key, value) ∷ [] else []) other
+]
+
+kept_one : (b : Bool) (kind : RowKind) (e : Key × Option Value) (rest all : List (Key × Option Value)) → (b ≡ false → row_of_kind kind e ≡ []) → flat_map (row_of_kind kind) rest ≡ flat_map (row_of_kind kind) all
+    → flat_map (row_of_kind kind) (cond b (e ∷ rest) rest) ≡ flat_map (row_of_kind kind) (e ∷ all)
+kept_one true kind e rest all out same = ap (λ (l : List (Key × Value)). row_of_kind kind e ++ l) same
+kept_one false kind e rest all out same = same ∙ sym (ap (λ (l : List (Key × Value)). l ++ flat_map (row_of_kind kind) all) (out refl))
+
+kept : (test : Key → Bool) (kind : RowKind) → ((key : Key) → key_kind key ≡ kind → test key ≡ true) → (es : List (Key × Option Value)) → flat_map (row_of_kind kind) (filter (λ e. test e.0) es) ≡ flat_map (row_of_kind kind) es
+kept test kind passes [] = refl
+kept test kind passes (e ∷ es) = kept_one (test e.0) kind e (filter (λ e. test e.0) es) es (outside test kind passes e) (kept test kind passes es)
+
+-- the same of the entries between two bounds that have the keys of the kind between them
+pub ranges_between : (m : RowMap) (kind : RowKind) (rows : List (Key × Value)) (lo hi : Bound Key) → tree.IsOrdered key_cmp m.entries
+    → ((key : Key) → key_kind key ≡ kind → IsInRange key_cmp lo hi key)
+    → rows ≡ flat_map (row_of_kind kind) (entries_between key_cmp lo hi m.entries.entries) → AreRowsOf m kind rows
+ranges_between m kind rows lo hi ordered inside is =
+    ranges m kind rows ordered (is ∙ kept (range_contains key_cmp lo hi) kind (λ key of. range_contains-from_IsInRange total-law lo hi key (inside key of)) m.entries.entries)

@@ -1,17 +1,23 @@
 //! Rows in memory, by key.
 
 ghost use Rattle.std.specs.Prelude.{◌≡◌, ◌↔◌, ◌++◌, ◌==◌, None, List, All, OnOk, OnErr, IfOk, IsOk, IsTrue, length, map, if◌then◌else◌};
+ghost use Rattle.std.specs.BTreeMap.Range.{IsInRange, IsLeBy, IsLtBy};
 ghost use Rattle.std.specs.Option.{option_copied};
+ghost use Rattle.std.specs.Range.Bound.{IsForward};
 ghost use Rattle.sn_rows.specs.Table.{same_key, key_of, changed, row_after};
 ghost use Rattle.sn_rows.specs.declared.key.Key.{Key};
 ghost use Rattle.sn_rows.specs.Kinds.{key_kind, kind_number};
+ghost use Rattle.sn_table.specs.Keys.{key_cmp};
 ghost use Rattle.sn_table.specs.Ranges.{row_of_kind, AreRowsOf};
 ghost use Rattle.sn_table.specs.RowMaps.{FitsIn, HasRoom, IsSwept, KeepsRoom, SameRows, row_in};
 
-use sn_rows::{Change, Key, RowKind, Value};
+use sn_rows::{Change, Key, RowKind, Slot, Value};
 use sn_string::{Many, Twin};
 use std::alloc::{AllocError, Global};
 use std::collections::BTreeMap;
+use std::ops::Bound;
+use std::ops::Bound::{Excluded, Included, Unbounded};
+use uuid::Uuid;
 
 /// Rows by key. A key may have room and no row, so that a row can be set without taking memory.
 #[derive(Drop)]
@@ -41,12 +47,12 @@ impl RowMap {
         }
     }
 
-    /// The rows of a kind, in the order of their keys.
+    /// The rows of a kind, in the order of their keys. The values are copied; beside that the time is logarithmic.
     pub fn range(&self, alloc: Global, kind: RowKind) -> Result<Many<(Key, Value)>, AllocError>
         ensures { IfOk result (AreRowsOf self.now kind) }
     {
         let mut rows = Many::new(alloc);
-        'entries: for (key, found) in self.entries.iter() {
+        'entries: for (key, found) in self.entries.range(bounds_of(kind)) {
             push_row_of(alloc, &mut rows, kind, key, found)?;
         }
         Ok(rows)
@@ -203,6 +209,29 @@ impl RowMap {
             return;
         }
         self.remove(key);
+    }
+}
+
+// Bounds that have the keys of a kind between them. Kinds follow one another in the order of keys, so no key of a row of
+// another kind lies there: the greatest number of an account and the least uuid stand outside.
+fn bounds_of(kind: RowKind) -> (Bound<Key>, Bound<Key>)
+    ensures forward { IsForward (IsLeBy key_cmp) (IsLtBy key_cmp) result.0 result.1 }
+    ensures whole { (key : Key) → key_kind key ≡ kind → IsInRange key_cmp result.0 result.1 key }
+{
+    match kind {
+        RowKind::Store => (Included(Key::Store), Included(Key::Store)),
+        RowKind::Account => (Excluded(Key::Store), Excluded(Key::Generation(0, 0))),
+        RowKind::Generation => {
+            let least = Key::Item(Uuid::nil());
+            (Excluded(Key::Account(u64::MAX)), Excluded(least))
+        }
+        RowKind::Item => {
+            let greatest = Key::Generation(u64::MAX, u64::MAX);
+            (Excluded(greatest), Excluded(Key::Owner))
+        }
+        RowKind::Owner => (Included(Key::Owner), Included(Key::Owner)),
+        RowKind::Set => (Excluded(Key::Owner), Excluded(Key::Local(0))),
+        RowKind::Local => (Excluded(Key::Set(Slot::Asked)), Unbounded),
     }
 }
 
