@@ -78,7 +78,7 @@ impl<D: Disk> Table<D> {
         self.rows.get(key)
     }
 
-    /// The rows of a kind, in the order of their keys. The values are copied.
+    /// The rows of a kind, in the order of their keys. The values are copied; beside that the time is logarithmic.
     pub fn range(&self, kind: RowKind) -> Result<Many<(Key, Value)>, AllocError>
         ensures { IfOk result (AreRowsOf self.now.rows kind) }
     {

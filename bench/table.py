@@ -1,0 +1,269 @@
+#!/usr/bin/env python3
+"""Times a server's table of rows on a disk in memory, beside sqlite3 in memory and Python's own dict and sorted list.
+
+Each number of rows has a process of its own. What is timed is the difference of two calls that load the same file, so
+that the loading isn't in it; the shortest of each counts.
+"""
+
+import argparse
+import bisect
+import ctypes
+import datetime
+import json
+import os
+import random
+import resource
+import sqlite3
+import struct
+import subprocess
+import sys
+import time
+
+import results
+
+TITLE = "## The table"
+
+SIZES = [1_000, 100_000, 1_000_000]
+BATCH = 1_000
+LOOKUPS = 1_000_000
+CHANGES = 200_000
+STORE, ACCOUNT, GENERATION, ITEM = 1, 2, 3, 4
+
+drawn = random.Random(20261127)
+
+
+def counted(text):
+    return struct.pack(">I", len(text)) + text
+
+
+def put(kind, key, value):
+    return bytes((1, kind)) + counted(key) + counted(value)
+
+
+def item_value(account):
+    """The value of an item whose two strings together have 160 bytes."""
+    content = drawn.randbytes(50).hex().encode()
+    key = drawn.randbytes(30).hex().encode()
+    stamps = struct.pack(">QQB", 1_700_000_000_000_000, 1_700_000_000_000_000 + drawn.randrange(10**9), 0)
+    return struct.pack(">Q", account) + counted(b"Note") + stamps + counted(content) + counted(key)
+
+
+def rows_of(count):
+    """One store, an account in a hundred rows, two generations to each, and items."""
+    accounts = count // 100
+    rows = [(STORE, b"", drawn.randbytes(32) + struct.pack(">QQ", 1_700_000_000_000_000, accounts))]
+    for account in range(1, accounts + 1):
+        number = struct.pack(">Q", account)
+        identifier = counted(b"user%d@example.org" % account)
+        rows.append((ACCOUNT, number, identifier + struct.pack(">Q", 2) + drawn.randbytes(32)))
+        for generation in (1, 2):
+            cost_and_nonce = struct.pack(">I", 110_000) + counted(drawn.randbytes(32).hex().encode())
+            rows.append((GENERATION, number + struct.pack(">Q", generation), cost_and_nonce))
+    while len(rows) < count:
+        rows.append((ITEM, drawn.randbytes(16), item_value(drawn.randint(1, accounts))))
+    drawn.shuffle(rows)
+    return rows
+
+
+def file_of(rows):
+    """The journal of these rows, in batches."""
+    parts = [b"SNSYNC-JOURNALS1"]
+    for first in range(0, len(rows), BATCH):
+        payload = b"".join(put(*row) for row in rows[first : first + BATCH])
+        parts += [b"\x01", counted(payload)]
+    return b"".join(parts) + b"\0"
+
+
+class Proved:
+    """The proved table, each call of which loads the file first."""
+
+    def __init__(self, path, file, rounds):
+        self.library = ctypes.CDLL(path)
+        self.file = file
+        self.rounds = rounds
+
+    def call(self, name, wanted, *given):
+        """The shortest time of a call. Ends where an answer isn't as it should be."""
+        function = getattr(self.library, name)
+        function.restype = ctypes.c_uint64
+        least = None
+        for _ in range(self.rounds):
+            begun = time.perf_counter()
+            answer = function(self.file, ctypes.c_size_t(len(self.file)), *given)
+            took = time.perf_counter() - begun
+            if answer != wanted:
+                sys.exit(f"{name} answered {answer}, wanted {wanted}")
+            least = took if least is None else min(least, took)
+        return least
+
+    def load(self):
+        once, thrice = (self.call("sn_bench_load_table", loads, ctypes.c_uint64(loads)) for loads in (1, 3))
+        return (thrice - once) / 2
+
+    def get(self, uuids, rounds):
+        """Seconds of one look-up."""
+        count = len(uuids) // 16
+        size = ctypes.c_size_t(len(uuids))
+        none, all_of = (
+            self.call("sn_bench_get_rows", count * n, uuids, size, ctypes.c_uint64(n)) for n in (0, rounds)
+        )
+        return (all_of - none) / (count * rounds)
+
+    def range(self, kind, rows, ranges):
+        """Seconds of one range, which has so many rows."""
+        none, all_of = (
+            self.call("sn_bench_range_rows", rows * n, ctypes.c_ubyte(kind), ctypes.c_uint64(n)) for n in (0, ranges)
+        )
+        return (all_of - none) / ranges
+
+    def commit(self, payload, size, commits):
+        """Seconds of one commit of so many changes. The first commit, at which the disk's memory grows, is left out."""
+        given = (payload, ctypes.c_size_t(len(payload)), ctypes.c_uint64(size))
+        once, all_of = (self.call("sn_bench_commit_rows", n, *given, ctypes.c_uint64(n)) for n in (1, commits))
+        return (all_of - once) / (commits - 1)
+
+
+def seconds_of(function):
+    begun = time.perf_counter()
+    function()
+    return time.perf_counter() - begun
+
+
+class Sqlite:
+    """A table in sqlite3's memory, as it comes."""
+
+    UPSERT = "INSERT OR REPLACE INTO rows VALUES (?, ?, ?)"
+
+    def __init__(self, rows):
+        self.store = sqlite3.connect(":memory:", isolation_level=None)
+        self.store.execute("CREATE TABLE rows (kind INTEGER, key BLOB, value BLOB, PRIMARY KEY (kind, key)) WITHOUT ROWID")
+        self.load = seconds_of(lambda: self.commit_all(rows, len(rows)))
+
+    def commit_all(self, rows, size):
+        for first in range(0, len(rows), size):
+            self.store.execute("BEGIN")
+            self.store.executemany(self.UPSERT, rows[first : first + size])
+            self.store.execute("COMMIT")
+
+    def get(self, uuids):
+        execute = self.store.execute
+        query = "SELECT value FROM rows WHERE kind = 4 AND key = ?"
+        return seconds_of(lambda: [execute(query, (uuid,)).fetchone() for uuid in uuids]) / len(uuids)
+
+    def range(self, kind, ranges):
+        query = "SELECT key, value FROM rows WHERE kind = ? ORDER BY key"
+        return seconds_of(lambda: [self.store.execute(query, (kind,)).fetchall() for _ in range(ranges)]) / ranges
+
+    def commit(self, changes, size):
+        return seconds_of(lambda: self.commit_all(changes, size)) / (len(changes) // size)
+
+
+def own_get(rows, uuids):
+    """Seconds of one look-up in a dict, and of one in a sorted list."""
+    values = {key: value for kind, key, value in rows if kind == ITEM}
+    keys = sorted(values)
+    by_dict = seconds_of(lambda: [values[uuid] for uuid in uuids]) / len(uuids)
+    place_of = bisect.bisect_left
+    by_list = seconds_of(lambda: [keys[place_of(keys, uuid)] == uuid for uuid in uuids]) / len(uuids)
+    return by_dict, by_list
+
+
+def peak():
+    return resource.getrusage(resource.RUSAGE_SELF).ru_maxrss / 1024
+
+
+def measure(path, count, rounds):
+    """All figures of a table of so many rows, in seconds and MiB."""
+    rows = rows_of(count)
+    file = file_of(rows)
+    uuids = [key for kind, key, _ in rows if kind == ITEM]
+    asked = drawn.choices(uuids, k=LOOKUPS)
+    changes = [(ITEM, uuid, item_value(1)) for uuid in drawn.choices(uuids, k=CHANGES)]
+    payload = b"".join(put(*change) for change in changes)
+    accounts = count // 100
+    before = peak()
+    proved = Proved(path, file, rounds)
+    figures = {"rows": count, "bytes": len(file), "load": proved.load(), "peak": peak() - before}
+    figures["get"] = proved.get(b"".join(asked), 3)
+    figures["store"] = proved.range(STORE, 1, 2_000_000)
+    figures["accounts"] = proved.range(ACCOUNT, accounts, 4_000_000 // accounts)
+    figures["commit_one"] = proved.commit(payload, 1, CHANGES)
+    figures["commit_many"] = proved.commit(payload, BATCH, CHANGES // BATCH)
+    sqlite = Sqlite(rows)
+    figures["sqlite"] = {
+        "load": sqlite.load,
+        "get": sqlite.get(asked[: LOOKUPS // 5]),
+        "store": sqlite.range(STORE, 100_000),
+        "accounts": sqlite.range(ACCOUNT, max(1, 400_000 // accounts)),
+        "commit_one": sqlite.commit(changes[: CHANGES // 4], 1),
+        "commit_many": sqlite.commit(changes, BATCH),
+    }
+    figures["dict"], figures["list"] = own_get(rows, asked)
+    return figures
+
+
+def run(path, count, rounds):
+    command = [sys.executable, __file__, "--library", path, "--rounds", str(rounds), "--worker", str(count)]
+    return json.loads(subprocess.run(command, check=True, stdout=subprocess.PIPE, text=True).stdout)
+
+
+def time_of(seconds):
+    for unit, size in (("s", 1), ("ms", 1e-3), ("us", 1e-6)):
+        if seconds >= size:
+            return f"{seconds / size:.2f} {unit}"
+    return f"{seconds * 1e9:.0f} ns"
+
+
+# name, and what of the figures it is
+LINES = [
+    ("load", "load"),
+    ("get an item", "get"),
+    ("range of one row, the store", "store"),
+    ("range of the accounts, one in a hundred rows", "accounts"),
+    ("commit of 1 change", "commit_one"),
+    ("commit of 1,000 changes", "commit_many"),
+]
+
+
+def table(path, rounds):
+    figures = [run(path, count, rounds) for count in SIZES]
+    now = datetime.datetime.now(datetime.timezone.utc).strftime("%Y-%m-%d %H:%M")
+    sizes = " | ".join(f"{count:,} rows" for count in SIZES)
+    peaks = ", ".join(f"{size['peak']:.0f} MiB at {size['rows']:,} ({size['bytes'] / 1e6:.1f} MB)" for size in figures)
+    lines = [
+        TITLE,
+        "",
+        f"A server's table on a disk in memory, {now} UTC, Python {sys.version.split()[0]}, SQLite {sqlite3.sqlite_version}, "
+        f"load average {os.getloadavg()[0]:.1f}, the least of {rounds} rounds; the others are timed once. A thousand rows "
+        "are one batch. Beside the file's bytes and the record of what was written, which the disk in memory keeps, a "
+        f"load's peak has the file read, its payloads and the rows: {peaks}.",
+        "",
+        f"| what | {sizes} |",
+        "|---|" + "---|" * len(SIZES),
+    ]
+    for name, figure in LINES:
+        lines.append(f"| {name} | " + " | ".join(time_of(size[figure]) for size in figures) + " |")
+        lines.append("| the same by sqlite3 | " + " | ".join(time_of(size["sqlite"][figure]) for size in figures) + " |")
+        if figure == "get":
+            for other in ("dict", "list"):
+                named = "a `dict`" if other == "dict" else "`bisect` in a sorted list"
+                lines.append(f"| the same by Python, {named} | " + " | ".join(time_of(size[other]) for size in figures) + " |")
+    return "\n".join(lines) + "\n"
+
+
+def main():
+    options = argparse.ArgumentParser(description=__doc__)
+    options.add_argument("--library", required=True)
+    options.add_argument("--rounds", type=int, default=3)
+    options.add_argument("--worker", type=int)
+    given = options.parse_args()
+    if given.worker:
+        print(json.dumps(measure(given.library, given.worker, given.rounds)))
+        return
+    text = table(given.library, given.rounds)
+    print(text)
+    results.put(text)
+
+
+if __name__ == "__main__":
+    main()
