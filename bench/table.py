@@ -2,7 +2,7 @@
 """Times a server's table of rows on a disk in memory, beside sqlite3 in memory and Python's own dict and sorted list.
 
 Each number of rows has a process of its own. What is timed is the difference of two calls that load the same file, so
-that the loading isn't in it; the shortest of each counts.
+that the loading isn't in it; the shortest of each counts. Times are of the processor, and not by the clock.
 """
 
 import argparse
@@ -12,7 +12,6 @@ import datetime
 import json
 import os
 import random
-import resource
 import sqlite3
 import struct
 import subprocess
@@ -81,6 +80,7 @@ class Proved:
         self.library = ctypes.CDLL(path)
         self.file = file
         self.rounds = rounds
+        self.once = self.load_once()
 
     def call(self, name, wanted, *given):
         """The shortest time of a call. Ends where an answer isn't as it should be."""
@@ -88,45 +88,49 @@ class Proved:
         function.restype = ctypes.c_uint64
         least = None
         for _ in range(self.rounds):
-            begun = time.perf_counter()
+            begun = time.thread_time()
             answer = function(self.file, ctypes.c_size_t(len(self.file)), *given)
-            took = time.perf_counter() - begun
+            took = time.thread_time() - begun
             if answer != wanted:
                 sys.exit(f"{name} answered {answer}, wanted {wanted}")
             least = took if least is None else min(least, took)
         return least
 
+    def load_once(self):
+        return self.call("sn_bench_load_table", 1, ctypes.c_uint64(1))
+
     def load(self):
-        once, thrice = (self.call("sn_bench_load_table", loads, ctypes.c_uint64(loads)) for loads in (1, 3))
-        return (thrice - once) / 2
+        """Seconds of one loading, by what two more take."""
+        return (self.call("sn_bench_load_table", 3, ctypes.c_uint64(3)) - self.once) / 2
 
     def get(self, uuids, rounds):
         """Seconds of one look-up."""
-        count = len(uuids) // 16
-        size = ctypes.c_size_t(len(uuids))
-        none, all_of = (
-            self.call("sn_bench_get_rows", count * n, uuids, size, ctypes.c_uint64(n)) for n in (0, rounds)
-        )
-        return (all_of - none) / (count * rounds)
+        count = len(uuids) // 16 * rounds
+        took = self.call("sn_bench_get_rows", count, uuids, ctypes.c_size_t(len(uuids)), ctypes.c_uint64(rounds))
+        return (took - self.once) / count
 
     def range(self, kind, rows, ranges):
         """Seconds of one range, which has so many rows."""
-        none, all_of = (
-            self.call("sn_bench_range_rows", rows * n, ctypes.c_ubyte(kind), ctypes.c_uint64(n)) for n in (0, ranges)
-        )
-        return (all_of - none) / ranges
+        took = self.call("sn_bench_range_rows", rows * ranges, ctypes.c_ubyte(kind), ctypes.c_uint64(ranges))
+        return (took - self.once) / ranges
 
-    def commit(self, payload, size, commits):
-        """Seconds of one commit of so many changes. The first commit, at which the disk's memory grows, is left out."""
-        given = (payload, ctypes.c_size_t(len(payload)), ctypes.c_uint64(size))
-        once, all_of = (self.call("sn_bench_commit_rows", n, *given, ctypes.c_uint64(n)) for n in (1, commits))
-        return (all_of - once) / (commits - 1)
+    def commits(self, payload, count):
+        """Seconds of one commit of 1 change, and of one of a thousand, by commits of so many changes in all.
+
+        The first commit, at which the disk's memory grows, is left out.
+        """
+        size = ctypes.c_size_t(len(payload))
+        first, ones, many = (
+            self.call("sn_bench_commit_rows", n, payload, size, ctypes.c_uint64(changes), ctypes.c_uint64(n))
+            for changes, n in ((1, 1), (1, count), (BATCH, count // BATCH))
+        )
+        return (ones - first) / (count - 1), (many - first) / (count - 1) * BATCH
 
 
 def seconds_of(function):
-    begun = time.perf_counter()
+    begun = time.thread_time()
     function()
-    return time.perf_counter() - begun
+    return time.thread_time() - begun
 
 
 class Sqlite:
@@ -168,8 +172,19 @@ def own_get(rows, uuids):
     return by_dict, by_list
 
 
-def peak():
-    return resource.getrusage(resource.RUSAGE_SELF).ru_maxrss / 1024
+def memory_of(name):
+    """A figure of the process's memory, in MiB."""
+    with open("/proc/self/status") as status:
+        return int(next(line for line in status if line.startswith(name)).split()[1]) / 1024
+
+
+def added_peak(function):
+    """What a call adds to the memory of the process at its peak, in MiB."""
+    with open("/proc/self/clear_refs", "w") as peak:
+        peak.write("5")
+    before = memory_of("VmRSS")
+    function()
+    return memory_of("VmHWM") - before
 
 
 def measure(path, count, rounds):
@@ -181,20 +196,18 @@ def measure(path, count, rounds):
     changes = [(ITEM, uuid, item_value(1)) for uuid in drawn.choices(uuids, k=CHANGES)]
     payload = b"".join(put(*change) for change in changes)
     accounts = count // 100
-    before = peak()
     proved = Proved(path, file, rounds)
-    figures = {"rows": count, "bytes": len(file), "load": proved.load(), "peak": peak() - before}
-    figures["get"] = proved.get(b"".join(asked), 3)
+    figures = {"rows": count, "bytes": len(file), "load": proved.load(), "peak": added_peak(proved.load_once)}
+    figures["get"] = proved.get(b"".join(asked), 2)
     figures["store"] = proved.range(STORE, 1, 2_000_000)
     figures["accounts"] = proved.range(ACCOUNT, accounts, 4_000_000 // accounts)
-    figures["commit_one"] = proved.commit(payload, 1, CHANGES)
-    figures["commit_many"] = proved.commit(payload, BATCH, CHANGES // BATCH)
+    figures["commit_one"], figures["commit_many"] = proved.commits(payload, CHANGES)
     sqlite = Sqlite(rows)
     figures["sqlite"] = {
         "load": sqlite.load,
-        "get": sqlite.get(asked[: LOOKUPS // 5]),
-        "store": sqlite.range(STORE, 100_000),
-        "accounts": sqlite.range(ACCOUNT, max(1, 400_000 // accounts)),
+        "get": sqlite.get(asked[: LOOKUPS // 10]),
+        "store": sqlite.range(STORE, 50_000),
+        "accounts": sqlite.range(ACCOUNT, max(1, 200_000 // accounts)),
         "commit_one": sqlite.commit(changes[: CHANGES // 4], 1),
         "commit_many": sqlite.commit(changes, BATCH),
     }
@@ -225,18 +238,17 @@ LINES = [
 ]
 
 
-def table(path, rounds):
-    figures = [run(path, count, rounds) for count in SIZES]
+def section(figures, rounds):
     now = datetime.datetime.now(datetime.timezone.utc).strftime("%Y-%m-%d %H:%M")
     sizes = " | ".join(f"{count:,} rows" for count in SIZES)
-    peaks = ", ".join(f"{size['peak']:.0f} MiB at {size['rows']:,} ({size['bytes'] / 1e6:.1f} MB)" for size in figures)
+    peaks = ", ".join(f"{size['peak']:.1f} MiB at {size['rows']:,} rows, whose file has {size['bytes'] / 2**20:.1f} MiB" for size in figures)
     lines = [
         TITLE,
         "",
         f"A server's table on a disk in memory, {now} UTC, Python {sys.version.split()[0]}, SQLite {sqlite3.sqlite_version}, "
-        f"load average {os.getloadavg()[0]:.1f}, the least of {rounds} rounds; the others are timed once. A thousand rows "
-        "are one batch. Beside the file's bytes and the record of what was written, which the disk in memory keeps, a "
-        f"load's peak has the file read, its payloads and the rows: {peaks}.",
+        f"load average {os.getloadavg()[0]:.1f}; processor time, the least of {rounds} rounds, the others' once. A thousand rows "
+        "are one batch. A load adds at its peak the bytes of the disk in memory twice, the file read, its payloads and the "
+        f"rows: {peaks}.",
         "",
         f"| what | {sizes} |",
         "|---|" + "---|" * len(SIZES),
@@ -260,7 +272,7 @@ def main():
     if given.worker:
         print(json.dumps(measure(given.library, given.worker, given.rounds)))
         return
-    text = table(given.library, given.rounds)
+    text = section([run(given.library, count, given.rounds) for count in SIZES], given.rounds)
     print(text)
     results.put(text)
 

@@ -10,4 +10,4 @@ pub returns : goal.returns
 returns c =
     let whole : map deref_pair c.entries.yielded ≡ c.range-key-items.result = search (rules, iter_end) in
     ranges_between c.args.self.now c.args.kind c.entries.rows c.bounds_of.result.0 c.bounds_of.result.1 c.range-key-items.ensures.ordered c.bounds_of.ensures.whole
-        (c.entries.invariant ∙ ap (flat_map (row_of_kind c.args.kind)) (whole ∙ c.range-key-items.ensures.between tt))
+    (c.entries.invariant ∙ ap (flat_map (row_of_kind c.args.kind)) (whole ∙ c.range-key-items.ensures.between tt))
