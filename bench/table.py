@@ -80,7 +80,7 @@ class Proved:
         self.library = ctypes.CDLL(path)
         self.file = file
         self.rounds = rounds
-        self.once = self.load_once()
+        self.once = 0.0
 
     def call(self, name, wanted, *given):
         """The shortest time of a call. Ends where an answer isn't as it should be."""
@@ -97,7 +97,8 @@ class Proved:
         return least
 
     def load_once(self):
-        return self.call("sn_bench_load_table", 1, ctypes.c_uint64(1))
+        """Loads it for the first time. What one loading takes is taken off all that follows."""
+        self.once = self.call("sn_bench_load_table", 1, ctypes.c_uint64(1))
 
     def load(self):
         """Seconds of one loading, by what two more take."""
@@ -197,9 +198,9 @@ def measure(path, count, rounds):
     payload = b"".join(put(*change) for change in changes)
     accounts = count // 100
     proved = Proved(path, file, rounds)
-    figures = {"rows": count, "bytes": len(file), "load": proved.load(), "peak": added_peak(proved.load_once)}
+    figures = {"rows": count, "bytes": len(file), "peak": added_peak(proved.load_once), "load": proved.load()}
     figures["get"] = proved.get(b"".join(asked), 2)
-    figures["store"] = proved.range(STORE, 1, 2_000_000)
+    figures["store"] = proved.range(STORE, 1, 20_000_000)
     figures["accounts"] = proved.range(ACCOUNT, accounts, 4_000_000 // accounts)
     figures["commit_one"], figures["commit_many"] = proved.commits(payload, CHANGES)
     sqlite = Sqlite(rows)
@@ -221,6 +222,8 @@ def run(path, count, rounds):
 
 
 def time_of(seconds):
+    if seconds <= 0:
+        return "lost in the loading"
     for unit, size in (("s", 1), ("ms", 1e-3), ("us", 1e-6)):
         if seconds >= size:
             return f"{seconds / size:.2f} {unit}"
