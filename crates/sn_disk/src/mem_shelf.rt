@@ -1,5 +1,5 @@
 // A shelf of disks in memory.
-ghost use Rattle.std.specs.Prelude.{◌≡◌, ◌≢◌, ◌≤◌, List, ℕ, length, map, string_bytes, IfSome, OnSome, IfNone, IfOk, OnOk, OnErr};
+ghost use Rattle.std.specs.Prelude.{◌≡◌, ◌≢◌, List, ℕ, length, map, string_bytes, IfSome, OnSome, IfNone, IfOk, OnOk, OnErr};
 ghost use Rattle.sn_io.specs.Causes.{HasCause};
 ghost use Rattle.sn_io.specs.FaultPlan.{fresh};
 ghost use Rattle.sn_disk.specs.Shelf.{unknown, out, holds, HoldsNone};

@@ -1,4 +1,4 @@
-use Rattle.std.proofs.Common.{◌≡◌, ◌<◌, ◌∙◌, List, ℕ, length, map, ap, sym, string_bytes, None, rules, arith, set}
+use Rattle.std.proofs.Common.{◌≡◌, ◌<◌, ◌∙◌, length, map, ap, sym, string_bytes, None, rules, set}
 use Rattle.std.proofs.lemmas.List.{length-map}
 use Rattle.sn_disk.specs.Names.{place_in, slot_of, slot_in}
 use Rattle.sn_disk.proofs.Shelves.{at_held, at_set, at_set_other, taken_of, none_of, out_of, absent_none}
