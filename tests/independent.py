@@ -1,5 +1,5 @@
-"""The 003 string by another implementation: Python's standard library, and AES from `cryptography`
-or, where that isn't installed, from the command `openssl`. Nothing here calls the program under test.
+"""The 003 string and the keys of a password by another implementation: Python's standard library, and AES from
+`cryptography` or, where that isn't installed, from the command `openssl`. Nothing here calls the program under test.
 """
 
 import base64
@@ -87,3 +87,20 @@ def open_string(text, uuid, key):
     data = base64.b64decode(ciphertext, validate=True)
     plain = unpad(aes_cbc(key[:32], bytes.fromhex(iv), data, decrypt=True))
     return plain, json.loads(base64.b64decode(params, validate=True))
+
+
+def salt(identifier, cost, nonce):
+    """The lower-case hex digits of the SHA-256 of `identifier:SF:003:pw_cost:pw_nonce`."""
+    text = b":".join([identifier, b"SF", b"003", str(cost).encode(), nonce])
+    return hashlib.sha256(text).hexdigest().encode()
+
+
+def keys(password, identifier, cost, nonce):
+    """The server's password, the master key and the authentication key: 96 bytes of PBKDF2 (RFC 8018) in three."""
+    derived = hashlib.pbkdf2_hmac("sha512", password, salt(identifier, cost, nonce), cost, 96)
+    return derived[:32], derived[32:64], derived[64:]
+
+
+def check_value(pw):
+    """What a server keeps: the SHA-256 of the lower-case hex digits of its password."""
+    return hashlib.sha256(pw.hex().encode()).digest()

@@ -1,4 +1,5 @@
-//! The primitives, the journal and the rows as C functions, so that a program can time them beside other implementations.
+//! The primitives, the keys of passwords, the journal and the rows as C functions, so that a program outside can time them
+//! beside other implementations and compare what they answer.
 //!
 //! A slice is a pointer and then a length in C, an array behind a reference a pointer, and a `Global` nothing.
 #![tactic(auto)]
@@ -6,6 +7,7 @@
 mod cbc;
 mod hmac;
 mod journal;
+mod keys;
 mod pbkdf;
 mod rows;
 mod table;
