@@ -1,5 +1,5 @@
-//! The primitives, the keys of passwords, the journal and the rows as C functions, so that a program outside can time them
-//! beside other implementations and compare what they answer.
+//! The primitives, the keys of passwords, the journal, the rows and the table as C functions, so that a program outside can time
+//! them beside other implementations and compare what they answer.
 //!
 //! A slice is a pointer and then a length in C, an array behind a reference a pointer, and a `Global` nothing.
 #![tactic(auto)]
