@@ -1,0 +1,5 @@
+pub mod LineFacts
+pub mod Lists
+pub mod Numerals
+pub mod Places
+pub mod ScriptFacts

@@ -1,0 +1,16 @@
+//! Scripts for a replay, line by line.
+#![tactic(auto)]
+
+mod commands;
+mod fates;
+pub mod laws;
+mod lines;
+pub mod reader;
+pub mod script;
+mod words;
+
+pub use reader::read_script;
+pub use script::{Line, Script, ScriptError};
+
+#[cfg(test)]
+mod tests;
