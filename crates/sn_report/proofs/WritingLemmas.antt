@@ -1,0 +1,87 @@
+-- Lists of lines, written one after the other.
+use Rattle.std.proofs.Common.{◌≡◌, ℕ, zero, suc, ◌+◌, ◌<◌, ◌≤◌, List, [], ◌∷◌, ◌++◌, length, drop, get_or, refl, sym, ap, ◌∙◌, arith, append_assoc, drop-cons}
+use Rattle.std.specs.Fmt.{decimal}
+use Rattle.std.specs.List.{flat_map}
+use Rattle.std.proofs.lemmas.List.{append-nil, drop_all}
+use Rattle.sn_laws.specs.declared.moves.Move.{Move}
+use Rattle.sn_report.specs.Labels.{Labels, labels_after, labels_of}
+use Rattle.sn_report.specs.Showing.{held_text}
+use Rattle.sn_report.specs.Text.{event_text, events_text, line_text, move_text, moves_text}
+use Rattle.sn_report.specs.declared.report.Event.{Event}
+use Rattle.sn_report.proofs.FrontLemmas.{written_piece}
+
+-- what is left of a list from a place on
+
+next_of : {A : Type 0} (xs : List A) (i : ℕ) (x d : A) → i < length xs → x ≡ get_or xs i d → drop i xs ≡ x ∷ drop (i + 1) xs
+next_of xs i x d h e =
+    let n : suc i ≡ i + 1 = omega arith in
+    drop-cons xs i d h ∙ ap (λ (y : _). y ∷ drop (suc i) xs) (sym e) ∙ ap (λ (k : ℕ). x ∷ drop k xs) n
+
+-- a text to which all is written that is left to write
+ended : {A : Type 0} (f : List A → List ℕ) (xs : List A) (i : ℕ) (text whole : List ℕ) → f [] ≡ [] → length xs ≤ i
+    → text ++ f (drop i xs) ≡ whole → text ≡ whole
+ended f xs i text whole empty h inv =
+    sym (append-nil text) ∙ ap (λ (ys : List ℕ). text ++ ys) (sym empty) ∙ ap (λ (ys : _). text ++ f ys) (sym (drop_all i xs h)) ∙ inv
+
+-- moves
+
+pub labels_step : (labels next whole : Labels) (m : Move) (moves : List Move) (i : ℕ) → i < length moves → m ≡ get_or moves i m
+    → next ≡ labels_after labels m → labels_of labels (drop i moves) ≡ whole → labels_of next (drop (i + 1) moves) ≡ whole
+labels_step labels next whole m moves i h is e inv =
+    ap (λ (ls : Labels). labels_of ls (drop (i + 1) moves)) e ∙ sym (ap (labels_of labels) (next_of moves i m m h is)) ∙ inv
+
+pub labels_end : (labels whole : Labels) (moves : List Move) (i : ℕ) → length moves ≤ i → labels_of labels (drop i moves) ≡ whole → labels ≡ whole
+labels_end labels whole moves i h inv = sym (ap (labels_of labels) (drop_all i moves h)) ∙ inv
+
+pub moves_step : (number : ℕ) (labels next : Labels) (old new whole : List ℕ) (m : Move) (moves : List Move) (i : ℕ) → i < length moves → m ≡ get_or moves i m
+    → next ≡ labels_after labels m → new ≡ old ++ line_text number (move_text (labels_after labels m) m)
+    → old ++ moves_text number labels (drop i moves) ≡ whole → new ++ moves_text number next (drop (i + 1) moves) ≡ whole
+moves_step number labels next old new whole m moves i h is e line inv =
+    ap (λ (ls : Labels). new ++ moves_text number ls (drop (i + 1) moves)) e
+    ∙ written_piece old new (line_text number (move_text (labels_after labels m) m)) (moves_text number (labels_after labels m) (drop (i + 1) moves))
+    (moves_text number labels (drop i moves)) line (ap (moves_text number labels) (next_of moves i m m h is))
+    ∙ inv
+
+pub moves_end : (number : ℕ) (labels : Labels) (text whole : List ℕ) (moves : List Move) (i : ℕ) → length moves ≤ i
+    → text ++ moves_text number labels (drop i moves) ≡ whole → text ≡ whole
+moves_end number labels text whole moves i h inv = ended (moves_text number labels) moves i text whole refl h inv
+
+-- what an event shows
+
+pub shown_step : (number : ℕ) (old new whole line : List ℕ) (shown : List (List ℕ)) (i : ℕ) → i < length shown → line ≡ get_or shown i line
+    → new ≡ old ++ line_text number line
+    → old ++ flat_map (line_text number) (drop i shown) ≡ whole → new ++ flat_map (line_text number) (drop (i + 1) shown) ≡ whole
+shown_step number old new whole line shown i h is e inv =
+    written_piece old new (line_text number line) (flat_map (line_text number) (drop (i + 1) shown))
+    (flat_map (line_text number) (drop i shown)) e (ap (flat_map (line_text number)) (next_of shown i line line h is))
+    ∙ inv
+
+pub shown_end : (number : ℕ) (text whole : List ℕ) (shown : List (List ℕ)) (i : ℕ) → length shown ≤ i
+    → text ++ flat_map (line_text number) (drop i shown) ≡ whole → text ≡ whole
+shown_end number text whole shown i h inv = ended (flat_map (line_text number)) shown i text whole refl h inv
+
+-- events
+
+pub events_step : (labels next : Labels) (old new whole : List ℕ) (e : Event) (events : List Event) (i : ℕ) → i < length events → e ≡ get_or events i e
+    → next ≡ labels_of labels e.moves → new ≡ old ++ event_text labels e
+    → old ++ events_text labels (drop i events) ≡ whole → new ++ events_text next (drop (i + 1) events) ≡ whole
+events_step labels next old new whole e events i h is after text inv =
+    ap (λ (ls : Labels). new ++ events_text ls (drop (i + 1) events)) after
+    ∙ written_piece old new (event_text labels e) (events_text (labels_of labels e.moves) (drop (i + 1) events))
+    (events_text labels (drop i events)) text (ap (events_text labels) (next_of events i e e h is))
+    ∙ inv
+
+pub events_end : (labels : Labels) (text whole : List ℕ) (events : List Event) (i : ℕ) → length events ≤ i
+    → text ++ events_text labels (drop i events) ≡ whole → text ≡ whole
+events_end labels text whole events i h inv = ended (events_text labels) events i text whole refl h inv
+
+-- the sets that a device holds
+
+pub held_step : (old new whole held : List ℕ) (i n : ℕ) → i < length held → n ≡ get_or held i 0 → new ≡ old ++ (32 ∷ decimal n)
+    → old ++ held_text (drop i held) ≡ whole → new ++ held_text (drop (i + 1) held) ≡ whole
+held_step old new whole held i n h is e inv =
+    written_piece old new (32 ∷ decimal n) (held_text (drop (i + 1) held)) (held_text (drop i held)) e (ap held_text (next_of held i n 0 h is))
+    ∙ inv
+
+pub held_end : (text whole held : List ℕ) (i : ℕ) → length held ≤ i → text ++ held_text (drop i held) ≡ whole → text ≡ whole
+held_end text whole held i h inv = ended held_text held i text whole refl h inv

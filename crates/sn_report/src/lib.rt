@@ -1,0 +1,16 @@
+//! Reports of a replay, and their text.
+#![tactic(auto)]
+
+mod ends;
+mod labels;
+mod moves;
+pub mod report;
+mod showing;
+#[cfg(test)]
+mod tests;
+mod writing;
+
+pub use labels::Labels;
+pub use report::{DeviceMark, DeviceRefusal, Event, Last, Report, ServerRefusal};
+pub use showing::{account_line, device_line, draft_line, item_line, no_account_line};
+pub use writing::report_text;

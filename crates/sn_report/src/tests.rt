@@ -1,0 +1,304 @@
+//! Texts that were worked out by hand.
+
+use super::*;
+use sn_laws::{Body, Content, Move};
+use sn_string::{KeySet, Many, Params, Text, uuid_of};
+use std::alloc::{AllocError, Global};
+use std::test::Fail;
+use uuid::Uuid;
+
+const ONE: &str = "00000000-0000-4000-8000-000000000001";
+
+const TWO: &str = "f81d4fae-7dec-11d0-a765-00a0c91e6bf6";
+
+fn one() -> Result<Uuid, Fail> {
+    Ok(uuid_of(ONE).ok_or("a uuid")?)
+}
+
+fn two() -> Result<Uuid, Fail> {
+    Ok(uuid_of(TWO).ok_or("a uuid")?)
+}
+
+// The second is made first.
+fn labels(alloc: Global) -> Result<Labels, Fail> {
+    let mut labels = Labels::new(alloc);
+    labels.add(two()?)?;
+    labels.add(one()?)?;
+    labels.add(two()?)?;
+    Ok(labels)
+}
+
+#[test]
+fn makes_labels(rt: HostRuntime) -> Result<(), Fail> {
+    let labels = labels(rt.alloc())?;
+    let other = Uuid::from_bytes([7; 16]);
+    assert_eq!(rt; (labels.len(), labels.is_empty()), (2, false));
+    assert_eq!(rt; labels.as_slice(), [two()?, one()?].as_slice());
+    assert_eq!(rt; (labels.label(&two()?), labels.label(&one()?)), (1, 2));
+    assert!(rt; labels.is_labelled(&one()?) && !labels.is_labelled(&other));
+    assert_eq!(rt; labels.label(&other), 3);
+    Ok(())
+}
+
+// Twice, side by side, behind a digit, beside other characters; in upper case, cut off, without a
+// hyphen, and without a label.
+const RELABELLED: [(&str, &str); 9] = [
+    ("", ""),
+    (
+        "{\"a\":\"00000000-0000-4000-8000-000000000001\",\"b\":\"00000000-0000-4000-8000-000000000001\"}",
+        "{\"a\":\"#2\",\"b\":\"#2\"}",
+    ),
+    (
+        "00000000-0000-4000-8000-000000000001f81d4fae-7dec-11d0-a765-00a0c91e6bf6",
+        "#2#1",
+    ),
+    ("0f81d4fae-7dec-11d0-a765-00a0c91e6bf60", "0#10"),
+    (
+        "\u{e9}f81d4fae-7dec-11d0-a765-00a0c91e6bf6\u{20ac}",
+        "\u{e9}#1\u{20ac}",
+    ),
+    (
+        "F81D4FAE-7DEC-11D0-A765-00A0C91E6BF6",
+        "F81D4FAE-7DEC-11D0-A765-00A0C91E6BF6",
+    ),
+    (
+        "f81d4fae-7dec-11d0-a765-00a0c91e6bf",
+        "f81d4fae-7dec-11d0-a765-00a0c91e6bf",
+    ),
+    (
+        "f81d4fae7dec11d0a76500a0c91e6bf6",
+        "f81d4fae7dec11d0a76500a0c91e6bf6",
+    ),
+    (
+        "00000000-0000-4000-8000-000000000002",
+        "00000000-0000-4000-8000-000000000002",
+    ),
+];
+
+#[test]
+fn relabels_texts(rt: HostRuntime) -> Result<(), Fail> {
+    let labels = labels(rt.alloc())?;
+    for (text, want) in RELABELLED {
+        assert_eq!(rt; labels.relabelled(rt.alloc(), text)?.as_str(), want);
+    }
+    Ok(())
+}
+
+fn alice(alloc: Global) -> Result<KeySet, Fail> {
+    let identifier = Text::of(alloc, "alice")?;
+    let nonce = Text::of(alloc, "6e")?;
+    Ok(KeySet {
+        params: Params::new(identifier, 1, nonce).ok_or("params")?,
+        pw: [1; 32],
+        mk: [2; 32],
+        ak: [3; 32],
+    })
+}
+
+fn edit(alloc: Global, uuid: Uuid, latest: Content) -> Result<Move, AllocError> {
+    Ok(Move::Edit {
+        device: Text::of(alloc, "A")?,
+        uuid,
+        kind: Text::of(alloc, "Note")?,
+        base: None,
+        latest,
+    })
+}
+
+fn post(alloc: Global, uuid: Uuid) -> Result<Move, AllocError> {
+    let device = Text::of(alloc, "A")?;
+    Ok(Move::Post { device, uuid })
+}
+
+fn accept(alloc: Global, uuid: Uuid, stamp: u64, under: Option<u64>) -> Result<Move, AllocError> {
+    let device = Text::of(alloc, "A")?;
+    Ok(Move::Accept {
+        device,
+        uuid,
+        stamp,
+        under,
+    })
+}
+
+fn settle(alloc: Global, uuid: Uuid) -> Result<Move, AllocError> {
+    let device = Text::of(alloc, "A")?;
+    Ok(Move::Settle { device, uuid })
+}
+
+fn plain(alloc: Global, text: &str) -> Result<Content, AllocError> {
+    Ok(Content::Plain(Text::of(alloc, text)?))
+}
+
+fn event(number: u64, moves: Many<Move>, shown: Many<Text>, last: Last) -> Event {
+    Event {
+        number,
+        moves,
+        shown,
+        last,
+        server_mark: 0,
+        device_mark: None,
+    }
+}
+
+fn begun(alloc: Global) -> Result<Event, Fail> {
+    let mut moves = Many::new(alloc);
+    moves.push(Move::Register {
+        identifier: Text::of(alloc, "alice")?,
+        set: alice(alloc)?,
+    })?;
+    moves.push(Move::Join {
+        device: Text::of(alloc, "A")?,
+        identifier: Text::of(alloc, "alice")?,
+        number: 1,
+    })?;
+    Ok(event(3, moves, Many::new(alloc), Last::Done))
+}
+
+// The text names an item that has no label yet.
+fn first_put(alloc: Global) -> Result<Event, Fail> {
+    let mut moves = Many::new(alloc);
+    let text = plain(alloc, "{\"to\":\"f81d4fae-7dec-11d0-a765-00a0c91e6bf6\"}")?;
+    moves.push(edit(alloc, one()?, text)?)?;
+    Ok(event(4, moves, Many::new(alloc), Last::Done))
+}
+
+fn second_put(alloc: Global) -> Result<Event, Fail> {
+    let mut moves = Many::new(alloc);
+    let text = plain(
+        alloc,
+        "{\"to\":\"f81d4fae-7dec-11d0-a765-00a0c91e6bf6\",\"from\":\"00000000-0000-4000-8000-000000000001\"}",
+    )?;
+    moves.push(edit(alloc, two()?, text)?)?;
+    moves.push(edit(alloc, one()?, Content::Deleted)?)?;
+    Ok(event(5, moves, Many::new(alloc), Last::Done))
+}
+
+fn exchange(alloc: Global) -> Result<Event, Fail> {
+    let mut moves = Many::new(alloc);
+    moves.push(post(alloc, two()?)?)?;
+    moves.push(accept(alloc, two()?, 1000001, Some(1))?)?;
+    moves.push(accept(alloc, one()?, 1000002, None)?)?;
+    moves.push(settle(alloc, two()?)?)?;
+    let mut shown = Many::new(alloc);
+    shown.push(Text::of(alloc, "account alice set 1")?)?;
+    shown.push(Text::of(alloc, "device A none")?)?;
+    Ok(event(7, moves, shown, Last::Server(ServerRefusal::Taken)))
+}
+
+const REPORT: &str = "3 register alice set 1
+3 join A alice set 1
+3 = ok
+4 edit A #1 {\"to\":\"f81d4fae-7dec-11d0-a765-00a0c91e6bf6\"}
+4 = ok
+5 edit A #2 {\"to\":\"#2\",\"from\":\"#1\"}
+5 edit A #1 deleted
+5 = ok
+7 post A #2
+7 accept #2 @1000001 set 1
+7 accept #1 @1000002 deleted
+7 settle A #2
+7 account alice set 1
+7 device A none
+7 = server 409 taken
+";
+
+#[test]
+fn writes_moves(rt: HostRuntime) -> Result<(), Fail> {
+    let alloc = rt.alloc();
+    let mut events = Many::new(alloc);
+    events.push(begun(alloc)?)?;
+    events.push(first_put(alloc)?)?;
+    events.push(second_put(alloc)?)?;
+    events.push(exchange(alloc)?)?;
+    assert_eq!(rt; report_text(alloc, &Report { events })?.as_str(), REPORT);
+    Ok(())
+}
+
+fn ended(alloc: Global, events: &mut Many<Event>, last: Last) -> Result<(), Fail> {
+    let number = events.len() as u64 + 1;
+    events.push(event(number, Many::new(alloc), Many::new(alloc), last))?;
+    Ok(())
+}
+
+fn refused(alloc: Global, events: &mut Many<Event>, refusal: DeviceRefusal) -> Result<(), Fail> {
+    ended(alloc, events, Last::Refused(refusal))
+}
+
+const ENDS: &str = "1 = ok
+2 = server 409 taken
+3 = server 409 full
+4 = server 409 stamps-used
+5 = refused client.1 NoAccount
+6 = refused client.4 TooLong 700001
+7 = refused client.5 NotObject
+8 = refused client.8 RoundsUsed
+9 = refused client.9 NoFreshUuid #1
+10 = refused client.13 HasAccount alice
+11 = refused client.15 NumbersUsed 18446744073709551615
+";
+
+#[test]
+fn writes_last_lines(rt: HostRuntime) -> Result<(), Fail> {
+    let alloc = rt.alloc();
+    let mut events = Many::new(alloc);
+    ended(alloc, &mut events, Last::Done)?;
+    ended(alloc, &mut events, Last::Server(ServerRefusal::Taken))?;
+    ended(alloc, &mut events, Last::Server(ServerRefusal::Full))?;
+    ended(alloc, &mut events, Last::Server(ServerRefusal::StampsUsed))?;
+    refused(alloc, &mut events, DeviceRefusal::NoAccount)?;
+    refused(
+        alloc,
+        &mut events,
+        DeviceRefusal::TooLong { length: 700001 },
+    )?;
+    refused(alloc, &mut events, DeviceRefusal::NotObject)?;
+    refused(alloc, &mut events, DeviceRefusal::RoundsUsed)?;
+    refused(
+        alloc,
+        &mut events,
+        DeviceRefusal::NoFreshUuid { drawn: one()? },
+    )?;
+    let identifier = Text::of(alloc, "alice")?;
+    refused(alloc, &mut events, DeviceRefusal::HasAccount { identifier })?;
+    refused(
+        alloc,
+        &mut events,
+        DeviceRefusal::NumbersUsed { next: u64::MAX },
+    )?;
+    assert_eq!(rt; report_text(alloc, &Report { events })?.as_str(), ENDS);
+    Ok(())
+}
+
+#[test]
+fn shows_a_state(rt: HostRuntime) -> Result<(), Fail> {
+    let alloc = rt.alloc();
+    let labels = labels(alloc)?;
+    let text = "{\"to\":\"f81d4fae-7dec-11d0-a765-00a0c91e6bf6\"}";
+    let body = Body::Under(Text::of(alloc, text)?, 2);
+    assert_eq!(rt;
+        account_line(alloc, "alice", 2)?.as_str(),
+        "account alice set 2"
+    );
+    assert_eq!(rt;
+        item_line(alloc, &labels, &one()?, 1000003, &body)?.as_str(),
+        "item #2 @1000003 set 2 {\"to\":\"#1\"}"
+    );
+    assert_eq!(rt;
+        item_line(alloc, &labels, &two()?, 1000002, &Body::Gone)?.as_str(),
+        "item #1 @1000002 deleted"
+    );
+    assert_eq!(rt;
+        device_line(alloc, "A", "alice", [1, 2].as_slice())?.as_str(),
+        "device A alice sets 1 2"
+    );
+    assert_eq!(rt; no_account_line(alloc, "B")?.as_str(), "device B none");
+    assert_eq!(rt;
+        draft_line(alloc, &labels, "A", &one()?, &plain(alloc, text)?)?.as_str(),
+        "draft A #2 {\"to\":\"#1\"}"
+    );
+    assert_eq!(rt;
+        draft_line(alloc, &labels, "A", &one()?, &Content::Deleted)?.as_str(),
+        "draft A #2 deleted"
+    );
+    Ok(())
+}

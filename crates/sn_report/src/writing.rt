@@ -1,0 +1,92 @@
+//! Writing a report.
+
+ghost use Rattle.std.specs.Prelude.{◌≡◌, ◌++◌, IfOk, OnOk, string_bytes};
+ghost use Rattle.std.specs.List.{flat_map};
+ghost use Rattle.sn_report.specs.Labels.{labels_after, labels_of};
+ghost use Rattle.sn_report.specs.Text.{event_text, line_text, move_text, moves_text, report_text};
+
+use crate::ends::last_text;
+use crate::labels::Labels;
+use crate::moves::{make_label, move_text};
+use crate::report::{Event, Report};
+use sn_laws::Move;
+use sn_string::Text;
+use std::alloc::{AllocError, Global};
+use std::fmt::Write;
+
+// A line of the script's line of this number. What an error leaves is a part of the line.
+fn push_line(text: &mut String, number: u64, line: &str) -> Result<(), AllocError>
+    ensures { OnOk result (string_bytes text.new ≡ string_bytes text.old ++ line_text number line.now) }
+{
+    write!(text, "{number} {line}\n")
+}
+
+fn push_move(
+    alloc: Global,
+    text: &mut String,
+    labels: &mut Labels,
+    number: u64,
+    made: &Move,
+) -> Result<(), AllocError>
+    ensures labels { OnOk result (labels.new ≡ labels_after labels.old made.now) }
+    ensures text { OnOk result (string_bytes text.new
+        ≡ string_bytes text.old ++ line_text number (move_text (labels_after labels.old made.now) made.now)) }
+{
+    make_label(labels, made)?;
+    let line = move_text(alloc, labels, made)?;
+    push_line(text, number, line.as_str())
+}
+
+fn push_moves(
+    alloc: Global,
+    text: &mut String,
+    labels: &mut Labels,
+    number: u64,
+    moves: &[Move],
+) -> Result<(), AllocError>
+    ensures labels { OnOk result (labels.new ≡ labels_of labels.old moves.now) }
+    ensures text { OnOk result (string_bytes text.new ≡ string_bytes text.old ++ moves_text number labels.old moves.now) }
+{
+    'moves: for made in moves {
+        push_move(alloc, text, labels, number, made)?;
+    }
+    Ok(())
+}
+
+fn push_shown(text: &mut String, number: u64, shown: &[Text]) -> Result<(), AllocError>
+    ensures { OnOk result (string_bytes text.new ≡ string_bytes text.old ++ flat_map (line_text number) shown.now) }
+{
+    'shown: for line in shown {
+        push_line(text, number, line.as_str())?;
+    }
+    Ok(())
+}
+
+fn push_event(
+    alloc: Global,
+    text: &mut String,
+    labels: &mut Labels,
+    event: &Event,
+) -> Result<(), AllocError>
+    ensures labels { OnOk result (labels.new ≡ labels_of labels.old event.now.moves) }
+    ensures text { OnOk result (string_bytes text.new ≡ string_bytes text.old ++ event_text labels.old event.now) }
+{
+    push_moves(alloc, text, labels, event.number, event.moves.as_slice())?;
+    push_shown(text, event.number, event.shown.as_slice())?;
+    let last = last_text(alloc, labels, &event.last)?;
+    push_line(text, event.number, last.as_str())?;
+    Ok(())
+}
+
+/// The text of a report: for each event its moves, what it shows, and how it ended, a line each.
+pub fn report_text(alloc: Global, report: &Report) -> Result<Text, AllocError>
+    ensures { IfOk result (λ text. text ≡ report_text report.now) }
+{
+    let mut text = String::new(alloc);
+    let mut labels = Labels::new(alloc);
+    let events = report.events.as_slice();
+    'events: for event in events {
+        push_event(alloc, &mut text, &mut labels, event)?;
+    }
+    Ok(Text::of_string(text))
+}
