@@ -1,0 +1,16 @@
+pub mod DeviceDrafts
+pub mod DeviceItems
+pub mod DeviceKeeps
+pub mod DeviceLookups
+pub mod DeviceOwners
+pub mod DevicePuts
+pub mod DeviceStates
+pub mod Puts
+pub mod ServersAccept
+pub mod ServersApart
+pub mod ServersKeep
+pub mod ServersLast
+pub mod ServersLists
+pub mod ServersRegister
+pub mod ServersRows
+pub mod ServersStore

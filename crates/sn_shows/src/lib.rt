@@ -1,0 +1,5 @@
+//! What the rows of both ends show of the ideal state, and what each commit makes of it.
+#![tactic(auto)]
+
+pub mod device_laws;
+pub mod server_laws;
