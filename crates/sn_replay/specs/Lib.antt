@@ -1,0 +1,14 @@
+pub mod Batches
+pub mod Benches
+pub mod Changes
+pub mod Courses
+pub mod Events
+pub mod Headline
+pub mod Kept
+pub mod Opened
+pub mod Outcomes
+pub mod Regular
+pub mod Rows
+pub mod Settings
+pub mod Stands
+pub mod Syncs

@@ -1,0 +1,75 @@
+//! Changes that put one row.
+
+ghost use Rattle.sn_rows.specs.declared.key.Key.TheVariants as key;
+ghost use Rattle.sn_rows.specs.declared.key.Slot.TheVariants.{Present};
+ghost use Rattle.sn_rows.specs.declared.value.Value.TheVariants as value;
+ghost use Rattle.sn_shows.specs.Laws.{Puts};
+
+use sn_rows::{
+    AccountRow, Change, GenerationRow, ItemRow, Key, LocalItem, OwnerRow, Row, SetRow, Slot,
+    StoreRow, Value,
+};
+use uuid::Uuid;
+
+pub(crate) fn put_store(row: StoreRow) -> Change
+    ensures { Puts result key.Store (value.Store row) }
+{
+    Change::Put(Row {
+        key: Key::Store,
+        value: Value::Store(row),
+    })
+}
+
+pub(crate) fn put_account(number: u64, row: AccountRow) -> Change
+    ensures { Puts result (key.Account number) (value.Account row) }
+{
+    Change::Put(Row {
+        key: Key::Account(number),
+        value: Value::Account(row),
+    })
+}
+
+pub(crate) fn put_generation(number: u64, generation: u64, row: GenerationRow) -> Change
+    ensures { Puts result (key.Generation number generation) (value.Generation row) }
+{
+    Change::Put(Row {
+        key: Key::Generation(number, generation),
+        value: Value::Generation(row),
+    })
+}
+
+pub(crate) fn put_item(uuid: Uuid, row: ItemRow) -> Change
+    ensures { Puts result (key.Item uuid) (value.Item row) }
+{
+    Change::Put(Row {
+        key: Key::Item(uuid),
+        value: Value::Item(row),
+    })
+}
+
+pub(crate) fn put_owner(row: OwnerRow) -> Change
+    ensures { Puts result key.Owner (value.Owner row) }
+{
+    Change::Put(Row {
+        key: Key::Owner,
+        value: Value::Owner(row),
+    })
+}
+
+pub(crate) fn put_present(row: SetRow) -> Change
+    ensures { Puts result (key.Set Present) (value.Set row) }
+{
+    Change::Put(Row {
+        key: Key::Set(Slot::Present),
+        value: Value::Set(row),
+    })
+}
+
+pub(crate) fn put_local(number: u64, row: LocalItem) -> Change
+    ensures { Puts result (key.Local number) (value.Local row) }
+{
+    Change::Put(Row {
+        key: Key::Local(number),
+        value: Value::Local(row),
+    })
+}

@@ -1,0 +1,22 @@
+//! A replay of scripts over both ends in memory.
+#![tactic(auto)]
+
+mod accepting;
+pub mod bench;
+mod changes;
+pub mod course_laws;
+pub mod device;
+mod drawing;
+mod put;
+mod registering;
+pub mod regular_laws;
+mod sealing;
+pub mod server;
+pub mod settings;
+pub mod stand_laws;
+pub mod store;
+
+pub use bench::PlainBench;
+
+#[cfg(test)]
+mod tests;
