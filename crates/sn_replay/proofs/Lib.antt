@@ -2,6 +2,7 @@ pub mod AcceptLemmas
 pub mod AcceptingLemmas
 pub mod CourseLemmas
 pub mod DrawnLemmas
+pub mod EventLemmas
 pub mod ExchangeLemmas
 pub mod ExchangeLists
 pub mod ExchangeRows
@@ -13,6 +14,7 @@ pub mod HoldLemmas
 pub mod MoveLemmas
 pub mod OpenedLemmas
 pub mod PostLemmas
+pub mod PutEvents
 pub mod PutLemmas
 pub mod RecordLemmas
 pub mod RegisterLemmas

@@ -7,6 +7,7 @@ mod changes;
 pub mod course_laws;
 pub mod device;
 mod drawing;
+pub mod event_laws;
 mod put;
 mod registering;
 pub mod regular_laws;
