@@ -215,7 +215,7 @@ fn writes_moves(rt: HostRuntime) -> Result<(), Fail> {
 }
 
 fn ended(alloc: Global, events: &mut Many<Event>, last: Last) -> Result<(), Fail> {
-    let number = events.len() as u64 + 1;
+    let number = (events.len() as u64).saturating_add(1);
     events.push(event(number, Many::new(alloc), Many::new(alloc), last))?;
     Ok(())
 }

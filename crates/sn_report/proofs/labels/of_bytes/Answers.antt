@@ -1,4 +1,4 @@
-use Rattle.std.proofs.Common.{rules, ◌≡◌, ℕ, List, length, subst, sym, ap, ◌∙◌}
+use Rattle.std.proofs.Common.{ℕ, List, subst, sym}
 use Rattle.uuid.proofs.TextLemmas.{all_fit}
 use Rattle.sn_report.specs.Numbers.{IsUuidBytes}
 use Rattle.sn_report.proofs.labels.of_bytes.Goals as goal

@@ -1,4 +1,4 @@
-use Rattle.std.proofs.Common.{rules, ◌≡◌, ◌++◌, string_bytes, ap, ◌∙◌, List, ℕ, arith}
+use Rattle.std.proofs.Common.{◌++◌, string_bytes, ap, ◌∙◌, List, ℕ, arith}
 use Rattle.sn_report.specs.Text.{line_text}
 use Rattle.sn_report.proofs.WritingLemmas.{shown_step, shown_end}
 use Rattle.sn_report.proofs.writing.push_shown.Goals as goal

@@ -1,4 +1,4 @@
-use Rattle.std.proofs.Common.{rules, ◌≡◌, ◌+◌, ◌∷◌, ◌++◌, [], List, ℕ, length, true, false, subst, sym, ◌∙◌, arith}
+use Rattle.std.proofs.Common.{rules, ◌≡◌, ◌+◌, List, ℕ, length, false, subst, sym, ◌∙◌}
 use Rattle.sn_report.specs.Labels.{is_labelled}
 use Rattle.sn_report.specs.Numbers.{AreNumbers, IsUuidBytes}
 use Rattle.sn_report.proofs.NumberLemmas.{numbers_more}

@@ -1,6 +1,5 @@
-use Rattle.std.proofs.Common.{◌≡◌, ℕ, List, ◌∷◌, Some, true, take, ap, subst, sym, ◌∙◌}
+use Rattle.std.proofs.Common.{◌≡◌, ℕ, ◌∷◌, Some, take, ap, sym, ◌∙◌}
 use Rattle.std.specs.Fmt.{decimal}
-use Rattle.std.specs.Prelude.{All}
 use Rattle.sn_string.specs.Uuids.{uuid_text}
 use Rattle.sn_report.specs.Numbers.{IsUuidBytes}
 use Rattle.sn_report.proofs.FrontLemmas.{no_label, label_found, label_missing, cut_behind, at_self, wrong}
