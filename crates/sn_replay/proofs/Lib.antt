@@ -1,6 +1,7 @@
 pub mod AcceptLemmas
 pub mod AcceptingLemmas
 pub mod CourseLemmas
+pub mod DraftLemmas
 pub mod DrawnLemmas
 pub mod EventLemmas
 pub mod ExchangeLemmas
@@ -9,11 +10,13 @@ pub mod ExchangeRows
 pub mod ExchangeStates
 pub mod FindLemmas
 pub mod GivenLaws
+pub mod GivenSync
 pub mod GreatestLemmas
 pub mod HoldLemmas
 pub mod MoveLemmas
 pub mod OpenedLemmas
 pub mod PostLemmas
+pub mod PostingLemmas
 pub mod PutEvents
 pub mod PutLemmas
 pub mod RecordLemmas
@@ -22,9 +25,15 @@ pub mod RegularAccept
 pub mod RegularPost
 pub mod RegularPut
 pub mod RegularRegister
+pub mod RequestLemmas
 pub mod RowLemmas
 pub mod SealedLemmas
 pub mod SeedLemmas
 pub mod SettleLemmas
 pub mod StayLemmas
+pub mod SyncEnds
+pub mod SyncLemmas
+pub mod SyncRecords
+pub mod SyncRequests
+pub mod SyncSteps
 pub mod VersionLemmas

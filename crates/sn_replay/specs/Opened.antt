@@ -66,6 +66,7 @@ PutOpen = (device device_after : List (List Change)) (settled : ℕ) (items : Li
     → AreOpen (rows_of_batches device) settled items → PutsNew device device_after uuid text → length text ≤ longest_text
     → (item : LocalItem) × AreOpen (rows_of_batches device_after) settled (items ++ item ∷ [])
 
--- the drafts of a device are those that are open
+-- the drafts of a device are those that are open, where no item has the next number yet
 abbrev pub OpenAreDrafts : Type 0
-OpenAreDrafts = (rows : Rows) (settled : ℕ) (items : List LocalItem) → 1 ≤ settled → AreOpen rows settled items → drafts_of rows ≡ items
+OpenAreDrafts = (rows : Rows) (settled : ℕ) (items : List LocalItem) → 1 ≤ settled → AreOpen rows settled items
+    → rows (key.Local (next_number rows)) ≡ None → drafts_of rows ≡ items

@@ -58,8 +58,9 @@ pub record EndsDone (at after : Standing) (moves : List Move) (ends : Last) : Ty
   pub no_moves : moves ≡ []
   pub last_is : ends ≡ last.Done
 
--- or the last stamp would be passed: the items were posted, and the server refused them all
-pub record EndsUsed (name : Bytes) (clock : ℕ) (at after : Standing) (moves : List Move) (ends : Last) : Type 0 where
+-- or the last stamp would be passed: one exchange more may be made, whose items were posted, and the server refused them all
+pub record EndsUsed (name : Bytes) (clock rounds : ℕ) (at after : Standing) (moves : List Move) (ends : Last) : Type 0 where
+  pub more : rounds < most_exchanges
   pub items : List LocalItem
   pub sends : Sends at items
   pub posted : Posts at.device after.device at.settled items
@@ -87,7 +88,8 @@ pub record Syncs (name : Bytes) (clock : ℕ) (before after : Standing) (moves :
   pub first_moves : List Move
   pub went : Went name clock before requests first_moves at
   pub last_moves : List Move
-  pub ended : EndsDone at after last_moves ends ⊎ EndsUsed name clock at after last_moves ends ⊎ EndsLong (length requests) at after last_moves ends
+  pub ended : EndsDone at after last_moves ends ⊎ EndsUsed name clock (length requests) at after last_moves ends
+      ⊎ EndsLong (length requests) at after last_moves ends
   pub moves_are : moves ≡ first_moves ++ last_moves
 
 -- the sync is what the line asks for, and the records show the state after it

@@ -8,14 +8,19 @@ pub mod course_laws;
 pub mod device;
 mod drawing;
 pub mod event_laws;
+pub mod open_laws;
+mod posting;
 mod put;
 mod registering;
 pub mod regular_laws;
+mod requests;
 mod sealing;
 pub mod server;
 pub mod settings;
+mod settling;
 pub mod stand_laws;
 pub mod store;
+pub mod sync_laws;
 
 pub use bench::PlainBench;
 

@@ -1,18 +1,50 @@
 //! A new item on a device.
 
-ghost use Rattle.std.specs.Prelude.{◌≡◌, ◌<◌, ◌≤◌, ◌^◌, ◌+◌, Some, None, IfOk, IsTrue, length, codes};
+ghost use Rattle.std.specs.Prelude.{◌≡◌, ◌<◌, ◌≤◌, ◌^◌, ◌+◌, Some, None, IfOk, IsSome, IsTrue, OnOk, OnErr, length, codes};
 ghost use Rattle.sn_items.specs.Objects.{is_object};
 ghost use Rattle.sn_laws.specs.Moves.{longest_text};
-ghost use Rattle.sn_replay.specs.Changes.{IsNewItem, IsPut, PutsNext};
+ghost use Rattle.sn_rows.specs.Table.{rows_of_batches};
+ghost use Rattle.sn_rows.specs.declared.key.Key.TheVariants as key;
+ghost use Rattle.sn_rows.specs.declared.key.Slot.TheVariants.{Present};
+ghost use Rattle.sn_replay.specs.Batches.{next_number};
+ghost use Rattle.sn_replay.specs.Changes.{IsNewItem, IsPut, PutsNew, PutsNext};
+ghost use Rattle.sn_replay.specs.Rows.{owner_in, set_in};
 
 use crate::changes::{put_local, put_owner};
-use crate::device::key_set;
+use crate::device::{PlainDevice, key_set};
 use crate::sealing::sealed_strings;
 use sn_items::Words;
 use sn_rows::{Change, LocalItem, OwnerRow, RowBody, RowStrings, SetRow};
 use sn_string::{Many, Text, Twin};
 use std::alloc::{AllocError, Global};
 use uuid::Uuid;
+
+impl PlainDevice {
+    /// Puts a new item with this content, and the next local number, in one batch.
+    pub(crate) fn put(
+        &mut self,
+        alloc: Global,
+        words: &mut Words,
+        uuid: Uuid,
+        text: &str,
+    ) -> Result<(), AllocError>
+        requires object { IsTrue (is_object text.now) }
+        requires short { length text.now ≤ longest_text }
+        requires owner { IsSome (owner_in (rows_of_batches self.old.store key.Owner)) }
+        requires keys { IsSome (set_in (rows_of_batches self.old.store (key.Set Present))) }
+        requires next { next_number (rows_of_batches self.old.store) + 1 < 2 ^ 64 }
+        ensures puts { OnOk result (PutsNew self.old.store self.new.store uuid text.now) }
+        ensures refused { OnErr result (self.new.store ≡ self.old.store) }
+        ensures settled { self.new.settled ≡ self.old.settled }
+    {
+        let (Some(owner), Some(keys)) = (self.owner(), self.present()) else {
+            unreachable!();
+        };
+        let changes = put_changes(alloc, words, uuid, owner, keys, text)?;
+        self.store.commit(alloc, changes)?;
+        Ok(())
+    }
+}
 
 /// The changes that put a new item with this content, sealed under the set of these rows.
 pub(crate) fn put_changes(
