@@ -1,5 +1,6 @@
 pub mod AcceptLemmas
 pub mod AcceptingLemmas
+pub mod BeginLemmas
 pub mod CourseLemmas
 pub mod DraftLemmas
 pub mod DrawnLemmas
@@ -13,10 +14,12 @@ pub mod GivenLaws
 pub mod GivenSync
 pub mod GreatestLemmas
 pub mod HoldLemmas
+pub mod KindLemmas
 pub mod MoveLemmas
 pub mod OpenedLemmas
 pub mod PostLemmas
 pub mod PostingLemmas
+pub mod PutCalls
 pub mod PutEvents
 pub mod PutLemmas
 pub mod RecordLemmas

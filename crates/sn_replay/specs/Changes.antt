@@ -210,6 +210,30 @@ pub record Registers (server server_after device device_after : List (List Chang
   pub first : PutsFirst owner present set
   pub device_is : device_after ≡ device ++ (owner ∷ present ∷ []) ∷ []
 
+-- the server starts where it has not
+pub record Starts (server server_after : List (List Change)) : Type 0 where
+  pub start : List (List Change)
+  pub starts : IsStart (rows_of_batches server key.Store) start
+  pub server_is : server_after ≡ server ++ start
+
+-- the server's half of a registration
+pub record Begins (server server_after : List (List Change)) (identifier : Bytes) (set : KeySet) : Type 0 where
+  pub start : List (List Change)
+  pub starts : IsStart (rows_of_batches server key.Store) start
+  pub account : Change
+  pub generation : Change
+  pub account_puts : PutsAccount account generation (suc (count_in (rows_of_batches server key.Store))) identifier set
+  pub store : Change
+  pub store_puts : PutsStoreRow store (last_in (rows_of_batches server key.Store)) (suc (count_in (rows_of_batches server key.Store)))
+  pub server_is : server_after ≡ (server ++ start) ++ (account ∷ generation ∷ store ∷ []) ∷ []
+
+-- and the device's
+pub record Joins (device device_after : List (List Change)) (set : KeySet) : Type 0 where
+  pub owner : Change
+  pub present : Change
+  pub first : PutsFirst owner present set
+  pub device_is : device_after ≡ device ++ (owner ∷ present ∷ []) ∷ []
+
 -- the row of a new item: nothing that it stands on, and its draft in these strings
 pub record IsNewItem (uuid kind : Bytes) (strings : RowStrings) (item : LocalItem) : Type 0 where
   pub uuid_is : item.uuid ≡ uuid

@@ -1,5 +1,5 @@
 -- A registration and a put, by what they make of the records; and that each is what its line asks for.
-use Rattle.std.specs.Prelude.{◌≡◌, ◌≢◌, ◌⊎◌, ℕ, ◌<◌, ◌≤◌, List, [], ◌∷◌, length, true, false, Some, None, codes}
+use Rattle.std.specs.Prelude.{◌≡◌, ◌≢◌, ◌⊎◌, ℕ, ◌<◌, ◌≤◌, List, [], ◌∷◌, length, true, false, Some, None, IsSome, codes, ◌+◌, ◌^◌}
 use Rattle.rand_chacha.specs.ChaCha.{ChaCha}
 use Rattle.sn_items.specs.Objects.{is_object}
 use Rattle.sn_laws.specs.Lookups.{Bytes, device_named}
@@ -109,6 +109,23 @@ pub record PutRefused (device device_after : Record) (text : Bytes) (labels : La
       ⊎ ((next_number (rows_of_batches device) ≢ 18446744073709551615)
       × ((drawn : Bytes) × (fresh_uuid labels words ≡ None) × (last_uuid words ≡ Some drawn) × (why ≡ last.Refused (refusal.NoFreshUuid drawn))))))))))
   pub declines : Declines [] [] device device_after moves ends why
+
+-- the first of the causes, and that there is none, before a uuid is drawn
+abbrev pub IsPutCause : Record → Bytes → Last → Type 0
+IsPutCause device text why = HasNone device × (why ≡ last.Refused refusal.NoAccount)
+    ⊎ ((owner_in (rows_of_batches device key.Owner) ≢ None) × (
+    ((longest_text < length text) × (why ≡ last.Refused (refusal.TooLong (length text))))
+    ⊎ ((length text ≤ longest_text) × (
+    ((is_object text ≡ false) × (why ≡ last.Refused refusal.NotObject))
+    ⊎ ((is_object text ≡ true) × (next_number (rows_of_batches device) ≡ 18446744073709551615)
+    × (why ≡ last.Refused (refusal.NumbersUsed (next_number (rows_of_batches device)))))))))
+
+pub record MayPut (device : Record) (text : Bytes) : Type 0 where
+  pub owner : IsSome (owner_in (rows_of_batches device key.Owner))
+  pub short : length text ≤ longest_text
+  pub object : is_object text ≡ true
+  pub room : next_number (rows_of_batches device) ≢ 18446744073709551615
+  pub more : next_number (rows_of_batches device) + 1 < 2 ^ 64
 
 pub record PutDone (device device_after : Record) (name text : Bytes) (labels : Labels) (words : ChaCha) (moves : List Move) (ends : Last) : Type 0 where
   pub uuid : Bytes

@@ -4,6 +4,7 @@ pub mod Changes
 pub mod Courses
 pub mod Events
 pub mod Headline
+pub mod Index
 pub mod Kept
 pub mod Opened
 pub mod Outcomes

@@ -8,6 +8,7 @@ pub mod course_laws;
 pub mod device;
 mod drawing;
 pub mod event_laws;
+mod events;
 pub mod open_laws;
 mod posting;
 mod put;

@@ -1,13 +1,31 @@
 //! A device's first rows.
 
-ghost use Rattle.std.specs.Prelude.{◌≡◌, ◌<◌, ◌^◌, IfOk};
-ghost use Rattle.sn_replay.specs.Changes.{IsFirstRows};
+ghost use Rattle.std.specs.Prelude.{◌≡◌, ◌<◌, ◌^◌, IfOk, OnOk, OnErr};
+ghost use Rattle.sn_replay.specs.Changes.{IsFirstRows, Joins};
 
 use crate::changes::{put_owner, put_present};
+use crate::device::PlainDevice;
 use sn_rows::{Change, OwnerRow, SetRow};
 use sn_string::{KeySet, Many, Text, Twin};
 use std::alloc::{AllocError, Global};
 use uuid::Uuid;
+
+impl PlainDevice {
+    /// Comes to hold the first set of the account of this number, in one batch.
+    pub(crate) fn join(
+        &mut self,
+        alloc: Global,
+        account: u64,
+        set: &KeySet,
+    ) -> Result<(), AllocError>
+        ensures joins { OnOk result (Joins self.old.store self.new.store set.now) }
+        ensures refused { OnErr result (self.new.store ≡ self.old.store) }
+        ensures settled { self.new.settled ≡ self.old.settled }
+    {
+        let changes = first_changes(alloc, account, set)?;
+        self.store.commit(alloc, changes)
+    }
+}
 
 /// The changes that put the rows of a device that comes to hold the first set of the account of this number.
 pub(crate) fn first_changes(

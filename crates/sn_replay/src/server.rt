@@ -1,14 +1,16 @@
 //! The server without a disk.
 
-ghost use Rattle.std.specs.Prelude.{◌≡◌, ◌<◌, ◌≤◌, ◌^◌, ◌+◌, ℕ, Some, None, IfOk, IsTrue, length};
+ghost use Rattle.std.specs.Prelude.{◌≡◌, ◌<◌, ◌≤◌, ◌^◌, ◌+◌, ℕ, Some, None, IfOk, IsTrue, OnOk, length};
+ghost use Rattle.std.specs.BTreeMap.{get_by_text};
 ghost use Rattle.std.specs.Option.{option_copied};
 ghost use Rattle.sn_rows.specs.Table.{rows_of_batches};
 ghost use Rattle.sn_rows.specs.declared.key.Key.TheVariants as key;
-ghost use Rattle.sn_replay.specs.Changes.{IsRegistration, PutsStoreRow};
+ghost use Rattle.sn_replay.specs.Changes.{IsRegistration, PutsStoreRow, Starts, count_in, last_in};
 ghost use Rattle.sn_replay.specs.Rows.{store_in};
 
 use crate::changes::{put_account, put_generation, put_store};
 use crate::store::PlainStore;
+use sn_items::Words;
 use sn_keys::check_of;
 use sn_rows::{AccountRow, Change, GenerationRow, Key, StoreRow, Value};
 use sn_string::{KeySet, Many, Twin};
@@ -39,6 +41,58 @@ impl PlainServer {
             Some(Value::Store(row)) => Some(row),
             _ => None,
         }
+    }
+
+    /// The last stamp that was given; 0 before the first.
+    pub(crate) fn last(&self) -> u64
+        ensures is { result ≡ last_in (rows_of_batches self.now.store key.Store) }
+        ensures bounded { result ≤ 253402300799999999 }
+    {
+        match self.row() {
+            Some(row) => row.last,
+            None => 0,
+        }
+    }
+
+    /// How many accounts there are.
+    pub(crate) fn count(&self) -> u64
+        ensures { result ≡ count_in (rows_of_batches self.now.store key.Store) }
+    {
+        match self.row() {
+            Some(row) => row.accounts,
+            None => 0,
+        }
+    }
+
+    /// The number of the account of this identifier, where there is one.
+    pub(crate) fn number(&self, identifier: &str) -> Option<u64>
+        ensures { result ≡ get_by_text self.now.numbers identifier.now }
+    {
+        self.numbers.get(identifier).copied()
+    }
+
+    /// Puts the store's row, where it does not stand, in one batch. Gives the server's secret.
+    pub(crate) fn start(&mut self, alloc: Global, words: &mut Words) -> Result<[u8; 32], AllocError>
+        ensures starts { OnOk result (Starts self.old.store self.new.store) }
+        ensures numbers { self.new.numbers ≡ self.old.numbers }
+    {
+        match self.row() {
+            Some(row) => Ok(row.secret),
+            None => self.begin(alloc, words),
+        }
+    }
+
+    // Puts the store's row, of no stamp and no account, in one batch. Gives the secret.
+    fn begin(&mut self, alloc: Global, words: &mut Words) -> Result<[u8; 32], AllocError>
+        requires none { store_in (rows_of_batches self.old.store key.Store) ≡ None }
+        ensures starts { OnOk result (Starts self.old.store self.new.store) }
+        ensures numbers { self.new.numbers ≡ self.old.numbers }
+    {
+        let secret = words.secret();
+        let mut changes = Many::new(alloc);
+        changes.push(store_change(&secret, 0, 0))?;
+        self.store.commit(alloc, changes)?;
+        Ok(secret)
     }
 }
 
