@@ -14,6 +14,7 @@ pub mod GivenLaws
 pub mod GivenSync
 pub mod GreatestLemmas
 pub mod HoldLemmas
+pub mod IndexLemmas
 pub mod KindLemmas
 pub mod MoveLemmas
 pub mod OpenedLemmas

@@ -1,6 +1,6 @@
 //! What a line draws.
 
-ghost use Rattle.std.specs.Prelude.{◌≡◌, Some, None, IfOk, IfErr};
+ghost use Rattle.std.specs.Prelude.{◌≡◌, Some, None, IfOk, IfErr, length};
 ghost use Rattle.sn_replay.specs.Settings.{fresh_uuid, last_uuid, line_seed, nonce_of, words_of};
 
 use crate::settings::Settings;
@@ -34,7 +34,7 @@ fn line_seed(seed: &[u8; 32], number: u64) -> [u8; 32]
 
 /// A nonce of 32 drawn bytes, as lower-case hex digits.
 pub(crate) fn drawn_nonce(alloc: Global, words: &mut Words) -> Result<Text, AllocError>
-    ensures { IfOk result (λ nonce. nonce ≡ nonce_of words.old) }
+    ensures { IfOk result (λ nonce. (nonce ≡ nonce_of words.old) × (length nonce ≡ 64)) }
 {
     let digits = hex_text(alloc, &words.nonce())?;
     Ok(Text::of_string(digits))

@@ -12,16 +12,19 @@ ghost use Rattle.sn_rows.specs.declared.key.Key.TheVariants as key;
 ghost use Rattle.sn_rows.specs.declared.key.Slot.TheVariants.{Present};
 ghost use Rattle.sn_replay.specs.Batches.{next_number};
 ghost use Rattle.sn_replay.specs.Events.{IsPutCause, MayPut, PutDoes};
+ghost use Rattle.sn_replay.specs.Outcomes.{IsFirstSet};
 ghost use Rattle.sn_replay.specs.Rows.{owner_in, set_in};
+ghost use Rattle.sn_string.specs.Bounds.{IsIdentifier};
 ghost use Rattle.sn_replay.specs.Settings.{words_of};
 
 use crate::device::PlainDevice;
-use crate::drawing::{fresh_uuid, line_words};
+use crate::drawing::{drawn_nonce, fresh_uuid, line_words};
 use crate::settings::Settings;
 use sn_items::is_object;
+use sn_keys::derive;
 use sn_laws::{Content, Move};
 use sn_report::{DeviceRefusal, Labels, Last};
-use sn_string::{Many, Text};
+use sn_string::{KeySet, Many, Params, Text};
 use std::alloc::{AllocError, Global};
 use uuid::Uuid;
 
@@ -126,4 +129,27 @@ fn edit_moves(
     let mut moves = Many::new(alloc);
     moves.push(edit)?;
     Ok(moves)
+}
+
+// The set of a registration: the keys of the password under a drawn nonce.
+fn first_set(
+    alloc: Global,
+    settings: &Settings,
+    number: u64,
+    identifier: &str,
+    password: &str,
+) -> Result<KeySet, AllocError>
+    requires identifier { IsIdentifier identifier.now }
+    requires cost { 1 ≤ settings.now.cost }
+    ensures { IfOk result (IsFirstSet settings.now number identifier.now password.now) }
+{
+    let mut words = line_words(settings, number);
+    let nonce = drawn_nonce(alloc, &mut words)?;
+    let identifier = Text::of(alloc, identifier)?;
+    let params = match Params::new(identifier, settings.cost, nonce) {
+        Some(params) => params,
+        None => unreachable!(),
+    };
+    let set = derive(alloc, password, &params)?;
+    Ok(set)
 }

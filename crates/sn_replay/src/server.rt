@@ -5,7 +5,8 @@ ghost use Rattle.std.specs.BTreeMap.{get_by_text};
 ghost use Rattle.std.specs.Option.{option_copied};
 ghost use Rattle.sn_rows.specs.Table.{rows_of_batches};
 ghost use Rattle.sn_rows.specs.declared.key.Key.TheVariants as key;
-ghost use Rattle.sn_replay.specs.Changes.{IsRegistration, PutsStoreRow, Starts, count_in, last_in};
+ghost use Rattle.sn_replay.specs.Changes.{Begins, IsAccountOf, IsRegistration, PutsStoreRow, Starts, count_in, last_in};
+ghost use Rattle.sn_replay.specs.Index.{IsIndex};
 ghost use Rattle.sn_replay.specs.Rows.{store_in};
 
 use crate::changes::{put_account, put_generation, put_store};
@@ -93,6 +94,31 @@ impl PlainServer {
         changes.push(store_change(&secret, 0, 0))?;
         self.store.commit(alloc, changes)?;
         Ok(secret)
+    }
+
+    /// Begins an account with this set: the store's row where it does not stand, and then the
+    /// account's rows, each in one batch. Gives the account's number.
+    pub(crate) fn register(
+        &mut self,
+        alloc: Global,
+        words: &mut Words,
+        set: &KeySet,
+    ) -> Result<u64, AllocError>
+        requires room { count_in (rows_of_batches self.old.store key.Store) < 1000000 }
+        requires index { IsIndex self.old.numbers (rows_of_batches self.old.store) }
+        requires free { (n : ℕ) → ¬ (IsAccountOf (rows_of_batches self.old.store) set.now.params.identifier n) }
+        ensures begins { OnOk result (Begins self.old.store self.new.store set.now.params.identifier set.now) }
+        ensures index { OnOk result (IsIndex self.new.numbers (rows_of_batches self.new.store)) }
+    {
+        let last = self.last();
+        let number = self.count() + 1;
+        let secret = self.start(alloc, words)?;
+        let store = store_change(&secret, last, number);
+        let changes = account_changes(alloc, number, set, store)?;
+        let identifier = set.params.identifier.twin(alloc)?;
+        self.store.commit(alloc, changes)?;
+        self.numbers.insert(identifier.into_string(), number)?;
+        Ok(number)
     }
 }
 
