@@ -1,5 +1,5 @@
 -- That a server's index stays one, as the server starts and begins accounts.
-use Rattle.std.proofs.Common.{◌≡◌, ◌≢◌, ◌≤◌, ◌⊎◌, ℕ, suc, List, [], ◌∷◌, ◌++◌, Option, Some, None, Bool, true, false, refl, sym, ap, ◌∙◌, subst, inl, inr, arith}
+use Rattle.std.proofs.Common.{◌≡◌, ◌≤◌, ℕ, suc, List, [], ◌∷◌, ◌++◌, Option, Some, None, Bool, true, false, refl, sym, ap, ◌∙◌, subst, arith}
 use Rattle.std.specs.Prelude.{◌==◌, String}
 use Rattle.std.specs.BTreeMap.{BTreeMap, get_by_text}
 use Rattle.std.specs.Map.{update}
@@ -8,7 +8,7 @@ use Rattle.std.proofs.lemmas.Bool.{eqb-true, eq-eqb}
 use Rattle.std.proofs.lemmas.List.{append-nil}
 use Rattle.sn_laws.proofs.EachLemmas.{clash, same_text, text_same}
 use Rattle.sn_laws.specs.Lookups.{Bytes}
-use Rattle.sn_rows.specs.Table.{Rows, changed, row_after, rows_after, rows_of_batches, same_key}
+use Rattle.sn_rows.specs.Table.{Rows, changed, row_after, rows_after, rows_of_batches}
 use Rattle.sn_rows.specs.declared.change.Change.{Change}
 use Rattle.sn_rows.specs.declared.key.Key.{Key}
 use Rattle.sn_rows.specs.declared.key.Key.TheVariants as key
@@ -71,8 +71,8 @@ adds server after identifier set b =
     let two : ℕ → Option Value = λ n. changed (one n) (key.Account n) b.generation in
     let account : (n : ℕ) → rows_of_batches after (key.Account n) ≡ one n =
     λ n. follows (key.Account n)
-        ∙ other_row (two n) key.Store (key.Account n) b.store (value.Store b.store_puts.row) b.store_puts.puts refl
-        ∙ other_row (one n) (key.Generation number 1) (key.Account n) b.generation (value.Generation b.account_puts.params) b.account_puts.generation_puts refl in
+    ∙ other_row (two n) key.Store (key.Account n) b.store (value.Store b.store_puts.row) b.store_puts.puts refl
+    ∙ other_row (one n) (key.Generation number 1) (key.Account n) b.generation (value.Generation b.account_puts.params) b.account_puts.generation_puts refl in
     record {
       own = record {
         row = b.account_puts.row;
@@ -119,6 +119,7 @@ index_begun numbers now server after identifier set b free updates index =
         at : (x : Bool) → (n == suc m) ≡ x → (n == suc m) ≡ false
         at false f = f
         at true f = let e : n ≡ suc m = eqb-true n (suc m) f in absurd (omega (arith, e, h))
+
     there : Adds (rows_of_batches server) (rows_of_batches after) identifier → (bs : Bytes) (n : ℕ) (x : Bool) → bytes_eq identifier bs ≡ x
         → update bytes_eq (get_by_text numbers) identifier (Some (suc (count_in (rows_of_batches server key.Store)))) bs ≡ Some n
         → IsAccountOf (rows_of_batches after) bs n
@@ -131,11 +132,13 @@ index_begun numbers now server after identifier set b free updates index =
         let found : get_by_text numbers bs ≡ Some n = rw e at f in
         let i : IsAccountOf (rows_of_batches server) bs n = index.there bs n found in
         same_account (rows_of_batches server) (rows_of_batches after) bs n (a.others n (less n (count_in (rows_of_batches server key.Store)) (index.within bs n i))) i
+
     other : (bs : Bytes) (n : ℕ) (x : Bool) → bytes_eq identifier bs ≡ x → IsAccountOf (rows_of_batches server) bs n → get_by_text now bs ≡ Some n
     other bs n true e was = absurd (free n (subst (λ (t : Bytes). IsAccountOf (rows_of_batches server) t n) (sym (same_text identifier bs e)) was))
     other bs n false e was =
         let got : update bytes_eq (get_by_text numbers) identifier (Some (suc (count_in (rows_of_batches server key.Store)))) bs ≡ get_by_text numbers bs = rw e refl in
         updates bs ∙ got ∙ index.known bs n was
+
     known : Adds (rows_of_batches server) (rows_of_batches after) identifier → (bs : Bytes) (n : ℕ) (x : Bool) → (n == suc (count_in (rows_of_batches server key.Store))) ≡ x
         → IsAccountOf (rows_of_batches after) bs n → get_by_text now bs ≡ Some n
     known a bs n true e i =
@@ -150,6 +153,7 @@ index_begun numbers now server after identifier set b free updates index =
     known a bs n false e i =
         let was : IsAccountOf (rows_of_batches server) bs n = same_account (rows_of_batches after) (rows_of_batches server) bs n (sym (a.others n e)) i in
         other bs n (bytes_eq identifier bs) refl was
+
     within : Adds (rows_of_batches server) (rows_of_batches after) identifier → (bs : Bytes) (n : ℕ) (x : Bool) → (n == suc (count_in (rows_of_batches server key.Store))) ≡ x
         → IsAccountOf (rows_of_batches after) bs n → n ≤ count_in (rows_of_batches after key.Store)
     within a bs n true e i =
@@ -168,9 +172,9 @@ pub index_after : {A : Type 0} (numbers kept now : BTreeMap (String A) ℕ) (ser
 index_after {A} numbers kept now server after identifier bytes set number b free em eb en updates index =
     index_begun numbers now server after identifier set b free
     (λ bs. updates bs
-        ∙ ap (λ (m : BTreeMap (String A) ℕ). update bytes_eq (get_by_text m) bytes (Some number) bs) em
-        ∙ ap (λ (t : Bytes). update bytes_eq (get_by_text numbers) t (Some number) bs) eb
-        ∙ ap (λ (n : ℕ). update bytes_eq (get_by_text numbers) identifier (Some n) bs) en)
+    ∙ ap (λ (m : BTreeMap (String A) ℕ). update bytes_eq (get_by_text m) bytes (Some number) bs) em
+    ∙ ap (λ (t : Bytes). update bytes_eq (get_by_text numbers) t (Some number) bs) eb
+    ∙ ap (λ (n : ℕ). update bytes_eq (get_by_text numbers) identifier (Some n) bs) en)
     index
 
 -- the batches that begin an account

@@ -1,5 +1,5 @@
 -- What the code of a put does, as its relation.
-use Rattle.std.proofs.Common.{◌≡◌, ◌≢◌, ◌⊎◌, List, [], ◌∷◌, Some, None, refl, inl, inr}
+use Rattle.std.proofs.Common.{◌≡◌, List, [], ◌∷◌, Some, None, refl, inl, inr}
 use Rattle.std.specs.Prelude.{codes}
 use Rattle.rand_chacha.specs.ChaCha.{ChaCha}
 use Rattle.sn_laws.specs.Lookups.{Bytes}

@@ -111,12 +111,7 @@ fn put_cause(alloc: Global, device: &PlainDevice, text: &str) -> Result<Option<L
 }
 
 // The move of a put.
-fn edit_moves(
-    alloc: Global,
-    name: &str,
-    uuid: Uuid,
-    text: &str,
-) -> Result<Many<Move>, AllocError>
+fn edit_moves(alloc: Global, name: &str, uuid: Uuid, text: &str) -> Result<Many<Move>, AllocError>
     ensures { IfOk result (λ moves. moves ≡ Edit name.now uuid (codes "Note") None (Plain text.now) ∷ []) }
 {
     let edit = Move::Edit {

@@ -1,4 +1,4 @@
-use Rattle.std.proofs.Common.{rules, refl, ◌≡◌, Some, None, ap, sym, ◌∙◌}
+use Rattle.std.proofs.Common.{rules, refl, ◌≡◌, Some, None}
 use Rattle.sn_replay.specs.Events.{MayPut}
 use Rattle.sn_replay.specs.Settings.{fresh_uuid, last_uuid, words_of}
 use Rattle.sn_replay.proofs.PutCalls.{put_done, put_unfresh}
