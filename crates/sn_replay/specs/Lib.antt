@@ -8,6 +8,7 @@ pub mod Index
 pub mod Kept
 pub mod Opened
 pub mod Outcomes
+pub mod Ready
 pub mod Regular
 pub mod Rows
 pub mod Settings
