@@ -37,7 +37,9 @@ pub mod SettleLemmas
 pub mod StayLemmas
 pub mod SyncEnds
 pub mod SyncLemmas
+pub mod SyncMoves
 pub mod SyncRecords
 pub mod SyncRequests
+pub mod SyncRuns
 pub mod SyncSteps
 pub mod VersionLemmas

@@ -22,6 +22,7 @@ mod settling;
 pub mod stand_laws;
 pub mod store;
 pub mod sync_laws;
+mod syncing;
 
 pub use bench::PlainBench;
 

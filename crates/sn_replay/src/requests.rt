@@ -60,8 +60,8 @@ impl PlainDevice {
         }
     }
 
-    // The number of the next item that is put.
-    fn next_number(&self) -> u64
+    /// The number of the next item that is put.
+    pub(crate) fn next_number(&self) -> u64
         ensures { result ≡ next_number (rows_of_batches self.now.store) }
     {
         match self.owner() {
