@@ -39,10 +39,10 @@ impl PlainServer {
         requires sendable { All IsSendable items.now }
         ensures accepts { IfOk result (λ answer. MatchOption answer
             ((last_stamp + 1 < next_stamp clock (last_in (rows_of_batches self.old.store key.Store)) + length items.now)
-                × (self.new.store ≡ self.old.store))
+            × (self.new.store ≡ self.old.store))
             (λ stamp. (stamp ≡ next_stamp clock (last_in (rows_of_batches self.old.store key.Store)))
-                × (stamp + length items.now ≤ last_stamp + 1)
-                × Accepts self.old.store self.new.store identifier.now stamp items.now)) }
+            × (stamp + length items.now ≤ last_stamp + 1)
+            × Accepts self.old.store self.new.store identifier.now stamp items.now)) }
         ensures refused { OnErr result (self.new.store ≡ self.old.store) }
         ensures numbers { self.new.numbers ≡ self.old.numbers }
     {
@@ -78,11 +78,7 @@ fn next_stamp(clock: u64, last: u64) -> u64
     requires { last ≤ last_stamp }
     ensures { result ≡ next_stamp clock last }
 {
-    if clock <= last {
-        last + 1
-    } else {
-        clock
-    }
+    if clock <= last { last + 1 } else { clock }
 }
 
 /// What is sent of an item: what was sent before, or else its content.
