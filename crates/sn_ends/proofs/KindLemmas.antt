@@ -1,0 +1,66 @@
+-- A row's value is of its key's kind; what a put leaves of the rows.
+use Rattle.std.proofs.Common.{◌≡◌, List, [], ◌∷◌, Option, Some, None, Bool, true, false, refl, ap, ◌∙◌, subst}
+use Rattle.std.specs.Prelude.{if◌then◌else◌}
+use Rattle.std.specs.List.{flat_map}
+use Rattle.sn_rows.specs.Kinds.{key_kind, value_kind}
+use Rattle.sn_rows.specs.Table.{changed, key_of, row_after, rows_of_batches, same_key, value_of}
+use Rattle.sn_rows.specs.declared.change.Change.{Change}
+use Rattle.sn_rows.specs.declared.change.Change.TheVariants.{Put, Remove}
+use Rattle.sn_rows.specs.declared.key.Key.{Key}
+use Rattle.sn_rows.specs.declared.key.Key.TheVariants as key
+use Rattle.sn_rows.specs.declared.server_rows.StoreRow.{StoreRow}
+use Rattle.sn_rows.specs.declared.value.Value.{Value}
+use Rattle.sn_rows.specs.declared.value.Value.TheVariants as value
+use Rattle.sn_rows.proofs.TableLemmas.{keys_compare}
+use Rattle.sn_shows.specs.Laws.{Puts}
+use Rattle.sn_ends.specs.Rows.{store_in}
+
+-- the value, where there is one, is of the key's kind
+abbrev HasKind : Key → Option Value → Type 0
+HasKind k None = Unit {0}
+HasKind k (Some v) = key_kind k ≡ value_kind v
+
+own_kind : (c : Change) → HasKind (key_of c) (value_of c)
+own_kind (Put row) = row.one_kind
+own_kind (Remove k) = tt
+
+either_kind : (b : Bool) (x y : Option Value) (k : Key) → (b ≡ true → HasKind k x) → HasKind k y → HasKind k (if b then x else y)
+either_kind true x y k f h = f refl
+either_kind false x y k f h = h
+
+changed_kind : (found : Option Value) (k : Key) (c : Change) → HasKind k found → HasKind k (changed found k c)
+changed_kind found k c h =
+    either_kind (same_key (key_of c) k) (value_of c) found k
+    (λ t. subst (λ (q : Key). HasKind q (value_of c)) ((keys_compare (key_of c) k).0 t) (own_kind c)) h
+
+kind_after : (found : Option Value) (k : Key) (changes : List Change) → HasKind k found → HasKind k (row_after found k changes)
+kind_after found k [] h = h
+kind_after found k (c ∷ cs) h = kind_after (changed found k c) k cs (changed_kind found k c h)
+
+no_store : (found : Option Value) → HasKind key.Store found → store_in found ≡ None → found ≡ None
+no_store None h e = refl
+no_store (Some (value.Store row)) h e = absurd (cc)
+no_store (Some v) h e = absurd (cc)
+
+-- where no row of the store is found, there is no row at its key
+pub store_none : (batches : List (List Change)) → store_in (rows_of_batches batches key.Store) ≡ None → rows_of_batches batches key.Store ≡ None
+store_none batches e =
+    no_store (rows_of_batches batches key.Store) (kind_after None key.Store (flat_map (λ (batch : List Change). batch) batches) tt) e
+
+pub store_row : (found : Option Value) (row : StoreRow) → store_in found ≡ Some row → found ≡ Some (value.Store row)
+store_row None row e = absurd (cc)
+store_row (Some (value.Store r)) row e = cc
+store_row (Some v) row e = absurd (cc)
+
+-- a put sets its own row
+pub put_row : (found : Option Value) (k : Key) (c : Change) (v : Value) → Puts c k v → changed found k c ≡ Some v
+put_row found k c v p =
+    let same : same_key (key_of c) k ≡ true = (keys_compare (key_of c) k).1 p.key_is in
+    let one : changed found k c ≡ value_of c = rw same refl in
+    one ∙ p.value_is
+
+-- and no other
+pub other_row : (found : Option Value) (k other : Key) (c : Change) (v : Value) → Puts c k v → same_key k other ≡ false → changed found other c ≡ found
+other_row found k other c v p e =
+    let same : same_key (key_of c) other ≡ false = ap (λ (q : Key). same_key q other) p.key_is ∙ e in
+    rw same refl

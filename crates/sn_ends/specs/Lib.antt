@@ -1,0 +1,15 @@
+pub mod Answers
+pub mod Batches
+pub mod Changes
+pub mod Events
+pub mod Index
+pub mod Kept
+pub mod Opened
+pub mod Outcomes
+pub mod Ready
+pub mod Regular
+pub mod Rows
+pub mod Settings
+pub mod Stands
+pub mod Synced
+pub mod Syncs
