@@ -1,0 +1,37 @@
+-- The lines of a script that was read are what a call at both ends asks for.
+use Rattle.std.proofs.Common.{◌≡◌, ℕ, zero, suc, ◌<◌, List, [], ◌∷◌, length, get_or, subst, sym, arith}
+use Rattle.sn_laws.specs.Each.{Each}
+use Rattle.sn_script.specs.Grammar.{IsLine, Word}
+use Rattle.sn_script.specs.Scripts.{AreLinesFrom, lines_of}
+use Rattle.sn_script.specs.declared.script.Line.{Line}
+use Rattle.sn_script.specs.declared.script.Line.TheVariants as line
+use Rattle.sn_script.specs.declared.script.Script.{Script}
+use Rattle.sn_replay.specs.Playing.{IsBounded, IsRead}
+
+line_bounded : (ws : List Word) (l : Line) → IsLine ws l → IsBounded l
+line_bounded ws (line.Seed bytes) h = tt
+line_bounded ws (line.Cost n) h = h.1
+line_bounded ws (line.Clock n) h = tt
+line_bounded ws (line.Register device identifier password) h = h.2
+line_bounded ws (line.Put device text) h = tt
+line_bounded ws (line.Sync device) h = tt
+line_bounded ws line.Show h = tt
+
+lines_bounded : (place : ℕ) (texts : List (List ℕ)) (lines : List Line) → AreLinesFrom place texts lines → Each IsBounded lines
+lines_bounded place [] [] h = tt
+lines_bounded place [] (l ∷ lines) h = absurd h
+lines_bounded place (text ∷ texts) [] h = tt
+lines_bounded place (text ∷ texts) (l ∷ lines) h = (line_bounded _ l h.0.0, lines_bounded (suc place) texts lines h.1)
+
+each_at : {A : Type 0} (P : A → Type 0) (xs : List A) (index : ℕ) (x : A) → Each P xs → index < length xs → P (get_or xs index x)
+each_at P [] index x h lt = absurd (omega (arith, lt))
+each_at P (y ∷ xs) zero x h lt = h.0
+each_at P (y ∷ xs) (suc index) x h lt = each_at P xs index x h.1 (omega (arith, lt))
+
+-- so is each line
+pub read_bounded : (script : Script) (index : ℕ) (lines : List Line) (l : Line) → IsRead script → lines ≡ script.lines → index < length lines
+    → l ≡ get_or lines index l → IsBounded l
+read_bounded script index lines l read lines_are lt at =
+    subst (λ (x : Line). IsBounded x) (sym at)
+    (each_at IsBounded lines index l
+    (subst (λ (ls : List Line). Each IsBounded ls) (sym lines_are) (lines_bounded 0 (lines_of read.text) script.lines read.is)) lt)
