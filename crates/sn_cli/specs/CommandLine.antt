@@ -67,10 +67,15 @@ pub record IsOpenLine (words : List (List ℕ)) (line : OpenLine) : Type 0 where
 abbrev pub IsShowLine : List (List ℕ) → Type 0
 IsShowLine words = Names words (codes "show")
 
+-- the words are a line of `replay`
+abbrev pub IsReplayLine : List (List ℕ) → Type 0
+IsReplayLine words = Names words (codes "replay")
+
 -- the words are no command line, and ask neither for help nor for the version
 pub record IsUsage (words : List (List ℕ)) : Type 0 where
   pub no_seal : (line : SealLine) → ¬ (IsSealLine words line)
   pub no_open : (line : OpenLine) → ¬ (IsOpenLine words line)
   pub no_show : ¬ (IsShowLine words)
+  pub no_replay : ¬ (IsReplayLine words)
   pub no_help : fault_of sn_app words ≢ DisplayHelp ∷ []
   pub no_version : fault_of sn_app words ≢ DisplayVersion ∷ []

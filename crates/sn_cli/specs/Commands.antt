@@ -1,11 +1,11 @@
 -- The words of a command with its options.
 use Rattle.std.specs.Prelude.{ℕ, List, ⊤}
-use Rattle.sn_cli.specs.CommandLine.{SealLine, OpenLine, IsSealLine, IsOpenLine, IsShowLine, IsUsage}
+use Rattle.sn_cli.specs.CommandLine.{SealLine, OpenLine, IsSealLine, IsOpenLine, IsShowLine, IsReplayLine, IsUsage}
 use Rattle.sn_cli.specs.Syntax.{AsksForHelp, AsksForVersion}
 use Rattle.sn_cli.specs.declared.command_line.ItemOptions.{ItemOptions}
 use Rattle.sn_cli.specs.declared.command_line.ParamsOptions.{ParamsOptions}
 use Rattle.sn_cli.specs.declared.command_line.Command.{Command}
-use Rattle.sn_cli.specs.declared.command_line.Command.TheVariants.{Seal, Open, Show, Help, Version}
+use Rattle.sn_cli.specs.declared.command_line.Command.TheVariants.{Seal, Open, Show, Replay, Help, Version}
 use Rattle.sn_cli.specs.declared.command_line.LineError.{LineError}
 use Rattle.sn_cli.specs.declared.command_line.LineError.TheVariants.{Usage, Memory}
 
@@ -26,6 +26,7 @@ abbrev pub IsCommand : List (List ℕ) → Command → Type 0
 IsCommand words (Seal item params) = IsSealLine words (seal_line item params)
 IsCommand words (Open item) = IsOpenLine words (open_line item)
 IsCommand words Show = IsShowLine words
+IsCommand words Replay = IsReplayLine words
 IsCommand words (Help text) = AsksForHelp words
 IsCommand words (Version text) = AsksForVersion words
 

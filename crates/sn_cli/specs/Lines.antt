@@ -3,11 +3,13 @@ use Rattle.std.specs.Prelude.{ℕ, List, [], ◌∷◌, ◌++◌, codes, ⊤}
 use Rattle.std.specs.Fmt.{decimal}
 use Rattle.hex.specs.Hex.{encode_lower}
 use Rattle.sn_cli.specs.declared.status.Refusal.{Refusal}
-use Rattle.sn_cli.specs.declared.status.Refusal.TheVariants.{InputLong, InputUtf8, Form, Item}
+use Rattle.sn_cli.specs.declared.status.Refusal.TheVariants.{InputLong, InputUtf8, Form, Item, Script}
 use Rattle.sn_cli.specs.declared.status.Status.{Status}
 use Rattle.sn_cli.specs.declared.status.Status.TheVariants as status
 use Rattle.sn_items.specs.declared.error.ItemError.{ItemError}
 use Rattle.sn_items.specs.declared.error.ItemError.TheVariants as item
+use Rattle.sn_script.specs.declared.script.ScriptError.{ScriptError}
+use Rattle.sn_script.specs.declared.script.ScriptError.TheVariants as script
 use Rattle.sn_string.specs.Uuids.{uuid_text}
 use Rattle.sn_string.specs.declared.reader.StringError.{StringError}
 use Rattle.sn_string.specs.declared.reader.StringError.TheVariants as string
@@ -43,11 +45,17 @@ item_text item.NotObject = codes "items.13 NotObject"
 item_text (item.OtherSet nonce) = codes "items.14 OtherSet " ++ nonce
 item_text item.Memory = codes "memory"
 
+-- a refusal of a script, with the number of the line
+abbrev pub script_text : ScriptError → List ℕ
+script_text (script.Line number) = codes "replay.1 Line " ++ decimal number
+script_text script.Memory = codes "memory"
+
 abbrev pub refusal_text : Refusal → List ℕ
 refusal_text InputLong = codes "cli.1 InputLong"
 refusal_text (InputUtf8 place) = codes "cli.2 InputUtf8 " ++ decimal place
 refusal_text (Form error) = form_text error
 refusal_text (Item error) = item_text error
+refusal_text (Script error) = script_text error
 
 -- the line of a status
 abbrev pub line_of : Status → List ℕ
@@ -57,6 +65,15 @@ line_of (status.Refused refusal) = codes "sn: " ++ (refusal_text refusal ++ 10 �
 line_of status.ReadFault = codes "sn: read fault\n"
 line_of status.WriteFault = codes "sn: write fault\n"
 line_of status.Memory = codes "sn: memory\n"
+
+-- a status that an input brings about
+abbrev pub IsOfInput : Status → Type 0
+IsOfInput status.Done = ⊥
+IsOfInput status.Usage = ⊥
+IsOfInput (status.Refused refusal) = ⊤
+IsOfInput status.ReadFault = ⊤
+IsOfInput status.WriteFault = ⊥
+IsOfInput status.Memory = ⊥
 
 -- a status at which nothing was written to standard output
 abbrev pub IsSilent : Status → Type 0

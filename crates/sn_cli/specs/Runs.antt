@@ -1,10 +1,10 @@
 -- What the commands do.
-use Rattle.std.specs.Prelude.{◌≡◌, ◌⊎◌, ℕ, ◌^◌, List, [], ◌∷◌, ◌++◌, take, drop}
+use Rattle.std.specs.Prelude.{◌≡◌, ◌≢◌, ◌⊎◌, ℕ, ◌^◌, List, [], ◌∷◌, ◌++◌, take, drop}
 use Rattle.std.specs.declared.option.Option.{Option}
 use Rattle.std.specs.Io.KnownBytes.{Appends}
 use Rattle.std.specs.Str.{IsUtf8}
 use Rattle.rand_chacha.specs.ChaCha.{of_seed}
-use Rattle.sn_cli.specs.CommandLine.{SealLine, OpenLine, IsSealLine, IsOpenLine, IsShowLine}
+use Rattle.sn_cli.specs.CommandLine.{SealLine, OpenLine, IsSealLine, IsOpenLine, IsShowLine, IsReplayLine}
 use Rattle.sn_cli.specs.Shown.{IsShown}
 use Rattle.sn_cli.specs.Syntax.{AsksForHelp, AsksForVersion}
 use Rattle.sn_io.specs.Streams.{Gains, HasGiven}
@@ -14,6 +14,14 @@ use Rattle.sn_items.specs.Refusals.{HasCause}
 use Rattle.sn_items.specs.Seals.{IsSealed}
 use Rattle.sn_items.specs.Utf8.{IsValidTo}
 use Rattle.sn_items.specs.declared.error.ItemError.{ItemError}
+use Rattle.sn_replay.specs.Headline.{Carries}
+use Rattle.sn_replay.specs.declared.bench.PlainBench.{PlainBench}
+use Rattle.sn_report.specs.Text.{report_text}
+use Rattle.sn_report.specs.declared.report.Report.{Report}
+use Rattle.sn_script.specs.Scripts.{IsScript, IsScriptRefusal}
+use Rattle.sn_script.specs.declared.script.Script.{Script}
+use Rattle.sn_script.specs.declared.script.ScriptError.{ScriptError}
+use Rattle.sn_script.specs.declared.script.ScriptError.TheVariants as script_error
 use Rattle.sn_string.specs.Grammar.{parts_of}
 use Rattle.sn_string.specs.Refusals.{Refuses}
 use Rattle.sn_string.specs.declared.params.Params.{Params}
@@ -102,6 +110,30 @@ pub record RefusesForm (words : List (List ℕ)) (input_before input_after : Opt
   pub read : ReadsString words input_before input_after text
   pub cause : Refuses (parts_of text) error
 
+-- `replay` read its whole input, as one text
+pub record ReadsScript (words : List (List ℕ)) (input_before input_after : Option (List ℕ)) (text : List ℕ) : Type 0 where
+  pub spelled : IsReplayLine words
+  pub given : HasGiven MOST_INPUT input_before input_after text
+  pub utf8 : IsUtf8 text
+
+-- and wrote the report that the text's script carries, from nothing
+pub record Replays (words : List (List ℕ)) (input_before input_after out_before out_after : Option (List ℕ)) : Type 0 where
+  pub text : List ℕ
+  pub read : ReadsScript words input_before input_after text
+  pub script : Script
+  pub is : IsScript text script.lines
+  pub bench : PlainBench
+  pub report : Report
+  pub carries : Carries script bench report
+  pub wrote : Appends out_before out_after (report_text report)
+
+-- or the text is no script, for this cause: the number of its first line out of the grammar
+pub record RefusesScript (words : List (List ℕ)) (input_before input_after : Option (List ℕ)) (error : ScriptError) : Type 0 where
+  pub text : List ℕ
+  pub read : ReadsScript words input_before input_after text
+  pub cause : IsScriptRefusal text error
+  pub numbered : error ≢ script_error.Memory
+
 -- the words ask for help or for the version; a text was written, and nothing read
 pub record Answers (words : List (List ℕ)) (input_before input_after out_before out_after : Option (List ℕ)) : Type 0 where
   pub asks : AsksForHelp words ⊎ AsksForVersion words
@@ -109,14 +141,24 @@ pub record Answers (words : List (List ℕ)) (input_before input_after out_befor
   pub text : List ℕ
   pub wrote : Appends out_before out_after text
 
--- what a run that is done did: one of these, by its words
+-- what a run that is done did: one of these, by its words; only `seal` draws a seed
 unfoldable pub Does : (words : List (List ℕ)) (input_before input_after out_before out_after : Option (List ℕ))
     (seeds_before seeds_after : Option (List (List ℕ))) → Type 0
 Does words input_before input_after out_before out_after seeds_before seeds_after =
     Seals words input_before input_after out_before out_after seeds_before seeds_after
-    ⊎ OpensText words input_before input_after out_before out_after
+    ⊎ ((seeds_after ≡ seeds_before)
+    × (OpensText words input_before input_after out_before out_after
     ⊎ ShowsText words input_before input_after out_before out_after
-    ⊎ Answers words input_before input_after out_before out_after
+    ⊎ Replays words input_before input_after out_before out_after
+    ⊎ Answers words input_before input_after out_before out_after))
+
+-- the words are a line of a command that reads its input
+abbrev pub IsReading : List (List ℕ) → Type 0
+IsReading words =
+    ((line : SealLine) × IsSealLine words line)
+    ⊎ ((line : OpenLine) × IsOpenLine words line)
+    ⊎ IsShowLine words
+    ⊎ IsReplayLine words
 
 -- the whole input was read, and its longest UTF-8 prefix ends at this place
 pub record IsInputUtf8 (input_before input_after : Option (List ℕ)) (place : ℕ) : Type 0 where

@@ -24,6 +24,9 @@ open_shape = command_shape (codes "open") (option_rule (codes "uuid") true ∷ o
 unfoldable pub show_shape : Shape
 show_shape = command_shape (codes "show") []
 
+unfoldable pub replay_shape : Shape
+replay_shape = command_shape (codes "replay") []
+
 -- `sn` without its commands: one of them must be named; it answers `--help` and `--version`
 unfoldable pub sn_top : App
 sn_top = on_top
@@ -31,7 +34,7 @@ sn_top = on_top
     (new_app (codes "sn"))
 
 unfoldable pub sn_app : App
-sn_app = with_subcommand (with_subcommand (with_subcommand sn_top seal_shape) open_shape) show_shape
+sn_app = with_subcommand (with_subcommand (with_subcommand (with_subcommand sn_top seal_shape) open_shape) show_shape) replay_shape
 
 -- `clap` takes the words
 abbrev pub Takes : List (List ℕ) → Type 0

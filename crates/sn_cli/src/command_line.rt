@@ -37,6 +37,7 @@ pub enum Command<'a> {
     Seal(ItemOptions, ParamsOptions<'a>),
     Open(ItemOptions),
     Show,
+    Replay,
     Help(Error),
     Version(Error),
 }
@@ -74,6 +75,7 @@ fn given_command<'a>(given: &Given<'a>) -> Option<Command<'a>>
         "seal" => seal_command(given),
         "open" => open_command(given),
         "show" => Some(Command::Show),
+        "replay" => Some(Command::Replay),
         _ => None,
     }
 }

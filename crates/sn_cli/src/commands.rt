@@ -7,6 +7,7 @@ ghost use Rattle.sn_io.specs.Streams.{GivesPart, HasGiven};
 ghost use Rattle.sn_items.specs.Draws.{drawn};
 ghost use Rattle.sn_items.specs.Seals.{IsSealed};
 ghost use Rattle.sn_items.specs.declared.error.ItemError.{ItemError};
+ghost use Rattle.sn_script.specs.declared.script.ScriptError.{ScriptError};
 ghost use Rattle.sn_string.specs.Bounds.{IsIdentifier, IsCost, IsNonce};
 ghost use Rattle.sn_string.specs.declared.params.Params.{Params};
 ghost use Rattle.sn_string.specs.declared.reader.StringError.{StringError};
@@ -38,6 +39,7 @@ pub fn seal_input<I: Source, O: Sink, R: Seeds>(
         → Seals words (I.left input.old) (I.left input.new) (O.held out.old) (O.held out.new) (R.given seeds.old) (R.given seeds.new) }
     ensures item { (error : ItemError) → result ≢ Status.Refused (Refusal.Item error) }
     ensures form { (error : StringError) → result ≢ Status.Refused (Refusal.Form error) }
+    ensures script { (error : ScriptError) → result ≢ Status.Refused (Refusal.Script error) }
     ensures usage { result ≢ Status.Usage }
     ensures long { result ≡ Status.Refused Refusal.InputLong → GivesPart (I.left input.old) (I.left input.new) (MOST_INPUT + 1) }
     ensures utf8 { (place : ℕ) → result ≡ Status.Refused (Refusal.InputUtf8 place)
@@ -69,6 +71,7 @@ pub fn open_input<I: Source, O: Sink>(
     ensures item { (error : ItemError) → result ≡ Status.Refused (Refusal.Item error) → (words : List (List ℕ))
         → IsOpenLine words (open_line item.now) → RefusesText words (I.left input.old) (I.left input.new) error }
     ensures form { (error : StringError) → result ≢ Status.Refused (Refusal.Form error) }
+    ensures script { (error : ScriptError) → result ≢ Status.Refused (Refusal.Script error) }
     ensures usage { result ≢ Status.Usage }
     ensures long { result ≡ Status.Refused Refusal.InputLong → GivesPart (I.left input.old) (I.left input.new) (MOST_INPUT + 1) }
     ensures utf8 { (place : ℕ) → result ≡ Status.Refused (Refusal.InputUtf8 place)

@@ -2,13 +2,15 @@
 ghost use Rattle.std.specs.Prelude.{◌≡◌, ◌⊎◌, IfOk, string_bytes};
 ghost use Rattle.sn_io.specs.Streams.{Tells};
 ghost use Rattle.sn_items.specs.declared.error.ItemError.{ItemError};
+ghost use Rattle.sn_script.specs.declared.script.ScriptError.{ScriptError};
 ghost use Rattle.sn_string.specs.declared.reader.StringError.{StringError};
 ghost use Rattle.sn_cli.specs.declared.status.Refusal.{Refusal};
-ghost use Rattle.sn_cli.specs.Lines.{line_of, refusal_text, item_text, form_text};
+ghost use Rattle.sn_cli.specs.Lines.{line_of, refusal_text, item_text, form_text, script_text};
 
 use crate::status::{Refusal, Status};
 use sn_io::{Sink, write_all};
 use sn_items::ItemError;
+use sn_script::ScriptError;
 use sn_string::{StringError, hex_text, uuid_text};
 use std::alloc::{AllocError, Global};
 
@@ -70,6 +72,7 @@ fn refusal_line(alloc: Global, refusal: &Refusal) -> Result<String, AllocError>
         Refusal::InputUtf8 { place } => format!(in alloc; "cli.2 InputUtf8 {place}")?,
         Refusal::Form(error) => form_line(alloc, error)?,
         Refusal::Item(error) => item_line(alloc, error)?,
+        Refusal::Script(error) => script_line(alloc, error)?,
     };
     format!(in alloc; "sn: {text}\n")
 }
@@ -112,5 +115,14 @@ fn form_line(alloc: Global, error: &StringError) -> Result<String, AllocError>
         StringError::Ciphertext { place } => format!(in alloc; "string.6 Ciphertext {place}"),
         StringError::Params { place } => format!(in alloc; "string.7 Params {place}"),
         StringError::Memory => format!(in alloc; "memory"),
+    }
+}
+
+fn script_line(alloc: Global, error: &ScriptError) -> Result<String, AllocError>
+    ensures { IfOk result (λ line. string_bytes line ≡ script_text error.now) }
+{
+    match error {
+        ScriptError::Line { number } => format!(in alloc; "replay.1 Line {number}"),
+        ScriptError::Memory => format!(in alloc; "memory"),
     }
 }

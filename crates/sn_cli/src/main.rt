@@ -10,6 +10,7 @@ mod lines;
 mod number;
 mod outside;
 mod program;
+mod replaying;
 mod showing;
 mod status;
 mod syntax;

@@ -4,10 +4,11 @@ ghost use Rattle.std.specs.Io.KnownBytes.{Keeps};
 ghost use Rattle.sn_io.specs.Causes.{Rose};
 ghost use Rattle.sn_io.specs.Streams.{GivesPart, Tells};
 ghost use Rattle.sn_items.specs.declared.error.ItemError.{ItemError};
+ghost use Rattle.sn_script.specs.declared.script.ScriptError.{ScriptError};
 ghost use Rattle.sn_string.specs.declared.reader.StringError.{StringError};
-ghost use Rattle.sn_cli.specs.CommandLine.{IsUsage};
-ghost use Rattle.sn_cli.specs.Lines.{line_of, IsSilent};
-ghost use Rattle.sn_cli.specs.Runs.{MOST_INPUT, Does, RefusesText, RefusesForm, IsInputUtf8};
+ghost use Rattle.sn_cli.specs.CommandLine.{SealLine, IsSealLine, IsUsage};
+ghost use Rattle.sn_cli.specs.Lines.{line_of, IsOfInput, IsSilent};
+ghost use Rattle.sn_cli.specs.Runs.{MOST_INPUT, Does, RefusesText, RefusesForm, RefusesScript, IsInputUtf8, IsReading};
 ghost use Rattle.sn_cli.specs.Syntax.{AsksForHelp, AsksForVersion};
 ghost use Rattle.sn_cli.specs.Words.{texts};
 
@@ -15,6 +16,7 @@ use crate::command_line::{Command, LineError, command_of};
 use crate::commands::{open_input, seal_input};
 use crate::help::answer_help;
 use crate::lines::tell;
+use crate::replaying::replay_input;
 use crate::showing::show_input;
 use crate::status::{Refusal, Status};
 use sn_io::{Seeds, Sink, Source};
@@ -33,6 +35,8 @@ pub fn run<I: Source, O: Sink, E: Sink, R: Seeds>(
     ensures spelled { IsUsage (texts words.now) → ¬ (AsksForHelp (texts words.now)) → ¬ (AsksForVersion (texts words.now))
         → (result ≡ Status.Usage) ⊎ (result ≡ Status.Memory) }
     ensures untouched { result ≡ Status.Usage → (I.left input.new ≡ I.left input.old) × (R.given seeds.new ≡ R.given seeds.old) }
+    ensures undrawn { ((line : SealLine) → ¬ (IsSealLine (texts words.now) line)) → R.given seeds.new ≡ R.given seeds.old }
+    ensures reads { IsOfInput result → IsReading (texts words.now) }
     ensures done { result ≡ Status.Done → Does (texts words.now) (I.left input.old) (I.left input.new) (O.held out.old) (O.held out.new)
         (R.given seeds.old) (R.given seeds.new) }
 
@@ -41,6 +45,8 @@ pub fn run<I: Source, O: Sink, E: Sink, R: Seeds>(
         → RefusesText (texts words.now) (I.left input.old) (I.left input.new) error }
     ensures form { (error : StringError) → result ≡ Status.Refused (Refusal.Form error)
         → RefusesForm (texts words.now) (I.left input.old) (I.left input.new) error }
+    ensures script { (error : ScriptError) → result ≡ Status.Refused (Refusal.Script error)
+        → RefusesScript (texts words.now) (I.left input.old) (I.left input.new) error }
     ensures long { result ≡ Status.Refused Refusal.InputLong → GivesPart (I.left input.old) (I.left input.new) (MOST_INPUT + 1) }
     ensures utf8 { (place : ℕ) → result ≡ Status.Refused (Refusal.InputUtf8 place)
         → IsInputUtf8 (I.left input.old) (I.left input.new) place }
@@ -67,12 +73,16 @@ fn answer<I: Source, O: Sink, R: Seeds>(
     ensures spelled { IsUsage (texts words.now) → ¬ (AsksForHelp (texts words.now)) → ¬ (AsksForVersion (texts words.now))
         → (result ≡ Status.Usage) ⊎ (result ≡ Status.Memory) }
     ensures untouched { result ≡ Status.Usage → (I.left input.new ≡ I.left input.old) × (R.given seeds.new ≡ R.given seeds.old) }
+    ensures undrawn { ((line : SealLine) → ¬ (IsSealLine (texts words.now) line)) → R.given seeds.new ≡ R.given seeds.old }
+    ensures reads { IsOfInput result → IsReading (texts words.now) }
     ensures done { result ≡ Status.Done → Does (texts words.now) (I.left input.old) (I.left input.new) (O.held out.old) (O.held out.new)
         (R.given seeds.old) (R.given seeds.new) }
     ensures item { (error : ItemError) → result ≡ Status.Refused (Refusal.Item error)
         → RefusesText (texts words.now) (I.left input.old) (I.left input.new) error }
     ensures form { (error : StringError) → result ≡ Status.Refused (Refusal.Form error)
         → RefusesForm (texts words.now) (I.left input.old) (I.left input.new) error }
+    ensures script { (error : ScriptError) → result ≡ Status.Refused (Refusal.Script error)
+        → RefusesScript (texts words.now) (I.left input.old) (I.left input.new) error }
     ensures long { result ≡ Status.Refused Refusal.InputLong → GivesPart (I.left input.old) (I.left input.new) (MOST_INPUT + 1) }
     ensures utf8 { (place : ℕ) → result ≡ Status.Refused (Refusal.InputUtf8 place)
         → IsInputUtf8 (I.left input.old) (I.left input.new) place }
@@ -86,6 +96,7 @@ fn answer<I: Source, O: Sink, R: Seeds>(
         Ok(Command::Seal(item, params)) => seal_input(alloc, &item, &params, input, out, seeds),
         Ok(Command::Open(item)) => open_input(alloc, &item, input, out),
         Ok(Command::Show) => show_input(alloc, input, out),
+        Ok(Command::Replay) => replay_input(alloc, input, out),
         Ok(Command::Help(text)) => answer_help(alloc, &text, out),
         Ok(Command::Version(text)) => answer_help(alloc, &text, out),
     }

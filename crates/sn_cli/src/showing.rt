@@ -4,6 +4,7 @@ ghost use Rattle.std.specs.Io.KnownBytes.{Keeps};
 ghost use Rattle.sn_io.specs.Causes.{Rose};
 ghost use Rattle.sn_io.specs.Streams.{GivesPart};
 ghost use Rattle.sn_items.specs.declared.error.ItemError.{ItemError};
+ghost use Rattle.sn_script.specs.declared.script.ScriptError.{ScriptError};
 ghost use Rattle.sn_string.specs.Base64.{IsBase64};
 ghost use Rattle.sn_string.specs.Grammar.{IsCiphertext};
 ghost use Rattle.sn_string.specs.Parts.{reading_of};
@@ -29,6 +30,7 @@ pub fn show_input<I: Source, O: Sink>(alloc: Global, input: &mut I, out: &mut O)
     ensures form { (error : StringError) → result ≡ Status.Refused (Refusal.Form error) → (words : List (List ℕ))
         → IsShowLine words → RefusesForm words (I.left input.old) (I.left input.new) error }
     ensures item { (error : ItemError) → result ≢ Status.Refused (Refusal.Item error) }
+    ensures script { (error : ScriptError) → result ≢ Status.Refused (Refusal.Script error) }
     ensures usage { result ≢ Status.Usage }
     ensures long { result ≡ Status.Refused Refusal.InputLong → GivesPart (I.left input.old) (I.left input.new) (MOST_INPUT + 1) }
     ensures utf8 { (place : ℕ) → result ≡ Status.Refused (Refusal.InputUtf8 place)

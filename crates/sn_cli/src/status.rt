@@ -2,6 +2,7 @@
 ghost use Rattle.std.specs.Prelude.{◌≡◌};
 
 use sn_items::ItemError;
+use sn_script::ScriptError;
 use sn_string::StringError;
 
 /// Why a command was refused.
@@ -15,6 +16,8 @@ pub enum Refusal {
     Form(StringError),
     /// The string doesn't open.
     Item(ItemError),
+    /// The input is no script.
+    Script(ScriptError),
 }
 
 /// The outcome of a run. Each but the first has a line on standard error.

@@ -3,13 +3,13 @@ ghost use Rattle.std.specs.Prelude.{◌≡◌, IfOk, false};
 ghost use Rattle.clap.specs.Simple.{app_of, shape_of, with_rule, with_subcommand};
 ghost use Rattle.clap.specs.Walk.{rule_of};
 ghost use Rattle.clap.specs.declared.builder.command.Command.TheViews.{out-Command as fields_of};
-ghost use Rattle.sn_cli.specs.Syntax.{sn_app, sn_top, seal_shape, open_shape, show_shape, option_rule};
+ghost use Rattle.sn_cli.specs.Syntax.{sn_app, sn_top, seal_shape, open_shape, show_shape, replay_shape, option_rule};
 
 use clap::{Arg, Command};
 use std::alloc::{AllocError, Global};
 
 const ABOUT: &str =
-    "Seals, opens and shows the encrypted strings of notes (encryption protocol 003).";
+    "Seals, opens and shows the encrypted strings of notes (encryption protocol 003), and replays scripts of several devices and a server.";
 
 const AFTER: &str =
     "A command reads standard input and writes standard output. Status 0 is success, 2 a faulty command line, 3 a refusal, 6 and 7 a failed read or write, 8 want of memory; each but 0 has one line on standard error.";
@@ -22,6 +22,9 @@ const OPEN: &str =
 
 const SHOW: &str =
     "Shows the parts of one 003 string on standard input, and the text that its salt is made of.";
+
+const REPLAY: &str =
+    "Carries out a script of several devices and a server in memory, and reports what each line brought about.";
 
 const UUID: &str = "The item, as 8-4-4-4-12 lower-case hex digits";
 
@@ -40,7 +43,8 @@ pub fn sn<'a>(alloc: Global) -> Result<Command<'a>, AllocError>
 {
     let command = with_command(top(alloc), seal(alloc)?)?;
     let command = with_command(command, open_one(alloc)?)?;
-    with_command(command, show(alloc))
+    let command = with_command(command, show(alloc))?;
+    with_command(command, replay(alloc))
 }
 
 #[tactic(auto, unfolding(crate::specs::Syntax::sn_top))]
@@ -85,6 +89,14 @@ fn show<'a>(alloc: Global) -> Command<'a>
     ensures local { (fields_of result).has_globals ≡ false }
 {
     Command::new(alloc, "show").about(SHOW)
+}
+
+#[tactic(auto, unfolding(crate::specs::Syntax::replay_shape))]
+fn replay<'a>(alloc: Global) -> Command<'a>
+    ensures shape { shape_of result ≡ replay_shape }
+    ensures local { (fields_of result).has_globals ≡ false }
+{
+    Command::new(alloc, "replay").about(REPLAY)
 }
 
 fn with_command<'a>(command: Command<'a>, sub: Command<'a>) -> Result<Command<'a>, AllocError>

@@ -1,6 +1,8 @@
-//! Runs over an outside in memory. The strings are those of an independent implementation for the seed of zeros.
+//! Runs over an outside in memory. The strings are those of an independent implementation for the seed of zeros; the
+//! reports are worked out by hand from what each line asks for.
 
 use crate::program::run;
+use crate::status::Status;
 use sn_io::{MemSeeds, MemSink, MemSource};
 use std::alloc::Global;
 use std::test::Fail;
@@ -68,6 +70,10 @@ const SHOW: &[&str] = &["show"];
 
 const SHOW_MORE: &[&str] = &["show", "--uuid", "00000000-0000-4000-8000-000000000001"];
 
+const REPLAY: &[&str] = &["replay"];
+
+const REPLAY_MORE: &[&str] = &["replay", "--cost", "1"];
+
 const OTHER_ORDER: &[&str] = &[
     "seal",
     "--nonce=6e",
@@ -117,7 +123,7 @@ struct Case {
     err: &'static [u8],
 }
 
-static CASES: [Case; 28] = [
+static CASES: [Case; 35] = [
     Case {
         name: "the empty text",
         words: SEAL,
@@ -398,6 +404,150 @@ static CASES: [Case; 28] = [
         out: b"",
         err: b"sn: usage\n",
     },
+    Case {
+        name: "replay: the fourth line is no command",
+        words: REPLAY,
+        input: b"cost 1\nclock 1000\nregister A alice p1\nsignin B alice p1\nput A {\"title\":\"x\"}\nsync A\n",
+        failing_reads: &[],
+        failing_writes: &[],
+        status: 3,
+        out: b"",
+        err: b"sn: replay.1 Line 4\n",
+    },
+    Case {
+        name: "replay: a carriage return",
+        words: REPLAY,
+        input: b"cost 1\r\nclock 1000\r\n",
+        failing_reads: &[],
+        failing_writes: &[],
+        status: 3,
+        out: b"",
+        err: b"sn: replay.1 Line 1\n",
+    },
+    Case {
+        name: "replay: a blank line",
+        words: REPLAY,
+        input: b"cost 1\n\nshow\n",
+        failing_reads: &[],
+        failing_writes: &[],
+        status: 3,
+        out: b"",
+        err: b"sn: replay.1 Line 2\n",
+    },
+    Case {
+        name: "replay: no UTF-8",
+        words: REPLAY,
+        input: b"cost 1\n\xff",
+        failing_reads: &[],
+        failing_writes: &[],
+        status: 3,
+        out: b"",
+        err: b"sn: cli.2 InputUtf8 7\n",
+    },
+    Case {
+        name: "replay: an option that it doesn't have",
+        words: REPLAY_MORE,
+        input: b"cost 1\nclock 1000\nregister A alice p1\nput A {\"title\":\"x\"}\nsync A\nshow\n",
+        failing_reads: &[],
+        failing_writes: &[],
+        status: 2,
+        out: b"",
+        err: b"sn: usage\n",
+    },
+    Case {
+        name: "replay: the first read fails",
+        words: REPLAY,
+        input: b"cost 1\nclock 1000\nregister A alice p1\nput A {\"title\":\"x\"}\nsync A\nshow\n",
+        failing_reads: &[0],
+        failing_writes: &[],
+        status: 6,
+        out: b"",
+        err: b"sn: read fault\n",
+    },
+    Case {
+        name: "replay: the second read fails",
+        words: REPLAY,
+        input: b"cost 1\nclock 1000\nregister A alice p1\nsignin B alice p1\nput A {\"title\":\"x\"}\nsync A\n",
+        failing_reads: &[1],
+        failing_writes: &[],
+        status: 6,
+        out: b"",
+        err: b"sn: read fault\n",
+    },
+];
+
+// Scripts that are carried out.
+static REPLAYS: [Case; 7] = [
+    Case {
+        name: "replays",
+        words: REPLAY,
+        input: b"cost 1\nclock 1000\nregister A alice p1\nput A {\"title\":\"x\"}\nsync A\nshow\n",
+        failing_reads: &[],
+        failing_writes: &[],
+        status: 0,
+        out: b"3 register alice set 1\n3 join A alice set 1\n3 = ok\n4 edit A #1 {\"title\":\"x\"}\n4 = ok\n5 post A #1\n5 accept #1 @1000 set 1\n5 settle A #1\n5 = ok\n6 account alice set 1\n6 item #1 @1000 set 1 {\"title\":\"x\"}\n6 device A alice sets 1\n6 = ok\n",
+        err: b"",
+    },
+    Case {
+        name: "replay: two items in one sync, and a sync of none",
+        words: REPLAY,
+        input: b"cost 1\nclock 1000\nregister A alice p1\nput A {\"n\":1}\nput A {\"n\":2}\nsync A\nsync A\nshow\n",
+        failing_reads: &[],
+        failing_writes: &[],
+        status: 0,
+        out: b"3 register alice set 1\n3 join A alice set 1\n3 = ok\n4 edit A #1 {\"n\":1}\n4 = ok\n5 edit A #2 {\"n\":2}\n5 = ok\n6 post A #1\n6 post A #2\n6 accept #1 @1000 set 1\n6 accept #2 @1001 set 1\n6 settle A #1\n6 settle A #2\n6 = ok\n7 = ok\n8 account alice set 1\n8 item #1 @1000 set 1 {\"n\":1}\n8 item #2 @1001 set 1 {\"n\":2}\n8 device A alice sets 1\n8 = ok\n",
+        err: b"",
+    },
+    Case {
+        name: "replay: no line feed at the end",
+        words: REPLAY,
+        input: b"cost 1\nclock 1000\nregister A alice p1\nput A {\"title\":\"x\"}\nsync A\nshow",
+        failing_reads: &[],
+        failing_writes: &[],
+        status: 0,
+        out: b"3 register alice set 1\n3 join A alice set 1\n3 = ok\n4 edit A #1 {\"title\":\"x\"}\n4 = ok\n5 post A #1\n5 accept #1 @1000 set 1\n5 settle A #1\n5 = ok\n6 account alice set 1\n6 item #1 @1000 set 1 {\"title\":\"x\"}\n6 device A alice sets 1\n6 = ok\n",
+        err: b"",
+    },
+    Case {
+        name: "replay: the empty script",
+        words: REPLAY,
+        input: b"",
+        failing_reads: &[],
+        failing_writes: &[],
+        status: 0,
+        out: b"",
+        err: b"",
+    },
+    Case {
+        name: "replay: settings alone",
+        words: REPLAY,
+        input: b"cost 1\nclock 1000\n",
+        failing_reads: &[],
+        failing_writes: &[],
+        status: 0,
+        out: b"",
+        err: b"",
+    },
+    Case {
+        name: "replay: the first write fails",
+        words: REPLAY,
+        input: b"cost 1\nclock 1000\nregister A alice p1\nput A {\"title\":\"x\"}\nsync A\nshow\n",
+        failing_reads: &[],
+        failing_writes: &[0],
+        status: 7,
+        out: b"",
+        err: b"sn: write fault\n",
+    },
+    Case {
+        name: "replay: the second write fails",
+        words: REPLAY,
+        input: b"cost 1\nclock 1000\nregister A alice p1\nput A {\"title\":\"x\"}\nsync A\nshow\n",
+        failing_reads: &[],
+        failing_writes: &[1],
+        status: 7,
+        out: b"3 register alice set 1\n3 join A alice set 1\n3 = ok",
+        err: b"sn: write fault\n",
+    },
 ];
 
 fn owned(alloc: Global, words: &[&str]) -> Result<Vec<String>, Fail> {
@@ -408,27 +558,43 @@ fn owned(alloc: Global, words: &[&str]) -> Result<Vec<String>, Fail> {
     Ok(owned)
 }
 
+#[derive(Drop)]
+struct Outcome {
+    status: Status,
+    out: MemSink,
+    err: MemSink,
+}
+
+fn outcome_of(alloc: Global, case: &Case) -> Result<Outcome, Fail> {
+    let words = owned(alloc, case.words)?;
+    let failing_reads = case.failing_reads.to_vec(alloc)?;
+    let failing_writes = case.failing_writes.to_vec(alloc)?;
+    let mut input = MemSource::new(case.input.to_vec(alloc)?, 100, failing_reads);
+    let mut out = MemSink::new(alloc, 50, failing_writes);
+    let mut err = MemSink::new(alloc, 7, Vec::new(alloc));
+    let mut seeds = MemSeeds::new(Vec::new(alloc));
+    let status = run(alloc, &words, &mut input, &mut out, &mut err, &mut seeds);
+    Ok(Outcome { status, out, err })
+}
+
 #[test]
 fn runs(rt: HostRuntime) -> Result<(), Fail> {
     for case in CASES.iter() {
-        let words = owned(rt.alloc(), case.words)?;
-        let failing_reads = case.failing_reads.to_vec(rt.alloc())?;
-        let failing_writes = case.failing_writes.to_vec(rt.alloc())?;
-        let mut input = MemSource::new(case.input.to_vec(rt.alloc())?, 100, failing_reads);
-        let mut out = MemSink::new(rt.alloc(), 50, failing_writes);
-        let mut err = MemSink::new(rt.alloc(), 7, Vec::new(rt.alloc()));
-        let mut seeds = MemSeeds::new(Vec::new(rt.alloc()));
-        let status = run(
-            rt.alloc(),
-            &words,
-            &mut input,
-            &mut out,
-            &mut err,
-            &mut seeds,
-        );
-        assert_eq!(rt; status.code(), case.status, "{}", case.name);
-        assert_eq!(rt; out.bytes(), case.out, "{}", case.name);
-        assert_eq!(rt; err.bytes(), case.err, "{}", case.name);
+        let found = outcome_of(rt.alloc(), case)?;
+        assert_eq!(rt; found.status.code(), case.status, "{}", case.name);
+        assert_eq!(rt; found.out.bytes(), case.out, "{}", case.name);
+        assert_eq!(rt; found.err.bytes(), case.err, "{}", case.name);
+    }
+    Ok(())
+}
+
+#[test]
+fn replays(rt: HostRuntime) -> Result<(), Fail> {
+    for case in REPLAYS.iter() {
+        let found = outcome_of(rt.alloc(), case)?;
+        assert_eq!(rt; found.status.code(), case.status, "{}", case.name);
+        assert_eq!(rt; found.out.bytes(), case.out, "{}", case.name);
+        assert_eq!(rt; found.err.bytes(), case.err, "{}", case.name);
     }
     Ok(())
 }
