@@ -1,13 +1,6 @@
 -- What the strings of an item's row hold, under its account's only set.
-use Rattle.std.proofs.Common.{◌≡◌, ℕ, zero, suc, List, [], ◌∷◌, Option, Some, None, Result, Ok, Err, true, false, refl, sym, ap, ◌∙◌, subst, ⊎_elim}
-use Rattle.std.specs.Prelude.{IfOk, IsErr}
-use Rattle.sn_items.specs.ItemRefusals.{ItemHasCause}
+use Rattle.std.proofs.Common.{◌≡◌, ℕ, zero, suc, List, [], ◌∷◌, Option, Some, None, true, false, refl, sym, ap, ◌∙◌, subst}
 use Rattle.sn_items.specs.Items.{OpensItem}
-use Rattle.sn_items.specs.declared.error.ItemError.{ItemError}
-use Rattle.sn_items.specs.declared.error.ItemError.TheVariants.{Memory}
-use Rattle.sn_items.specs.declared.sealed.Sealed.{Sealed}
-use Rattle.sn_items.specs.declared.sealed.Which.{Which}
-use Rattle.sn_items.proofs.ItemLawLemmas.{one_content, only_item}
 use Rattle.sn_laws.specs.Lookups.{Bytes}
 use Rattle.sn_laws.specs.declared.ideal.Body.{Body}
 use Rattle.sn_laws.specs.declared.ideal.Body.TheVariants.{Under, Gone}
@@ -16,34 +9,6 @@ use Rattle.sn_shows.specs.Servers.{ShowsStrings}
 use Rattle.sn_shows.specs.Sets.{set_at}
 use Rattle.sn_string.specs.declared.params.KeySet.{KeySet}
 use Rattle.sn_replay.specs.Shown.{HasSet, sealed_in}
-
--- what is opened
-
-same_sealed : (row : ItemRow) (content enc : Bytes) → content ≡ row.content → enc ≡ row.enc
-    → ◌≡◌ {A = Sealed} (record { content = content; enc = enc }) (sealed_in row)
-same_sealed row content enc e k = λ i. record { content = e i; enc = k i }
-
-pub opened_is : (row : ItemRow) (uuid content enc got text : Bytes) (set : KeySet) → content ≡ row.content → enc ≡ row.enc
-    → OpensItem (record { content = content; enc = enc }) uuid set got → OpensItem (sealed_in row) uuid set text → got ≡ text
-opened_is row uuid content enc got text set e k opens is =
-    one_content (sealed_in row) uuid set got text (subst (λ (x : Sealed). OpensItem x uuid set got) (same_sealed row content enc e k) opens) is
-
--- an item's strings are not opened only for want of memory
-pub wants_memory : (row : ItemRow) (uuid content enc text : Bytes) (set : KeySet) (which : Which) (error : ItemError) → content ≡ row.content
-    → enc ≡ row.enc → ItemHasCause (record { content = content; enc = enc }) uuid set which error → OpensItem (sealed_in row) uuid set text
-    → error ≡ Memory
-wants_memory row uuid content enc text set which error e k cause is =
-    ⊎_elim
-    (λ (ok : Err (which, error) ≡ Ok text). absurd (cc))
-    (λ (memory : (w : Which) × (Err (which, error) ≡ Err (w, Memory))).
-    let pair : ◌≡◌ {A = Which × ItemError} (which, error) (memory.0, Memory) = cc in
-    ap (λ (p : Which × ItemError). p.1) pair)
-    (only_item (sealed_in row) uuid set text (Err (which, error)) is tt
-    (subst (λ (x : Sealed). ItemHasCause x uuid set which error) (same_sealed row content enc e k) cause))
-
-pub none_ok : {T E : Type 0} (P : T → Type 0) (result : Result T E) → IsErr result → IfOk result P
-none_ok P (Err e) err = tt
-none_ok P (Ok x) err = absurd (cc)
 
 -- what an item's version holds
 

@@ -13,6 +13,7 @@ pub mod LabelPlaces
 pub mod LineLemmas
 pub mod LineOrder
 pub mod OpenedDrafts
+pub mod OpenedItems
 pub mod PlaceLemmas
 pub mod PlayLemmas
 pub mod ReadLemmas

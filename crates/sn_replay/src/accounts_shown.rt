@@ -1,12 +1,10 @@
 //! The lines that show the server's accounts.
 
-ghost use Rattle.std.specs.Prelude.{◌≡◌, ◌+◌, ◌++◌, [], ◌∷◌, ◌<◌, List, ℕ, Some, IfOk, IsErr, OnOk, length, map, slice_index_or, slice_set};
+ghost use Rattle.std.specs.Prelude.{◌≡◌, ◌+◌, ◌++◌, [], ◌∷◌, ◌<◌, List, ℕ, Some, IfOk, OnOk, length, map, slice_index_or, slice_set};
 ghost use Rattle.std.specs.BTreeMap.{get};
 ghost use Rattle.std.specs.List.{flat_map};
 ghost use Rattle.std.specs.Option.{option_copied};
 ghost use Rattle.std.specs.Ordering.{nat_cmp};
-ghost use Rattle.sn_items.specs.Items.{OpensItem};
-ghost use Rattle.sn_items.specs.declared.error.ItemError.TheVariants.{Memory};
 ghost use Rattle.sn_laws.specs.Lookups.{Bytes};
 ghost use Rattle.sn_laws.specs.Runs.{end};
 ghost use Rattle.sn_laws.specs.declared.ideal.Account.{Account};
@@ -18,17 +16,17 @@ ghost use Rattle.sn_shows.specs.Servers.{ShowsServer, ShowsStrings, account_at};
 ghost use Rattle.sn_string.specs.declared.params.KeySet.{KeySet};
 ghost use Rattle.sn_replay.specs.Headline.{Course};
 ghost use Rattle.sn_replay.specs.Playing.{IsAt};
-ghost use Rattle.sn_replay.specs.Shown.{AreSets, HasSet, account_in, item_in, lines_so_far, sealed_in};
+ghost use Rattle.sn_replay.specs.Shown.{AreSets, HasSet, account_in, item_in, lines_so_far};
 
 use crate::account_sets::account_sets;
 use crate::bench::PlainBench;
 use crate::known::Known;
+use crate::opening::opened;
 use sn_ends::PlainServer;
-use sn_items::{ItemError, Sealed, open_item};
 use sn_laws::Body;
 use sn_report::{Labels, account_line, item_line};
 use sn_rows::{AccountRow, ItemRow, Key, Value};
-use sn_string::{KeySet, Many, Text, Twin};
+use sn_string::{KeySet, Many, Text};
 use std::alloc::{AllocError, Global};
 use std::collections::BTreeMap;
 use uuid::Uuid;
@@ -147,36 +145,9 @@ fn body_of(
     let Some(set) = sets.get(&row.account) else {
         return Ok(None);
     };
-    match opened(alloc, row, uuid, set)? {
+    match opened(alloc, &row.content, &row.enc, uuid, set)? {
         Some(text) => Ok(Some(Body::Under(text, 1))),
         None => Ok(None),
-    }
-}
-
-// The content of an item under a set.
-fn opened(
-    alloc: Global,
-    row: &ItemRow,
-    uuid: &Uuid,
-    set: &KeySet,
-) -> Result<Option<Text>, AllocError>
-    ensures { (text : Bytes) → OpensItem (sealed_in row.now) uuid.now set.now text → IfOk result (λ found. found ≡ Some text) }
-{
-    let content = row.content.twin(alloc)?;
-    let enc = row.enc.twin(alloc)?;
-    match open_item(alloc, &Sealed { content, enc }, *uuid, set) {
-        Ok(text) => Ok(Some(Text::of_string(text))),
-        Err((_, error)) => not_opened(error),
-    }
-}
-
-// Want of memory is an error, and other strings have no content.
-fn not_opened(error: ItemError) -> Result<Option<Text>, AllocError>
-    ensures { error ≡ Memory → IsErr result }
-{
-    match error {
-        ItemError::Memory => Err(AllocError),
-        _ => Ok(None),
     }
 }
 

@@ -1,28 +1,26 @@
 //! The lines that show a device's drafts.
 
-ghost use Rattle.std.specs.Prelude.{◌≡◌, ◌++◌, List, IfOk, IsErr, OnOk, Option, Some};
+ghost use Rattle.std.specs.Prelude.{◌≡◌, ◌++◌, List, IfOk, OnOk, Option, Some};
 ghost use Rattle.std.specs.BTreeMap.{values};
 ghost use Rattle.std.specs.List.{flat_map};
-ghost use Rattle.sn_items.specs.Items.{OpensItem};
-ghost use Rattle.sn_items.specs.declared.error.ItemError.TheVariants.{Memory};
-ghost use Rattle.sn_laws.specs.Lookups.{Bytes, draft_at};
+ghost use Rattle.sn_laws.specs.Lookups.{draft_at};
 ghost use Rattle.sn_laws.specs.declared.ideal.Content.{Content};
 ghost use Rattle.sn_laws.specs.declared.ideal.Draft.{Draft};
 ghost use Rattle.sn_laws.specs.declared.ideal.Ideal.{Ideal};
 ghost use Rattle.sn_report.specs.Labels.{label_from};
 ghost use Rattle.sn_report.specs.Showing.{draft_lines};
 ghost use Rattle.sn_rows.specs.Table.{rows_of_batches};
-ghost use Rattle.sn_shows.specs.Devices.{ShowsContent, ShowsDrafted, sealed_of};
+ghost use Rattle.sn_shows.specs.Devices.{ShowsContent, ShowsDrafted};
 ghost use Rattle.sn_shows.specs.Sets.{set_at};
 ghost use Rattle.sn_string.specs.declared.params.KeySet.{KeySet};
 ghost use Rattle.sn_replay.specs.DraftsShown.{AddsLine, ShowsDrafts, line_of};
 
+use crate::opening::opened;
 use sn_ends::PlainDevice;
-use sn_items::{ItemError, Sealed, open_item};
 use sn_laws::Content;
 use sn_report::{Labels, draft_line};
-use sn_rows::{LocalItem, RowBody, RowStrings};
-use sn_string::{KeySet, Many, Text, Twin};
+use sn_rows::{LocalItem, RowBody};
+use sn_string::{KeySet, Many, Text};
 use std::alloc::{AllocError, Global};
 use std::collections::BTreeMap;
 use uuid::Uuid;
@@ -98,37 +96,16 @@ fn content_of(
 {
     match latest {
         RowBody::Deleted => Ok(Some(Content::Deleted)),
-        RowBody::Sealed(strings) => match opened(alloc, strings, uuid, set)? {
+        RowBody::Sealed(strings) => match opened(
+            alloc,
+            &strings.content,
+            &strings.enc,
+            uuid,
+            set,
+        )? {
             Some(text) => Ok(Some(Content::Plain(text))),
             None => Ok(None),
         },
-    }
-}
-
-// The content of sealed strings under the set, where they open.
-fn opened(
-    alloc: Global,
-    strings: &RowStrings,
-    uuid: &Uuid,
-    set: &KeySet,
-) -> Result<Option<Text>, AllocError>
-    ensures { (text : Bytes) → OpensItem (sealed_of strings.now) uuid.now set.now text → IfOk result (λ found. found ≡ Some text) }
-{
-    let content = strings.content.twin(alloc)?;
-    let enc = strings.enc.twin(alloc)?;
-    match open_item(alloc, &Sealed { content, enc }, *uuid, set) {
-        Ok(text) => Ok(Some(Text::of_string(text))),
-        Err((_, error)) => left_out(error),
-    }
-}
-
-// What is refused is left out, but for want of memory.
-fn left_out(error: ItemError) -> Result<Option<Text>, AllocError>
-    ensures { error ≡ Memory → IsErr result }
-{
-    match error {
-        ItemError::Memory => Err(AllocError),
-        _ => Ok(None),
     }
 }
 

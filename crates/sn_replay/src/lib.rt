@@ -10,6 +10,7 @@ mod devices_shown;
 mod drafts_shown;
 mod known;
 mod lines;
+mod opening;
 pub mod run;
 mod show;
 
