@@ -144,11 +144,11 @@ class Help(unittest.TestCase):
     def test_each_command_is_named(self):
         for words in (["--help"], ["-h"]):
             text = self.answer(words)
-            for word in ("seal", "open", "show", "--help", "--version"):
+            for word in ("seal", "open", "show", "replay", "--help", "--version"):
                 self.assertIn(word, text)
 
     def test_each_option_is_told(self):
-        for command, options in (("seal", "uuid key identifier cost nonce"), ("open", "uuid key"), ("show", "")):
+        for command, options in (("seal", "uuid key identifier cost nonce"), ("open", "uuid key"), ("show", ""), ("replay", "")):
             text = self.answer([command, "--help"])
             for option in options.split():
                 self.assertIn("--" + option, text)
