@@ -1,0 +1,13 @@
+pub mod Stamps
+pub mod Tokens
+pub mod Members
+pub mod Refusals
+pub mod Items
+pub mod StampParts
+pub mod Plain
+pub mod Standings
+pub mod Query
+pub mod Requests
+pub mod Answers
+pub mod Written
+pub mod Laws

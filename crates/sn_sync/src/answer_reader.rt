@@ -1,0 +1,238 @@
+//! Reading answers.
+
+ghost use Rattle.std.specs.Prelude.{◌≡◌, ℕ, List, IfErr, IfNone, IfOk, IfSome, codes};
+ghost use Rattle.serde_json.specs.Data.{Data};
+ghost use Rattle.serde_json.specs.Find.{get};
+ghost use Rattle.serde_json.specs.View.{items_view, view};
+ghost use Rattle.sn_sync.specs.Answers.{AreConflicts, HasNoNumber, HasNoUuid, IsAnswer, IsConflict, IsUser, RefusesAnswer, RefusesConflict, RefusesConflictList, RefusesConflicts, RefusesMember, RefusesOn, RefusesRefused, RefusesUser, RefusesUserOf, SaysConflicts, SaysItem, SaysMore, SaysOn, SaysRefused, SaysUser};
+ghost use Rattle.sn_sync.specs.Items.{sent, stored};
+ghost use Rattle.sn_sync.specs.Members.{IsObject, SaysNumber, SaysText, SaysUuid};
+ghost use Rattle.sn_sync.specs.Refusals.{Caused};
+ghost use Rattle.sn_sync.specs.declared.request.Route.TheVariants as route;
+
+use crate::answer::{Answer, Conflict, More};
+use crate::error::SyncError;
+use crate::item::Item;
+use crate::item_reader::{sent_item, stored_item, stored_items, values_in};
+use crate::members::{
+    cost_in, identifier_in, lacks, named_uuid, nonce_in, nullable_in, number_of, session_token_in,
+    text_in, text_of, uuid_in, word_in,
+};
+use crate::request::Route;
+use crate::request_reader::body_of;
+use serde_json::Value;
+use sn_string::{Many, Params, Text, uuid_of};
+use std::alloc::{AllocError, Global};
+use uuid::Uuid;
+
+/// Reads the body of an answer to a request on this route.
+pub fn read_answer(
+    alloc: Global,
+    route: Route,
+    status: u16,
+    text: &[u8],
+) -> Result<Answer, SyncError>
+    ensures ok { IfOk result (IsAnswer route status text.now) }
+    ensures err { IfErr result (Caused (RefusesAnswer route status text.now)) }
+{
+    let body = body_of(alloc, text)?;
+    if status == 200 {
+        accepted(alloc, route, &body)
+    } else {
+        refused(alloc, status, &body)
+    }
+}
+
+fn accepted(alloc: Global, route: Route, body: &Value) -> Result<Answer, SyncError>
+    ensures ok { IfOk result (SaysOn route (view body.now)) }
+    ensures err { IfErr result (Caused (RefusesOn route (view body.now))) }
+{
+    match route {
+        Route::Params => params(alloc, body),
+        Route::Sync => synced(alloc, body),
+        Route::Register | Route::SignIn | Route::ChangePw => account(alloc, body),
+    }
+}
+
+// ---- an account
+
+// The user that an account's answer names.
+#[derive(Drop)]
+struct User {
+    identifier: Text,
+    uuid: Uuid,
+}
+
+fn account(alloc: Global, body: &Value) -> Result<Answer, SyncError>
+    ensures ok { IfOk result (SaysOn route.Register (view body.now)) }
+    ensures err { IfErr result (Caused (RefusesOn route.Register (view body.now))) }
+{
+    let token = session_token_in(alloc, body, "token")?;
+    let user = user_in(alloc, body)?;
+    Ok(Answer::Account {
+        token,
+        identifier: user.identifier,
+        uuid: user.uuid,
+    })
+}
+
+fn user_in(alloc: Global, body: &Value) -> Result<User, SyncError>
+    ensures ok { IfOk result (λ user. SaysUser (get (codes "user") (view body.now)) user.identifier user.uuid) }
+    ensures err { IfErr result (Caused (RefusesUser (get (codes "user") (view body.now)))) }
+{
+    match object_in(body, "user") {
+        Some(value) => user_of(alloc, value),
+        None => Err(lacks(alloc, "user")),
+    }
+}
+
+fn user_of(alloc: Global, value: &Value) -> Result<User, SyncError>
+    requires { IsObject (view value.now) }
+    ensures ok { IfOk result (λ user. IsUser (view value.now) user.identifier user.uuid) }
+    ensures err { IfErr result (Caused (RefusesUserOf (view value.now))) }
+{
+    let identifier = identifier_in(alloc, value, "email")?;
+    let uuid = uuid_in(alloc, value, "uuid")?;
+    Ok(User { identifier, uuid })
+}
+
+fn object_in<'v>(body: &'v Value, name: &str) -> Option<&'v Value>
+    ensures some { IfSome result (λ value. (get name.now (view body.now) ≡ Some (view value.now)) × IsObject (view value.now)) }
+    ensures none { IfNone result ((d : Data) → get name.now (view body.now) ≡ Some d → ¬ (IsObject d)) }
+{
+    match body.get(name) {
+        Some(value) if value.is_object() => Some(value),
+        _ => None,
+    }
+}
+
+// ---- parameters
+
+fn params(alloc: Global, body: &Value) -> Result<Answer, SyncError>
+    ensures ok { IfOk result (SaysOn route.Params (view body.now)) }
+    ensures err { IfErr result (Caused (RefusesOn route.Params (view body.now))) }
+{
+    let identifier = identifier_in(alloc, body, "identifier")?;
+    let pw_cost = cost_in(alloc, body, "pw_cost")?;
+    let pw_nonce = nonce_in(alloc, body, "pw_nonce")?;
+    word_in(alloc, body, "version", "003")?;
+    Ok(Answer::Params(Params {
+        identifier,
+        pw_cost,
+        pw_nonce,
+    }))
+}
+
+// ---- a sync
+
+fn synced(alloc: Global, body: &Value) -> Result<Answer, SyncError>
+    ensures ok { IfOk result (SaysOn route.Sync (view body.now)) }
+    ensures err { IfErr result (Caused (RefusesOn route.Sync (view body.now))) }
+{
+    let conflicts = conflicts(alloc, body)?;
+    let cursor_token = nullable_in(alloc, body, "cursor_token")?;
+    let retrieved = stored_items(alloc, body, "retrieved_items")?;
+    let saved = stored_items(alloc, body, "saved_items")?;
+    let sync_token = text_in(alloc, body, "sync_token")?;
+    Ok(Answer::Sync {
+        conflicts,
+        cursor_token,
+        retrieved,
+        saved,
+        sync_token,
+    })
+}
+
+fn conflicts(alloc: Global, body: &Value) -> Result<Many<Conflict>, SyncError>
+    ensures ok { IfOk result (SaysConflicts (get (codes "conflicts") (view body.now))) }
+    ensures err { IfErr result (Caused (RefusesConflictList (get (codes "conflicts") (view body.now)))) }
+{
+    match values_in(body, "conflicts") {
+        Some(values) => conflicts_of(alloc, values),
+        None => Err(lacks(alloc, "conflicts")),
+    }
+}
+
+fn conflicts_of(alloc: Global, values: &[Value]) -> Result<Many<Conflict>, SyncError>
+    ensures ok { IfOk result (AreConflicts (items_view values.now)) }
+    ensures err { IfErr result (Caused (RefusesConflicts (items_view values.now))) }
+{
+    let mut conflicts = Many::new(alloc);
+    for value in values {
+        conflicts.push(conflict(alloc, value)?)?;
+    }
+    Ok(conflicts)
+}
+
+fn conflict(alloc: Global, value: &Value) -> Result<Conflict, SyncError>
+    ensures ok { IfOk result (IsConflict (view value.now)) }
+    ensures err { IfErr result (Caused (RefusesConflict (view value.now))) }
+{
+    if !value.is_object() {
+        return Err(lacks(alloc, "conflicts"));
+    }
+    match text_of(value, "type") {
+        Some("sync_conflict") => Ok(Conflict::Sync {
+            server: server_item(alloc, value)?,
+        }),
+        Some("uuid_conflict") => Ok(Conflict::Uuid {
+            unsaved: unsaved_item(alloc, value)?,
+        }),
+        Some("content_error") => Ok(Conflict::Content {
+            unsaved: unsaved_item(alloc, value)?,
+        }),
+        _ => Err(lacks(alloc, "type")),
+    }
+}
+
+fn server_item(alloc: Global, value: &Value) -> Result<Item, SyncError>
+    ensures ok { IfOk result (SaysItem stored (get (codes "server_item") (view value.now))) }
+    ensures err { IfErr result (Caused (RefusesMember stored (codes "server_item") (get (codes "server_item") (view value.now)))) }
+{
+    match value.get("server_item") {
+        Some(item) => stored_item(alloc, "server_item", item),
+        None => Err(lacks(alloc, "server_item")),
+    }
+}
+
+fn unsaved_item(alloc: Global, value: &Value) -> Result<Item, SyncError>
+    ensures ok { IfOk result (SaysItem sent (get (codes "unsaved_item") (view value.now))) }
+    ensures err { IfErr result (Caused (RefusesMember sent (codes "unsaved_item") (get (codes "unsaved_item") (view value.now)))) }
+{
+    match value.get("unsaved_item") {
+        Some(item) => sent_item(alloc, "unsaved_item", item),
+        None => Err(lacks(alloc, "unsaved_item")),
+    }
+}
+
+// ---- a refusal
+
+fn refused(alloc: Global, status: u16, body: &Value) -> Result<Answer, SyncError>
+    ensures ok { IfOk result (SaysRefused status (view body.now)) }
+    ensures err { IfErr result (Caused (RefusesRefused (view body.now))) }
+{
+    let Some(error) = body.get("error") else {
+        return Err(lacks(alloc, "error"));
+    };
+    let Some(tag) = text_of(error, "tag") else {
+        return Err(lacks(alloc, "error"));
+    };
+    let tag = Text::of(alloc, tag)?;
+    let more = more_of(alloc, error)?;
+    Ok(Answer::Refused { status, tag, more })
+}
+
+// The members beside the tag that have their kind.
+fn more_of(alloc: Global, error: &Value) -> Result<More, AllocError>
+    ensures { IfOk result (SaysMore (view error.now)) }
+{
+    match (number_of(error, "number"), named_uuid(error, "uuid")) {
+        (Some(number), Some(uuid)) => Ok(More::Both(number, uuid)),
+        (Some(number), None) => Ok(More::Number(number)),
+        (None, Some(uuid)) => Ok(More::Uuid(uuid)),
+        (None, None) => match text_of(error, "name") {
+            Some(name) => Ok(More::Name(Text::of(alloc, name)?)),
+            None => Ok(More::Nothing),
+        },
+    }
+}

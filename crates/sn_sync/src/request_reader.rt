@@ -1,0 +1,179 @@
+//! Reading requests.
+
+ghost use Rattle.std.specs.Prelude.{◌≡◌, IfErr, IfOk, codes, option_map, string_bytes};
+ghost use Rattle.serde_json.specs.Find.{get};
+ghost use Rattle.serde_json.specs.View.{view};
+ghost use Rattle.sn_sync.specs.Members.{SaysCost, SaysNonce, SaysWord};
+ghost use Rattle.sn_sync.specs.Query.{first_value};
+ghost use Rattle.sn_sync.specs.Refusals.{Caused};
+ghost use Rattle.sn_sync.specs.Requests.{HasBody, HasToken, IsRequest, RefusesBody, RefusesChange, RefusesCostOn, RefusesLimit, RefusesQuery, RefusesRegistration, RefusesRequest, RefusesSignIn, RefusesSync, Says, SaysLimit, SaysQuery, route_of};
+ghost use Rattle.sn_sync.specs.declared.request.Route.TheVariants as route;
+
+use crate::error::SyncError;
+use crate::item_reader::sent_items;
+use crate::members::{
+    cost_in, hash_in, identifier_in, is_left_out, lacks, nonce_in, number_of, optional_in, word_in,
+};
+use crate::request::{Request, Route};
+use serde_json::Value;
+use sn_string::{Params, Text};
+use std::alloc::{AllocError, Global};
+
+// How many items an answer may give, and how many it gives where the request says nothing.
+const MOST_ITEMS: u32 = 500;
+
+/// Reads a request: the text is the body, for parameters the query. The session token is the one of the
+/// request's head, and is empty where it has none.
+pub fn read_request(
+    alloc: Global,
+    route: Route,
+    token: &str,
+    text: &[u8],
+) -> Result<Request, SyncError>
+    ensures ok { IfOk result (IsRequest route token.now text.now) }
+    ensures err { IfErr result (Caused (RefusesRequest route text.now)) }
+{
+    match route {
+        Route::Params => question(alloc, text),
+        Route::Register => registration(alloc, &body_of(alloc, text)?),
+        Route::SignIn => sign_in(alloc, &body_of(alloc, text)?),
+        Route::ChangePw => change(alloc, token, &body_of(alloc, text)?),
+        Route::Sync => sync(alloc, token, &body_of(alloc, text)?),
+    }
+}
+
+// The account whose parameters are asked for.
+fn question(alloc: Global, query: &[u8]) -> Result<Request, SyncError>
+    ensures ok { IfOk result (SaysQuery query.now) }
+    ensures err { IfErr result (Caused (RefusesQuery query.now)) }
+{
+    match email_of(alloc, query)? {
+        Some(email) if 1 <= email.len() && email.len() <= 254 => Ok(Request::Params {
+            identifier: Text::of_string(email),
+        }),
+        _ => Err(lacks(alloc, "email")),
+    }
+}
+
+// The first value of this name.
+fn email_of(alloc: Global, query: &[u8]) -> Result<Option<String>, AllocError>
+    ensures { IfOk result (λ email. option_map string_bytes email ≡ first_value (codes "email") query.now) }
+{
+    for pair in form_urlencoded::parse(alloc, query) {
+        let (name, value) = pair?;
+        if &*name == "email" {
+            return Ok(Some(value.into_owned(alloc)?));
+        }
+    }
+    Ok(None)
+}
+
+// The value of an object's text.
+pub(crate) fn body_of(alloc: Global, text: &[u8]) -> Result<Value, SyncError>
+    ensures ok { IfOk result (λ value. HasBody text.now (view value)) }
+    ensures err { IfErr result (Caused (RefusesBody (λ d e. ⊥) text.now)) }
+{
+    match Value::from_slice(alloc, text) {
+        Ok(value) => {
+            if value.is_object() {
+                Ok(value)
+            } else {
+                Err(SyncError::NotJson)
+            }
+        }
+        Err(error) => {
+            if error.is_memory() {
+                Err(SyncError::Memory)
+            } else {
+                Err(SyncError::NotJson)
+            }
+        }
+    }
+}
+
+fn registration(alloc: Global, body: &Value) -> Result<Request, SyncError>
+    ensures ok { IfOk result (λ r. (route_of r ≡ route.Register) × Says (view body.now) r) }
+    ensures err { IfErr result (Caused (RefusesRegistration (view body.now))) }
+{
+    let identifier = identifier_in(alloc, body, "email")?;
+    let pw = hash_in(alloc, body, "password")?;
+    let (cost, nonce) = cost_on(alloc, body)?;
+    let Some(params) = Params::new(identifier, cost, nonce) else {
+        unreachable!();
+    };
+    Ok(Request::Register { params, pw })
+}
+
+fn sign_in(alloc: Global, body: &Value) -> Result<Request, SyncError>
+    ensures ok { IfOk result (λ r. (route_of r ≡ route.SignIn) × Says (view body.now) r) }
+    ensures err { IfErr result (Caused (RefusesSignIn (view body.now))) }
+{
+    let identifier = identifier_in(alloc, body, "email")?;
+    let pw = hash_in(alloc, body, "password")?;
+    Ok(Request::SignIn { identifier, pw })
+}
+
+fn change(alloc: Global, token: &str, body: &Value) -> Result<Request, SyncError>
+    ensures ok { IfOk result (λ r. (route_of r ≡ route.ChangePw) × Says (view body.now) r × HasToken token.now r) }
+    ensures err { IfErr result (Caused (RefusesChange (view body.now))) }
+{
+    let current = hash_in(alloc, body, "current_password")?;
+    let pw = hash_in(alloc, body, "new_password")?;
+    let (cost, nonce) = cost_on(alloc, body)?;
+    let token = Text::of(alloc, token)?;
+    Ok(Request::ChangePw {
+        token,
+        current,
+        pw,
+        cost,
+        nonce,
+    })
+}
+
+// The cost and the nonce of a password, where the version is the one that is served.
+fn cost_on(alloc: Global, body: &Value) -> Result<(u32, Text), SyncError>
+    ensures ok { IfOk result (λ both. SaysCost (get (codes "pw_cost") (view body.now)) both.0
+        × SaysNonce (get (codes "pw_nonce") (view body.now)) both.1
+        × SaysWord (codes "003") (get (codes "version") (view body.now)) (codes "003")) }
+    ensures err { IfErr result (Caused (RefusesCostOn (view body.now))) }
+{
+    let cost = cost_in(alloc, body, "pw_cost")?;
+    let nonce = nonce_in(alloc, body, "pw_nonce")?;
+    word_in(alloc, body, "version", "003")?;
+    Ok((cost, nonce))
+}
+
+fn sync(alloc: Global, token: &str, body: &Value) -> Result<Request, SyncError>
+    ensures ok { IfOk result (λ r. (route_of r ≡ route.Sync) × Says (view body.now) r × HasToken token.now r) }
+    ensures err { IfErr result (Caused (RefusesSync (view body.now))) }
+{
+    word_in(alloc, body, "api", "20190520")?;
+    let cursor_token = optional_in(alloc, body, "cursor_token")?;
+    let items = sent_items(alloc, body, "items")?;
+    let limit = limit_in(alloc, body)?;
+    let sync_token = optional_in(alloc, body, "sync_token")?;
+    let token = Text::of(alloc, token)?;
+    Ok(Request::Sync {
+        token,
+        items,
+        limit,
+        sync_token,
+        cursor_token,
+    })
+}
+
+// How many items the answer may give.
+fn limit_in(alloc: Global, body: &Value) -> Result<u32, SyncError>
+    ensures ok { IfOk result (SaysLimit (get (codes "limit") (view body.now))) }
+    ensures err { IfErr result (Caused (RefusesLimit (get (codes "limit") (view body.now)))) }
+{
+    match number_of(body, "limit") {
+        Some(number) if 1 <= number && number <= u64::from(MOST_ITEMS) => Ok(number as u32),
+        Some(number) => Err(SyncError::Limit {
+            name: Text::of(alloc, "limit")?,
+            number,
+        }),
+        None if is_left_out(body, "limit") => Ok(MOST_ITEMS),
+        None => Err(lacks(alloc, "limit")),
+    }
+}
