@@ -1,0 +1,17 @@
+pub mod AccountUuids
+pub mod BehindLemmas
+pub mod CarryLemmas
+pub mod FirstLemmas
+pub mod NamedLemmas
+pub mod PasswordLemmas
+pub mod PresentLemmas
+pub mod PutsLemmas
+pub mod RegisterLemmas
+pub mod SessionTokens
+pub mod SignInLemmas
+pub mod SoundChanging
+pub mod SoundFields
+pub mod SoundPuts
+pub mod SoundRegistering
+pub mod SoundSteps
+pub mod SparedRows

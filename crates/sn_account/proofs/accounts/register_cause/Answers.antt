@@ -1,0 +1,28 @@
+use Rattle.std.proofs.Common.{arith, rules, ◌≡◌, true, false}
+use Rattle.std.specs.Prelude.{is_some}
+use Rattle.sn_account.specs.States.{state_rows}
+use Rattle.sn_account.proofs.RegisterLemmas.{free, full, room, taken}
+use Rattle.sn_account.proofs.accounts.register_cause.Goals as goal
+
+pub returns-then-is_some : goal.returns-then-is_some
+returns-then-is_some c =
+    let there : is_some c.number_of.result ≡ true = search rules in
+    λ store stands pw. taken (state_rows c.args.state.now) store c.args.params.now c.as_str.result.now pw c.number_of.result c.in_ok-taken.taken
+    c.as_str.ensures c.number_of.ensures.some there c.in_ok-taken.ensures
+
+pub returns-then-store_of-ge-MOST_ACCOUNTS : goal.returns-then-store_of-ge-MOST_ACCOUNTS
+returns-then-store_of-ge-MOST_ACCOUNTS c =
+    let gone : is_some c.number_of.result ≡ false = search rules in
+    let unknown = free (state_rows c.args.state.now) c.args.params.now c.as_str.result.now c.number_of.result c.as_str.ensures c.number_of.ensures.none
+    gone
+    in
+    λ store stands pw. full (state_rows c.args.state.now) store c.store_of.result.now c.args.params.now pw c.in_ok-full.full c.requires.sound stands
+    c.store_of.ensures unknown (omega arith) c.in_ok-full.ensures
+
+pub returns : goal.returns
+returns c =
+    let gone : is_some c.number_of.result ≡ false = search rules in
+    λ store stands. (
+      free (state_rows c.args.state.now) c.args.params.now c.as_str.result.now c.number_of.result c.as_str.ensures c.number_of.ensures.none gone,
+      room (state_rows c.args.state.now) store c.store_of.result.now stands c.store_of.ensures (omega arith),
+    )

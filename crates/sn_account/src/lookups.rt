@@ -1,0 +1,60 @@
+//! The rows of a state, by their kinds.
+
+ghost use Rattle.std.specs.Prelude.{◌≡◌, IfNone, IfOk, IfSome};
+ghost use Rattle.sn_account.specs.Lookups.{HasAccount, HasGeneration, HasStore};
+ghost use Rattle.sn_account.specs.States.{IsUnmarked, state_rows};
+ghost use Rattle.sn_rows.specs.declared.kind.RowKind.TheVariants as kind;
+ghost use Rattle.sn_rows.specs.declared.server_rows.AccountRow.{AccountRow};
+ghost use Rattle.sn_rows.specs.declared.server_rows.GenerationRow.{GenerationRow};
+ghost use Rattle.sn_rows.specs.declared.server_rows.StoreRow.{StoreRow};
+ghost use Rattle.sn_table.specs.Ranges.{AreRowsOf};
+
+use crate::state::State;
+use sn_rows::{AccountRow, GenerationRow, Key, RowKind, StoreRow, Value};
+use sn_string::Many;
+use std::alloc::AllocError;
+
+impl State {
+    /// The store's own row.
+    pub(crate) fn store(&self) -> Option<&StoreRow>
+        requires { IsUnmarked self.now }
+        ensures some { IfSome result (λ row. HasStore (state_rows self.now) row.now) }
+        ensures none { IfNone result ((row : StoreRow) → ¬ (HasStore (state_rows self.now) row)) }
+    {
+        match self.get(&Key::Store) {
+            Some(Value::Store(row)) => Some(row),
+            _ => None,
+        }
+    }
+
+    /// The account of this number.
+    pub(crate) fn account(&self, number: u64) -> Option<&AccountRow>
+        requires { IsUnmarked self.now }
+        ensures some { IfSome result (λ row. HasAccount (state_rows self.now) number row.now) }
+        ensures none { IfNone result ((row : AccountRow) → ¬ (HasAccount (state_rows self.now) number row)) }
+    {
+        match self.get(&Key::Account(number)) {
+            Some(Value::Account(row)) => Some(row),
+            _ => None,
+        }
+    }
+
+    /// One generation of an account's keys.
+    pub(crate) fn generation(&self, number: u64, generation: u64) -> Option<&GenerationRow>
+        requires { IsUnmarked self.now }
+        ensures some { IfSome result (λ row. HasGeneration (state_rows self.now) number generation row.now) }
+        ensures none { IfNone result ((row : GenerationRow) → ¬ (HasGeneration (state_rows self.now) number generation row)) }
+    {
+        match self.get(&Key::Generation(number, generation)) {
+            Some(Value::Generation(row)) => Some(row),
+            _ => None,
+        }
+    }
+
+    /// The rows of all items, in the order of their uuids.
+    pub(crate) fn items(&self) -> Result<Many<(Key, Value)>, AllocError>
+        ensures { IfOk result (AreRowsOf self.now.rows kind.Item) }
+    {
+        self.rows.range(self.alloc, RowKind::Item)
+    }
+}

@@ -1,0 +1,95 @@
+//! Reading and changing a state.
+
+ghost use Rattle.std.specs.Prelude.{◌≡◌, All, IfOk, OnErr, OnOk, Option};
+ghost use Rattle.std.specs.Option.{option_copied};
+ghost use Rattle.sn_account.specs.States.{IsUnmarked, listed, listed_after, rows_before, state_rows};
+ghost use Rattle.sn_rows.specs.Kinds.{key_kind, value_kind};
+ghost use Rattle.sn_rows.specs.Table.{row_after, rows_after};
+ghost use Rattle.sn_rows.specs.declared.key.Key.{Key};
+ghost use Rattle.sn_rows.specs.declared.value.Value.{Value};
+
+use crate::state::State;
+use sn_rows::{Change, Key, Row, Value};
+use sn_string::{Many, Twin};
+use sn_table::RowMap;
+use std::alloc::{AllocError, Global};
+use std::mem;
+
+impl State {
+    /// The state of these rows, each of which has a value of its key's kind.
+    pub fn of(alloc: Global, rows: Many<(Key, Value)>) -> Result<State, AllocError>
+        requires kinds { All (λ row. key_kind row.0 ≡ value_kind row.1) rows }
+        ensures rows { IfOk result (λ state. (key : Key) → state_rows state key ≡ listed rows key) }
+        ensures unmarked { IfOk result IsUnmarked }
+    {
+        let mut map = RowMap::new(alloc);
+        map.add_all(puts_of(alloc, rows)?)?;
+        Ok(State {
+            alloc,
+            rows: map,
+            marked: Many::new(alloc),
+        })
+    }
+
+    /// Marks changes. Where memory is wanting, all stays as it was.
+    pub fn apply(&mut self, changes: &[Change]) -> Result<(), AllocError>
+        requires unmarked { IsUnmarked self.old }
+        ensures done { OnOk result ((key : Key) → state_rows self.new key ≡ rows_after (state_rows self.old) changes.now key) }
+        ensures before { OnOk result ((key : Key) → rows_before self.new key ≡ state_rows self.old key) }
+        ensures refused { OnErr result ((key : Key) → state_rows self.new key ≡ state_rows self.old key) }
+        ensures unmarked { OnErr result (IsUnmarked self.new) }
+    {
+        let marked = twins(self.alloc, changes)?;
+        self.rows.make_room_for(changes)?;
+        self.marked = marked;
+        Ok(())
+    }
+
+    /// Takes the marked changes back. Takes no memory.
+    pub fn undo(&mut self)
+        ensures rows { (key : Key) → state_rows self.new key ≡ rows_before self.old key }
+        ensures unmarked { IsUnmarked self.new }
+    {
+        self.marked = Many::new(self.alloc);
+    }
+
+    /// Keeps the marked changes: none are marked from now on, and the rows stay. Takes no memory.
+    pub fn keep(&mut self)
+        ensures rows { (key : Key) → state_rows self.new key ≡ state_rows self.old key }
+        ensures unmarked { IsUnmarked self.new }
+    {
+        let changes = mem::replace(&mut self.marked, Many::new(self.alloc));
+        self.rows.set_all(changes.into_vec());
+    }
+
+    /// The row of a key. Takes no memory.
+    pub fn get(&self, key: &Key) -> Option<&Value>
+        requires { IsUnmarked self.now }
+        ensures { option_copied result ≡ state_rows self.now key.now }
+    {
+        self.rows.get(key)
+    }
+}
+
+// The changes that put these rows, in their order.
+fn puts_of(alloc: Global, rows: Many<(Key, Value)>) -> Result<Vec<Change>, AllocError>
+    requires kinds { All (λ row. key_kind row.0 ≡ value_kind row.1) rows }
+    ensures { IfOk result (λ changes. (found : Option Value) (key : Key) → row_after found key changes.items ≡ listed_after found key rows) }
+{
+    let mut changes = Vec::with_capacity(alloc, rows.len())?;
+    'rows: for (key, value) in rows.into_vec() {
+        changes.push(Change::Put(Row { key, value }))?;
+    }
+    Ok(changes)
+}
+
+// The same changes once more.
+fn twins(alloc: Global, changes: &[Change]) -> Result<Many<Change>, AllocError>
+    ensures { IfOk result (λ copies. copies ≡ changes.now) }
+{
+    let mut copies = Many::new(alloc);
+    'changes: for change in changes {
+        copies.push(change.twin(alloc)?)?;
+    }
+    Ok(copies)
+}

@@ -1,0 +1,320 @@
+//! The change of a password.
+
+ghost use Rattle.std.specs.Prelude.{◌≡◌, ◌≢◌, ◌<◌, ◌↔◌, ℕ, [], false, IfNone, IfOk, IfSome, IsTrue, Some};
+ghost use Rattle.sn_account.specs.Lookups.{Bytes, HasAccount, HasGeneration, HasStore};
+ghost use Rattle.sn_account.specs.Rules.{Carries, CarriesText, ChangesKeys, ChangesPassword, IsBehind, IsLeastBehind, IsPresent, IsUsed, NoneBehind, Replaces};
+ghost use Rattle.sn_account.specs.Sound.{IsSound, most_generations};
+ghost use Rattle.sn_account.specs.States.{IsUnmarked, state_rows};
+ghost use Rattle.sn_keys.specs.Keys.{check_value};
+ghost use Rattle.sn_rows.specs.Table.{Rows};
+ghost use Rattle.sn_rows.specs.declared.key.Key.TheVariants.{Item};
+ghost use Rattle.sn_rows.specs.declared.server_rows.GenerationRow.{GenerationRow};
+ghost use Rattle.sn_rows.specs.declared.server_rows.StoreRow.{StoreRow};
+ghost use Rattle.sn_string.specs.Bounds.{IsCost, IsNonce};
+ghost use Rattle.sn_string.specs.declared.params.Params.{Params};
+ghost use Rattle.sn_string.specs.declared.reader.StringError.TheVariants.{Memory};
+
+use crate::accounts::{Ruled, has_password, present_params};
+use crate::changes::{put_account, put_generation};
+use crate::refusals::refused;
+use crate::sessions::{account_uuid, session, session_token};
+use crate::state::State;
+use sn_keys::check_of;
+use sn_rows::{AccountRow, GenerationRow, ItemRow, Key, Value};
+use sn_string::{Many, Params, StringError, Text, Twin, read};
+use sn_sync::{Answer, More};
+use std::alloc::{AllocError, Global};
+use uuid::Uuid;
+
+/// The most generations of an account's keys.
+const MOST_GENERATIONS: u64 = 1_000_000;
+
+/// Gives an account its next keys.
+pub fn change_password(
+    alloc: Global,
+    state: &State,
+    token: &str,
+    current: &[u8; 32],
+    pw: &[u8; 32],
+    cost: u32,
+    nonce: &Text,
+) -> Result<Ruled, AllocError>
+    requires unmarked { IsUnmarked state.now }
+    requires sound { IsSound (state_rows state.now) }
+    requires cost { IsCost cost }
+    requires nonce { IsNonce nonce.now }
+    ensures { (store : StoreRow) → HasStore (state_rows state.now) store
+        → IfOk result (λ ruled. ChangesPassword (state_rows state.now) store token.now current.now pw.now cost nonce.now
+        ruled.changes ruled.answer) }
+{
+    let Some(number) = session(alloc, state, token)? else {
+        let answer = refused(alloc, 401, "bad-auth", More::Nothing)?;
+        return Ok(unchanged(alloc, answer));
+    };
+    let Some(account) = state.account(number) else {
+        unreachable!();
+    };
+    if !has_password(account, current) {
+        let answer = refused(alloc, 401, "bad-auth", More::Nothing)?;
+        return Ok(unchanged(alloc, answer));
+    }
+    change_keys(alloc, state, number, account, pw, cost, nonce)
+}
+
+// The answer alone.
+fn unchanged(alloc: Global, answer: Answer) -> Ruled
+    ensures changes { result.changes ≡ [] }
+    ensures answer { result.answer ≡ answer }
+{
+    Ruled {
+        changes: Many::new(alloc),
+        answer,
+    }
+}
+
+// Gives the account its next keys, unless there is a cause not to.
+fn change_keys(
+    alloc: Global,
+    state: &State,
+    number: u64,
+    account: &AccountRow,
+    pw: &[u8; 32],
+    cost: u32,
+    nonce: &Text,
+) -> Result<Ruled, AllocError>
+    requires unmarked { IsUnmarked state.now }
+    requires sound { IsSound (state_rows state.now) }
+    requires there { HasAccount (state_rows state.now) number account.now }
+    requires cost { IsCost cost }
+    requires nonce { IsNonce nonce.now }
+    ensures { (store : StoreRow) → HasStore (state_rows state.now) store
+        → IfOk result (λ ruled. (present : Params) × IsPresent (state_rows state.now) number present
+        × ChangesKeys (state_rows state.now) store number account.now present pw.now cost nonce.now ruled.changes ruled.answer) }
+{
+    let present = present_params(alloc, state, number)?;
+    if let Some(answer) = change_cause(alloc, state, number, account, &present, nonce)? {
+        return Ok(unchanged(alloc, answer));
+    }
+    replace_keys(alloc, state, number, account, pw, cost, nonce)
+}
+
+// The refusal of an account's next keys, where there is a cause.
+fn change_cause(
+    alloc: Global,
+    state: &State,
+    number: u64,
+    account: &AccountRow,
+    present: &Params,
+    nonce: &Text,
+) -> Result<Option<Answer>, AllocError>
+    requires unmarked { IsUnmarked state.now }
+    requires sound { IsSound (state_rows state.now) }
+    requires there { HasAccount (state_rows state.now) number account.now }
+    ensures some { IfOk result (λ found. IfSome found (λ answer. (store : StoreRow) (pw : Bytes) (cost : ℕ)
+        → ChangesKeys (state_rows state.now) store number account.now present.now pw cost nonce.now [] answer)) }
+    ensures none { IfOk result (λ found. IfNone found (NoneBehind (state_rows state.now) number present.now
+        × ¬ (IsUsed (state_rows state.now) number nonce.now) × (account.now.generation < most_generations))) }
+{
+    if let Some(uuid) = least_behind(alloc, state, number, present)? {
+        let answer = refused(alloc, 409, "rekey-running", More::Uuid(uuid))?;
+        return Ok(Some(answer));
+    }
+    if is_used(state, number, account, nonce) {
+        let answer = refused(alloc, 409, "nonce-used", More::Nothing)?;
+        return Ok(Some(answer));
+    }
+    if account.generation >= MOST_GENERATIONS {
+        let more = More::Number(MOST_GENERATIONS);
+        let answer = refused(alloc, 409, "changes-used", more)?;
+        return Ok(Some(answer));
+    }
+    Ok(None)
+}
+
+// The least uuid of an item of the account that still carries other parameters.
+fn least_behind(
+    alloc: Global,
+    state: &State,
+    number: u64,
+    present: &Params,
+) -> Result<Option<Uuid>, AllocError>
+    requires { IsUnmarked state.now }
+    ensures some { IfOk result (λ found. IfSome found (IsLeastBehind (state_rows state.now) number present.now)) }
+    ensures none { IfOk result (λ found. IfNone found (NoneBehind (state_rows state.now) number present.now)) }
+{
+    let items = state.items()?;
+    'items: for (key, value) in items.as_slice() {
+        if let Some(uuid) = uuid_behind(alloc, key, value, number, present)? {
+            return Ok(Some(uuid));
+        }
+    }
+    Ok(None)
+}
+
+// The uuid of a row's item, if it is the account's and still carries other parameters.
+fn uuid_behind(
+    alloc: Global,
+    key: &Key,
+    value: &Value,
+    number: u64,
+    present: &Params,
+) -> Result<Option<Uuid>, AllocError>
+    ensures some { IfOk result (λ found. IfSome found (λ uuid. (key.now ≡ Item uuid)
+        × ((rows : Rows) → rows key.now ≡ Some value.now → IsBehind rows number present.now uuid))) }
+    ensures none { IfOk result (λ found. IfNone found ((rows : Rows) (uuid : Bytes)
+        → rows key.now ≡ Some value.now → key.now ≡ Item uuid → ¬ (IsBehind rows number present.now uuid))) }
+{
+    let (Key::Item(uuid), Value::Item(item)) = (key, value) else {
+        return Ok(None);
+    };
+    if is_behind(alloc, item, number, present)? {
+        Ok(Some(*uuid))
+    } else {
+        Ok(None)
+    }
+}
+
+// Whether an item is the account's and still carries other parameters.
+fn is_behind(
+    alloc: Global,
+    item: &ItemRow,
+    number: u64,
+    present: &Params,
+) -> Result<bool, AllocError>
+    ensures { IfOk result (λ behind. IsTrue behind
+        ↔ ((item.now.account ≡ number) × (item.now.deleted ≡ false) × ¬ (Carries item.now present.now))) }
+{
+    if item.account != number || item.deleted {
+        return Ok(false);
+    }
+    let carried = carries(alloc, item, present)?;
+    Ok(!carried)
+}
+
+// Whether both strings of an item carry these parameters.
+fn carries(alloc: Global, item: &ItemRow, params: &Params) -> Result<bool, AllocError>
+    ensures { IfOk result (λ carried. IsTrue carried ↔ Carries item.now params.now) }
+{
+    if !carries_text(alloc, item.content.as_str(), params)? {
+        return Ok(false);
+    }
+    carries_text(alloc, item.enc.as_str(), params)
+}
+
+// Whether a text is a 003 string with these parameters.
+fn carries_text(alloc: Global, text: &str, params: &Params) -> Result<bool, AllocError>
+    ensures { IfOk result (λ carried. IsTrue carried ↔ CarriesText text.now params.now) }
+{
+    match read(alloc, text) {
+        Ok(parts) => Ok(parts.params.same(params)),
+        Err(error) => carries_none(error),
+    }
+}
+
+// A refused text carries no parameters, unless memory was wanting.
+fn carries_none(error: StringError) -> Result<bool, AllocError>
+    ensures { IfOk result (λ carried. (carried ≡ false) × (error ≢ Memory)) }
+{
+    match error {
+        StringError::Memory => Err(AllocError),
+        _ => Ok(false),
+    }
+}
+
+// Whether some generation of the account's keys had the nonce.
+fn is_used(state: &State, number: u64, account: &AccountRow, nonce: &Text) -> bool
+    requires unmarked { IsUnmarked state.now }
+    requires sound { IsSound (state_rows state.now) }
+    requires there { HasAccount (state_rows state.now) number account.now }
+    ensures { IsTrue result ↔ IsUsed (state_rows state.now) number nonce.now }
+{
+    'generations: for generation in 1..=account.generation {
+        if had_nonce(state, number, generation, nonce) {
+            return true;
+        }
+    }
+    false
+}
+
+// Whether this generation of the account's keys had the nonce.
+fn had_nonce(state: &State, number: u64, generation: u64, nonce: &Text) -> bool
+    requires { IsUnmarked state.now }
+    ensures { IsTrue result ↔ ((row : GenerationRow)
+        × HasGeneration (state_rows state.now) number generation row × (row.pw_nonce ≡ nonce.now)) }
+{
+    match state.generation(number, generation) {
+        Some(row) => row.pw_nonce.same(nonce),
+        None => false,
+    }
+}
+
+// Gives the account its next keys.
+fn replace_keys(
+    alloc: Global,
+    state: &State,
+    number: u64,
+    account: &AccountRow,
+    pw: &[u8; 32],
+    cost: u32,
+    nonce: &Text,
+) -> Result<Ruled, AllocError>
+    requires unmarked { IsUnmarked state.now }
+    requires sound { IsSound (state_rows state.now) }
+    requires there { HasAccount (state_rows state.now) number account.now }
+    requires room { account.now.generation < most_generations }
+    requires cost { IsCost cost }
+    requires nonce { IsNonce nonce.now }
+    ensures { (store : StoreRow) → HasStore (state_rows state.now) store
+        → IfOk result (λ ruled. Replaces store number account.now pw.now cost nonce.now ruled.changes ruled.answer) }
+{
+    let Some(store) = state.store() else {
+        unreachable!();
+    };
+    let generation = account.generation + 1;
+    let account_row = next_account(alloc, account, generation, pw)?;
+    let generation_row = next_generation(alloc, cost, nonce)?;
+    let token = session_token(alloc, &store.secret, number, generation)?;
+    let identifier = account.identifier.twin(alloc)?;
+    let mut changes = Many::new(alloc);
+    changes.push(put_account(number, account_row))?;
+    changes.push(put_generation(number, generation, generation_row))?;
+    let uuid = account_uuid(number);
+    let answer = Answer::Account {
+        token,
+        identifier,
+        uuid,
+    };
+    Ok(Ruled { changes, answer })
+}
+
+// The account's row with these keys.
+fn next_account(
+    alloc: Global,
+    account: &AccountRow,
+    generation: u64,
+    pw: &[u8; 32],
+) -> Result<AccountRow, AllocError>
+    ensures { IfOk result (λ row. (row.identifier ≡ account.now.identifier) × (row.generation ≡ generation)
+        × (row.check ≡ check_value pw.now)) }
+{
+    let identifier = account.identifier.twin(alloc)?;
+    let check = check_of(pw);
+    Ok(AccountRow {
+        identifier,
+        generation,
+        check,
+    })
+}
+
+// The row of a generation with these parameters.
+fn next_generation(alloc: Global, cost: u32, nonce: &Text) -> Result<GenerationRow, AllocError>
+    requires cost { IsCost cost }
+    requires nonce { IsNonce nonce.now }
+    ensures { IfOk result (λ row. (row.pw_cost ≡ cost) × (row.pw_nonce ≡ nonce.now)) }
+{
+    let nonce = nonce.twin(alloc)?;
+    match GenerationRow::new(cost, nonce) {
+        Some(row) => Ok(row),
+        None => unreachable!(),
+    }
+}
