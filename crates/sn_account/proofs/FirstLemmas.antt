@@ -1,8 +1,9 @@
 -- The rows of a server without accounts are sound.
-use Rattle.std.proofs.Common.{arith, ap, sym, ◌≡◌, ◌∙◌, List, [], ◌∷◌, Some, Result, IfOk}
+use Rattle.std.proofs.Common.{arith, ap, sym, subst, ◌≡◌, ◌∙◌, List, [], ◌∷◌, Some, Result, IfOk}
 use Rattle.std.proofs.lemmas.Result.{IfOk-weaker}
 use Rattle.sn_rows.specs.Kinds.{key_kind, value_kind}
-use Rattle.sn_rows.specs.Table.{Rows}
+use Rattle.sn_rows.specs.Table.{Rows, rows_after}
+use Rattle.sn_rows.specs.declared.change.Change.{Change}
 use Rattle.sn_rows.specs.declared.key.Key.{Key}
 use Rattle.sn_rows.specs.declared.key.Key.TheVariants as key
 use Rattle.sn_rows.specs.declared.server_rows.StoreRow.{StoreRow}
@@ -51,3 +52,10 @@ pub sound_state : {E : Type 0} (store : StoreRow) (rows : List (Key × Value)) (
 sound_state store rows result none is are =
     IfOk-weaker result (λ (state : State). (k : Key) → state_rows state k ≡ listed rows k) (λ (state : State). IsSound (state_rows state))
     (λ state own. first_sound (state_rows state) store none (λ k. own k ∙ ap (λ (r : List (Key × Value)). listed r k) is)) are
+
+-- rows that are those after changes are sound where these are
+pub sound_after : (rows middle other : Rows) (changes : List Change) → IsSound (rows_after rows changes)
+    → ((k : Key) → middle k ≡ rows_after rows changes k) → ((k : Key) → other k ≡ middle k) → IsSound other
+sound_after rows middle other changes s marked kept =
+    let same : rows_after rows changes ≡ other = λ i k. sym (kept k ∙ marked k) i in
+    subst IsSound same s

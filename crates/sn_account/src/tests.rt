@@ -1,5 +1,6 @@
 //! What the clauses mean at written rows.
 
 mod accounts;
+mod passwords;
 mod sessions;
 mod states;

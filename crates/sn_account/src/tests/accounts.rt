@@ -18,7 +18,7 @@ const TOKEN: &str =
 const UUID: &[u8; 16] = b"\0\0\0\0\0\0\x80\0\x80\0\0\0\0\0\0\x01";
 
 // The state of a server without accounts, whose secret is all zeros.
-fn first_state(alloc: Global) -> Result<State, AllocError>
+pub fn first_state(alloc: Global) -> Result<State, AllocError>
     ensures unmarked { IfOk result IsUnmarked }
     ensures sound { IfOk result (λ state. IsSound (state_rows state)) }
 {
@@ -37,7 +37,7 @@ fn first_store() -> StoreRow
     }
 }
 
-fn alice(alloc: Global) -> Result<Params, Fail> {
+pub fn alice(alloc: Global) -> Result<Params, Fail> {
     let identifier = Text::of(alloc, "alice@example.org")?;
     let nonce = Text::of(alloc, "4c6f")?;
     let params = Params::new(identifier, 110_000, nonce).ok_or("params")?;
