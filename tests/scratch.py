@@ -55,7 +55,7 @@ TOOLS = (
 class Clone:
     """A clone with nothing built; `program` is the file that the stub builds, a small script where it is left out."""
 
-    def __init__(self, built=None, without=()):
+    def __init__(self, built=None, with_tools=(), without=()):
         self.scratch = os.path.realpath(tempfile.mkdtemp(prefix="sn-scratch-"))
         self.top = os.path.join(self.scratch, "clone")
         self.write("bin/rt", STUB)
@@ -68,7 +68,7 @@ class Clone:
             self.write("program", ECHO)
         else:
             shutil.copy(built, os.path.join(self.scratch, "program"))
-        for tool in set(TOOLS.split()) - set(without):
+        for tool in {*TOOLS.split(), *with_tools} - set(without):
             found = shutil.which(tool)
             if found:
                 os.symlink(found, os.path.join(self.scratch, "bin", tool))
