@@ -82,6 +82,11 @@ class Whole(unittest.TestCase):
                 with self.subTest(crate=crate, file=file):
                     self.assertTrue(os.path.exists(os.path.join(TOP, "crates", crate, file)))
 
+    def test_the_edit_that_is_shown(self):
+        edit = os.path.join(TOP, "crates", "sn_cbc", "must-fail", "part_of_a_block_is_whole.edit")
+        shown = "".join("    %s\n" % line for line in text_of(edit).splitlines())
+        self.assertIn(shown, text_of(os.path.join(TOP, "CONTRIBUTING.md")))
+
     def test_the_map_has_each_document(self):
         for document in os.listdir(os.path.join(TOP, "docs")):
             self.assertIn("docs/" + document, text_of(os.path.join(TOP, "README.md")))
