@@ -75,12 +75,32 @@ class Whole(unittest.TestCase):
             rows = set(re.findall(r"^\| (sn_\w+)", text_of(os.path.join(TOP, "docs", document + ".md")), re.M))
             self.assertEqual(rows, crates, document)
 
+    def test_what_each_crate_stands_on(self):
+        wanted = {}
+        for line in text_of(os.path.join(TOP, "crates.txt")).splitlines():
+            if line[:1] not in ("#", ""):
+                crate, below = line.split(":")
+                wanted[crate.split()[0]] = sorted(below.split())
+        rows = re.findall(r"^\| (sn_\w+) \|(.*)\|$", text_of(os.path.join(TOP, "docs", "ARCHITECTURE.md")), re.M)
+        found = {crate: sorted(re.findall(r"\w+", "".join(cells.split("|")[-2:]))) for crate, cells in rows}
+        self.assertEqual(found, wanted)
+
     def test_files_named_in_the_table_of_crates(self):
         rows = re.findall(r"^\| (sn_\w+).*\|(.*)\|$", text_of(os.path.join(TOP, "docs", "PROMISES.md")), re.M)
         for crate, files in rows:
             for file in re.findall(r"`([^`]+)`", files):
                 with self.subTest(crate=crate, file=file):
                     self.assertTrue(os.path.exists(os.path.join(TOP, "crates", crate, file)))
+
+    def test_the_toolchain_crates_that_are_trusted(self):
+        (trusted,) = re.findall(r"^\*\*Trusted\*\*.*$", text_of(os.path.join(TOP, "README.md")), re.M)
+        lines = [line for line in text_of(os.path.join(TOP, "crates.txt")).splitlines() if line[:1] not in ("#", "")]
+        used = {name for line in lines for name in line.split(":")[1].split() if not name.startswith("sn_")}
+        self.assertEqual({name for name in re.findall(r"`(\w+)`", trusted)} - {"rt"} - {"outside"}, used)
+
+    def test_how_long_a_build_takes(self):
+        (needed,) = re.findall(r'^time_needed="(.*)"$', text_of(os.path.join(TOP, "sn")), re.M)
+        self.assertIn(needed, text_of(os.path.join(TOP, "README.md")))
 
     def test_the_edit_that_is_shown(self):
         edit = os.path.join(TOP, "crates", "sn_cbc", "must-fail", "part_of_a_block_is_whole.edit")
