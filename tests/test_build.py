@@ -161,6 +161,11 @@ class WithoutFlock(Builds):
         self.answers(self.clone.run("word"), b"word", b"")
         self.one_program()
 
+    def test_a_lock_without_a_name(self):
+        os.makedirs(os.path.join(self.clone.top, ".built", "building"))
+        self.left_lock()
+        self.answers(self.clone.run("word"), b"word", b"")
+
     def test_how_far_it_is(self):
         self.assertIn("sn: flock is not installed", self.clone.run("word")[2])
 
