@@ -6,7 +6,7 @@ use Rattle.sn_rows.specs.Table.{Rows, key_of, rows_after, same_key, value_of}
 use Rattle.sn_rows.specs.declared.change.Change.{Change}
 use Rattle.sn_rows.specs.declared.key.Key.{Key}
 use Rattle.sn_rows.specs.declared.value.Value.{Value}
-use Rattle.sn_rows.proofs.TableLemmas.{keys_compare}
+use Rattle.sn_rows.specs.Facts.{keys_compare}
 use Rattle.sn_account.specs.Lookups.{Puts}
 
 -- keys that differ are told apart

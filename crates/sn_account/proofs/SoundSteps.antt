@@ -10,7 +10,7 @@ use Rattle.sn_rows.specs.declared.server_rows.GenerationRow.{GenerationRow}
 use Rattle.sn_rows.specs.declared.server_rows.StoreRow.{StoreRow}
 use Rattle.sn_rows.specs.declared.value.Value.{Value}
 use Rattle.sn_rows.specs.declared.value.Value.TheVariants as value
-use Rattle.sn_rows.proofs.TableLemmas.{keys_compare}
+use Rattle.sn_rows.specs.Facts.{keys_compare}
 use Rattle.sn_account.specs.Lookups.{Bytes, HasAccount, HasGeneration, HasStore, Puts}
 use Rattle.sn_account.proofs.SoundPuts.{put_elsewhere, put_here}
 

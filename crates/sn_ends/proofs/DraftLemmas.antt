@@ -1,7 +1,7 @@
 -- The drafts of a device, through its calls.
 use Rattle.std.proofs.Common.{◌≡◌, ◌≢◌, ◌⊎◌, ◌+◌, ◌-◌, ◌<◌, ◌≤◌, ℕ, zero, suc, List, [], ◌∷◌, ◌++◌, length, Option, Some, None, refl, sym, ap, ◌∙◌, subst, inl, inr, ⊎_elim, arith, length-append}
 use Rattle.sn_laws.specs.Each.{Each}
-use Rattle.sn_rows.proofs.TableLemmas.{spared_stays}
+use Rattle.sn_rows.specs.Facts.{spared_stays}
 use Rattle.sn_rows.specs.Table.{Rows, rows_after, rows_of_batches}
 use Rattle.sn_rows.specs.declared.body.RowBody.{RowBody}
 use Rattle.sn_rows.specs.declared.body.RowBody.TheVariants as body

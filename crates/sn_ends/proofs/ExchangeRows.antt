@@ -1,7 +1,7 @@
 -- What the batches of an exchange leave of the rows.
 use Rattle.std.proofs.Common.{◌≡◌, ◌≢◌, ◌⊎◌, ◌<◌, ◌≤◌, ℕ, suc, List, [], ◌∷◌, ◌++◌, Option, Some, None, Bool, true, false, refl, sym, ap, ◌∙◌, subst, inl, inr, arith, append-nil}
 use Rattle.sn_laws.proofs.EachLemmas.{is_false}
-use Rattle.sn_rows.proofs.TableLemmas.{batch_follows, keys_compare, row_after-append, spared_stays}
+use Rattle.sn_rows.specs.Facts.{batch_follows, keys_compare, row_after-append, spared_stays}
 use Rattle.sn_rows.specs.Table.{Rows, Spares, key_of, rows_after, rows_of_batches, same_key}
 use Rattle.sn_rows.specs.declared.body.RowBody.{RowBody}
 use Rattle.sn_rows.specs.declared.change.Change.{Change}

@@ -1,7 +1,7 @@
 -- What one put, or two, leave of the rows.
 use Rattle.std.proofs.Common.{◌≡◌, ◌≢◌, ◌⊎◌, [], ◌∷◌, Some, Bool, true, false, refl, sym, ◌∙◌, inl, inr}
 use Rattle.sn_laws.proofs.EachLemmas.{is_false}
-use Rattle.sn_rows.proofs.TableLemmas.{keys_compare}
+use Rattle.sn_rows.specs.Facts.{keys_compare}
 use Rattle.sn_rows.specs.Table.{Rows, key_of, rows_after, same_key}
 use Rattle.sn_rows.specs.declared.change.Change.{Change}
 use Rattle.sn_rows.specs.declared.key.Key.{Key}

@@ -24,7 +24,7 @@ use Rattle.sn_rows.specs.declared.key.Slot.TheVariants.{Asked}
 use Rattle.sn_rows.specs.declared.kind.RowKind.{RowKind}
 use Rattle.sn_rows.specs.declared.kind.RowKind.TheVariants.{Store, Account, Generation, Item, Owner, Set, Local}
 use Rattle.sn_rows.specs.declared.value.Value.{Value}
-use Rattle.sn_rows.proofs.TableLemmas.{keys_compare}
+use Rattle.sn_rows.specs.Facts.{keys_compare}
 use Rattle.sn_table.specs.Keys.{key_cmp}
 use Rattle.sn_table.specs.RowMaps.{row_in}
 use Rattle.sn_table.specs.Ranges.{row_of_kind, AreRowsOf}

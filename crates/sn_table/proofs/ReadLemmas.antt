@@ -13,7 +13,7 @@ use Rattle.sn_journal.proofs.Starts.{length-header}
 use Rattle.sn_rows.specs.Spelling.{spelled, entries_of, AreInForm}
 use Rattle.sn_rows.specs.Table.{row_after}
 use Rattle.sn_rows.specs.declared.change.Change.{Change}
-use Rattle.sn_rows.proofs.TableLemmas.{batch_follows}
+use Rattle.sn_rows.specs.Facts.{batch_follows}
 use Rattle.sn_rows.proofs.ColumnLemmas.{payload_again}
 use Rattle.sn_rows.proofs.Same.{is_only}
 use Rattle.sn_table.specs.Batches.{IsBatch, IsNoBatch}

@@ -10,7 +10,7 @@ use Rattle.sn_rows.specs.declared.value.Value.{Value}
 use Rattle.sn_rows.specs.Table.{same_key}
 use Rattle.sn_rows.specs.declared.change.Change.{Change}
 use Rattle.sn_rows.specs.declared.change.Change.TheVariants.{Put, Remove}
-use Rattle.sn_rows.proofs.TableLemmas.{keys_compare}
+use Rattle.sn_rows.specs.Facts.{keys_compare}
 use Rattle.sn_table.specs.Keys.{key_cmp}
 use Rattle.sn_table.specs.RowMaps.{row_in, HasRoom, FitsIn, IsSwept, SameRows, KeepsRoom}
 use Rattle.sn_table.specs.declared.row_map.RowMap.{RowMap}

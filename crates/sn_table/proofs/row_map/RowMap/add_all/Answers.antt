@@ -1,6 +1,6 @@
 use Rattle.std.proofs.Common.{[], ◌∷◌, sym, ap, ◌∙◌}
 use Rattle.sn_rows.specs.Table.{changed}
-use Rattle.sn_rows.proofs.TableLemmas.{row_after-append}
+use Rattle.sn_rows.specs.Facts.{row_after-append}
 use Rattle.sn_table.specs.RowMaps.{row_in}
 use Rattle.sn_table.proofs.row_map.RowMap.add_all.Goals as goal
 
