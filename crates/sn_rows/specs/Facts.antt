@@ -1,5 +1,5 @@
 -- Facts on keys, and on what changes leave of the rows, for the crates above.
-use Rattle.std.proofs.Common.{◌≡◌, ◌≢◌, ℕ, Bool, true, false, List, [], ◌∷◌, ◌++◌, Option, Some, None, refl, sym, ap, ◌∙◌, inl, inr, ◌⊎◌, arith}
+use Rattle.std.proofs.Common.{◌≡◌, ◌≢◌, ℕ, Bool, true, false, List, [], ◌∷◌, ◌++◌, Option, Some, None, refl, sym, ap, subst, ◌∙◌, inl, inr, ◌⊎◌, arith}
 use Rattle.std.specs.Prelude.{IsTrue, ◌==◌, ◌&&◌, ◌↔◌, if◌then◌else◌}
 use Rattle.std.specs.List.{flat_map}
 use Rattle.std.specs.Ordering.{is_eq, nat_cmp, ordering_then}
@@ -10,6 +10,9 @@ use Rattle.std.proofs.lemmas.Grind.{flat_map-append}
 use Rattle.std.proofs.lemmas.List.{append-nil}
 use Rattle.std.proofs.lemmas.List.Concat.{flat_map-cons}
 use Rattle.std.proofs.lemmas.Slice.Eq.{bytes_eq-Decides}
+use mathlib.Core.Path.{fun_ext}
+use Rattle.std.specs.Cmp.{IsTotalOrder}
+use Rattle.sn_rows.specs.contracts.key.KeyOrd.TheImpl.Laws.{total-law}
 use Rattle.sn_rows.specs.declared.key.Slot.{Slot}
 use Rattle.sn_rows.specs.declared.key.Slot.TheVariants.{Present, Older, Asked}
 use Rattle.sn_rows.specs.declared.key.Key.{Key}
@@ -111,6 +114,11 @@ pub put_elsewhere : (rows : Rows) (change : Change) (at other : Key) (v : Value)
     → rows_after rows (change ∷ []) other ≡ rows other
 put_elsewhere rows change at other v p apart = ap (λ (r : Rows). r other) (put_gives rows change at v p) ∙ with_elsewhere rows at other (Some v) apart
 
+-- of keys that compare apart, as those of two kinds do
+pub put_apart : (rows : Rows) (change : Change) (at other : Key) (v : Value) → Puts change at v → same_key at other ≡ false
+    → rows_after rows (change ∷ []) other ≡ rows other
+put_apart rows change at other v p off = ap (λ (r : Rows). r other) (put_gives rows change at v p) ∙ ap (λ (b : Bool). if b then Some v else rows other) off
+
 -- of a key, one of the two is so
 pub put_or_not : (rows : Rows) (change : Change) (at : Key) (v : Value) → Puts change at v → (other : Key)
     → (at ≡ other) ⊎ (rows_after rows (change ∷ []) other ≡ rows other)
@@ -169,3 +177,10 @@ keys_in_order key.Owner key.Owner = refl
 keys_in_order (key.Set s) (key.Set t) = slots_in_order s t
 keys_in_order (key.Local n) (key.Local m) = refl
 keys_in_order a b = refl
+
+pub same_order : code_order ≡ key_order
+same_order = fun_ext (λ a. fun_ext (λ b. keys_in_order a b))
+
+-- of any two keys one comes first or they are the same, and what comes before a key comes before those behind it
+pub key_order_total : IsTotalOrder key_order
+key_order_total = subst IsTotalOrder same_order total-law
