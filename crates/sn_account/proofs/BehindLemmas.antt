@@ -17,10 +17,10 @@ use Rattle.sn_rows.specs.declared.server_rows.ItemRow.{ItemRow}
 use Rattle.sn_rows.specs.declared.value.Value.{Value}
 use Rattle.sn_rows.specs.declared.value.Value.TheVariants as value
 use Rattle.sn_string.specs.declared.params.Params.{Params}
-use Rattle.sn_table.specs.Keys.{key_cmp}
-use Rattle.sn_table.specs.Ranges.{AreRowsOf}
-use Rattle.sn_table.specs.RowMaps.{row_in}
-use Rattle.sn_table.specs.declared.row_map.RowMap.{RowMap}
+use Rattle.sn_rows.specs.Order.{key_order}
+use Rattle.sn_row_map.specs.Ranges.{AreRowsOf}
+use Rattle.sn_row_map.specs.RowMaps.{row_in}
+use Rattle.sn_row_map.specs.declared.row_map.RowMap.{RowMap}
 use Rattle.sn_account.specs.Lookups.{Bytes}
 use Rattle.sn_account.specs.States.{IsUnmarked, state_rows}
 use Rattle.sn_account.specs.declared.state.State.{State}
@@ -92,17 +92,17 @@ not_before_itself : (u : Bytes) → IsBefore u u → ⊥
 not_before_itself u h = not_both_before u u h h
 
 keys_in_order : (held : RowMap) (rows : List (Key × Value)) (d : Key × Value) (i k : ℕ) → AreRowsOf held kind.Item rows → i < k → k < length rows
-    → key_cmp (get_or rows i d).0 (get_or rows k d).0 ≡ Less
+    → key_order (get_or rows i d).0 (get_or rows k d).0 ≡ Less
 keys_in_order held rows d i k are lt within =
     let f : Key × Value → Key = λ e. e.0 in
     let size : length (map f rows) ≡ length rows = length-map rows f in
     let inside : k < length (map f rows) = omega arith in
     let low : get_or (map f rows) i (f d) ≡ f (get_or rows i d) = get_or-map f rows i d in
     let high : get_or (map f rows) k (f d) ≡ f (get_or rows k d) = get_or-map f rows k d in
-    let ordered : key_cmp (get_or (map f rows) i (f d)) (get_or (map f rows) k (f d)) ≡ Less =
-    Less-from_sorted key_cmp (map f rows) i k (f d) are.sorted lt inside in
-    subst (λ (q : Key). key_cmp q (f (get_or rows k d)) ≡ Less) low
-    (subst (λ (q : Key). key_cmp (get_or (map f rows) i (f d)) q ≡ Less) high ordered)
+    let ordered : key_order (get_or (map f rows) i (f d)) (get_or (map f rows) k (f d)) ≡ Less =
+    Less-from_sorted key_order (map f rows) i k (f d) are.sorted lt inside in
+    subst (λ (q : Key). key_order q (f (get_or rows k d)) ≡ Less) low
+    (subst (λ (q : Key). key_order (get_or (map f rows) i (f d)) q ≡ Less) high ordered)
 
 pub least_behind : (map : RowMap) (all : Rows) (rows : List (Key × Value)) (n : ℕ) (params : Params) → AreRowsOf map kind.Item rows
     → ((k : Key) → all k ≡ row_in map k) → (i : ℕ) (uuid : Bytes) → ((d : Key × Value) → (get_or rows i d).0 ≡ key.Item uuid)
@@ -121,9 +121,9 @@ least_behind map all rows n params are same i uuid named b current = record {
       let f : other ≡ uuid = cc in
       not_before_itself uuid (subst (λ (u : Bytes). IsBefore u uuid) f lt) in
       let not_later : i < k → ⊥ = λ h.
-      let before : key_cmp (key.Item uuid) (key.Item other) ≡ Less =
-      subst (λ (q : Key). key_cmp q (key.Item other) ≡ Less) (named row)
-      (subst (λ (q : Key). key_cmp (get_or rows i row).0 q ≡ Less) there (keys_in_order map rows row i k are h at.1)) in
+      let before : key_order (key.Item uuid) (key.Item other) ≡ Less =
+      subst (λ (q : Key). key_order q (key.Item other) ≡ Less) (named row)
+      (subst (λ (q : Key). key_order (get_or rows i row).0 q ≡ Less) there (keys_in_order map rows row i k are h at.1)) in
       not_both_before uuid other before lt in
       omega arith;
 }

@@ -11,7 +11,6 @@ pub mod SessionTokens
 pub mod SignInLemmas
 pub mod SoundChanging
 pub mod SoundFields
-pub mod SoundPuts
 pub mod SoundRegistering
 pub mod SoundSteps
 pub mod SparedRows

@@ -2,7 +2,7 @@
 use Rattle.std.proofs.Common.{◌≡◌, ◌∙◌, ◌≤◌, ◌<◌, ℕ, suc, List, [], ◌∷◌, IfOk, Result, Ok, Err, sym, ap, subst, inr, ⊎_elim, ◌+◌, arith}
 use Rattle.std.proofs.Math.Nat.{eq-or-lt_of_le}
 use Rattle.sn_keys.specs.Keys.{check_value}
-use Rattle.sn_rows.specs.Table.{Rows}
+use Rattle.sn_rows.specs.Table.{Puts, Rows}
 use Rattle.sn_rows.specs.declared.change.Change.{Change}
 use Rattle.sn_rows.specs.declared.key.Key.TheVariants as key
 use Rattle.sn_rows.specs.declared.server_rows.AccountRow.{AccountRow}
@@ -12,7 +12,7 @@ use Rattle.sn_rows.specs.declared.value.Value.TheVariants as value
 use Rattle.sn_string.specs.declared.params.Params.{Params}
 use Rattle.sn_sync.specs.declared.answer.Answer.{Answer}
 use Rattle.sn_sync.specs.declared.answer.Answer.TheVariants as answer
-use Rattle.sn_account.specs.Lookups.{Bytes, HasAccount, HasGeneration, HasStore, Puts}
+use Rattle.sn_account.specs.Lookups.{Bytes, HasAccount, HasGeneration, HasStore}
 use Rattle.sn_account.specs.declared.accounts.Ruled.{Ruled}
 use Rattle.sn_account.specs.Rules.{ChangesKeys, ChangesPassword, IsPresent, IsUsed, NoneBehind, Replaces}
 use Rattle.sn_account.specs.Sessions.{IsSession, account_uuid, session_token}

@@ -8,7 +8,7 @@ use Rattle.sn_rows.specs.declared.change.Change.TheVariants.{Put}
 use Rattle.sn_rows.specs.declared.change.Row.{Row}
 use Rattle.sn_rows.specs.declared.key.Key.{Key}
 use Rattle.sn_rows.specs.declared.value.Value.{Value}
-use Rattle.sn_rows.proofs.TableLemmas.{row_after-append}
+use Rattle.sn_rows.specs.Facts.{row_after-append}
 
 listed_after-append : (found : Option Value) (key : Key) (first second : List (Key × Value)) → listed_after found key (first ++ second) ≡ listed_after (listed_after found key first) key second
 listed_after-append found key [] second = refl

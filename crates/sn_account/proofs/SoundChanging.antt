@@ -1,6 +1,6 @@
 -- Sound rows are sound after a change of password.
 use Rattle.std.proofs.Common.{◌≡◌, ◌<◌, ◌≤◌, ℕ, suc, List, [], ◌∷◌, Some, refl, sym, ◌∙◌, subst, inl, inr, arith}
-use Rattle.sn_rows.specs.Table.{Rows, rows_after}
+use Rattle.sn_rows.specs.Table.{Puts, Rows, rows_after}
 use Rattle.sn_rows.specs.declared.change.Change.{Change}
 use Rattle.sn_rows.specs.declared.key.Key.TheVariants as key
 use Rattle.sn_rows.specs.declared.server_rows.AccountRow.{AccountRow}
@@ -10,7 +10,7 @@ use Rattle.sn_rows.specs.declared.value.Value.TheVariants as value
 use Rattle.sn_string.specs.declared.params.Params.{Params}
 use Rattle.sn_sync.specs.declared.answer.Answer.{Answer}
 use Rattle.sn_account.specs.Laws.{StaysSoundChanging}
-use Rattle.sn_account.specs.Lookups.{Bytes, HasAccount, Puts}
+use Rattle.sn_account.specs.Lookups.{Bytes, HasAccount}
 use Rattle.sn_account.specs.Rules.{ChangesKeys, IsUsed, Replaces}
 use Rattle.sn_account.specs.Sound.{IsSound, most_generations}
 use Rattle.sn_account.proofs.SoundFields.{Fits, stays_sound}

@@ -11,7 +11,7 @@ use Rattle.sn_rows.specs.declared.server_rows.ItemRow.{ItemRow}
 use Rattle.sn_rows.specs.declared.server_rows.StoreRow.{StoreRow}
 use Rattle.sn_rows.specs.declared.value.Value.{Value}
 use Rattle.sn_rows.specs.declared.value.Value.TheVariants as value
-use Rattle.sn_rows.proofs.TableLemmas.{keys_compare}
+use Rattle.sn_rows.specs.Facts.{keys_compare}
 use Rattle.sn_account.specs.Lookups.{Bytes, HasAccount, HasGeneration, HasItem}
 use Rattle.sn_account.specs.Sound.{IsSound, IsSoundItem, most_accounts, most_generations}
 use Rattle.sn_account.proofs.SoundSteps.{Steps, account_row, account_was, earlier_generation, generation_was, item_was, other_account, other_generation, own_account}

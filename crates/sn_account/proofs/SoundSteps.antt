@@ -1,7 +1,7 @@
 -- The rows after a change of one account: its row, the parameters of its present keys and the store's row are put, the others stay.
 use Rattle.std.proofs.Common.{◌≡◌, ◌≢◌, ◌⊎◌, ℕ, [], ◌∷◌, Some, sym, ap, ◌∙◌, subst, inl, inr}
 use Rattle.std.proofs.lemmas.Bool.{cases_Bool, cases_eq, iff_false}
-use Rattle.sn_rows.specs.Table.{Rows, rows_after, same_key}
+use Rattle.sn_rows.specs.Table.{Puts, Rows, rows_after, same_key}
 use Rattle.sn_rows.specs.declared.change.Change.{Change}
 use Rattle.sn_rows.specs.declared.key.Key.{Key}
 use Rattle.sn_rows.specs.declared.key.Key.TheVariants as key
@@ -10,10 +10,8 @@ use Rattle.sn_rows.specs.declared.server_rows.GenerationRow.{GenerationRow}
 use Rattle.sn_rows.specs.declared.server_rows.StoreRow.{StoreRow}
 use Rattle.sn_rows.specs.declared.value.Value.{Value}
 use Rattle.sn_rows.specs.declared.value.Value.TheVariants as value
-use Rattle.sn_rows.proofs.TableLemmas.{keys_compare}
-use Rattle.sn_account.specs.Lookups.{Bytes, HasAccount, HasGeneration, HasStore, Puts}
-use Rattle.sn_account.proofs.SoundPuts.{put_elsewhere, put_here}
-
+use Rattle.sn_rows.specs.Facts.{keys_compare, put_elsewhere, put_here}
+use Rattle.sn_account.specs.Lookups.{Bytes, HasAccount, HasGeneration, HasStore}
 -- what the rows are then
 pub record Steps (rows now : Rows) (store : StoreRow) (n : ℕ) (row : AccountRow) (made : GenerationRow) : Type 0 where
   pub store_is : HasStore now store

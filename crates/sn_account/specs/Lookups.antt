@@ -1,7 +1,6 @@
 -- What a server's rows have: the store's own row, accounts, generations of their keys, and items.
 use Rattle.std.specs.Prelude.{◌≡◌, ℕ, List, Some}
-use Rattle.sn_rows.specs.Table.{Rows, key_of, value_of}
-use Rattle.sn_rows.specs.declared.change.Change.{Change}
+use Rattle.sn_rows.specs.Table.{Rows}
 use Rattle.sn_rows.specs.declared.key.Key.{Key}
 use Rattle.sn_rows.specs.declared.key.Key.TheVariants as key
 use Rattle.sn_rows.specs.declared.server_rows.AccountRow.{AccountRow}
@@ -35,8 +34,3 @@ IsNamed rows identifier n = (account : AccountRow) × HasAccount rows n account 
 -- no account has it
 abbrev pub IsUnknown : Rows → Bytes → Type 0
 IsUnknown rows identifier = (n : ℕ) → ¬ (IsNamed rows identifier n)
-
--- the change puts this value at this key
-pub record Puts (change : Change) (at : Key) (v : Value) : Type 0 where
-  pub key_is : key_of change ≡ at
-  pub value_is : value_of change ≡ Some v

@@ -4,9 +4,9 @@ use Rattle.std.specs.BTreeMap.{get}
 use Rattle.std.specs.Coded.{Coded-set, coded_bool, Unit-prop, Π_prop, →_prop}
 use Rattle.sn_rows.specs.declared.change.Change.{Change}
 use Rattle.sn_rows.specs.declared.change.Change.TheVariants.{Put, Remove}
-use Rattle.sn_table.specs.Keys.{key_cmp}
-use Rattle.sn_table.specs.RowMaps.{FitsIn, HasRoom}
-use Rattle.sn_table.specs.declared.row_map.RowMap.{RowMap}
+use Rattle.sn_row_map.specs.Keys.{key_cmp}
+use Rattle.sn_row_map.specs.RowMaps.{FitsIn, HasRoom}
+use Rattle.sn_row_map.specs.declared.row_map.RowMap.{RowMap}
 
 FitsIn-prop : (map : RowMap) (change : Change) → IsProp (FitsIn map change)
 unfolding HasRoom

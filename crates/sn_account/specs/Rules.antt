@@ -4,7 +4,7 @@ use Rattle.std.specs.Ordering.{nat_cmp}
 use Rattle.std.specs.Cmp.Lexicographic.{slice_cmp}
 use Rattle.std.specs.declared.cmp.Ordering.TheVariants.{Less}
 use Rattle.sn_keys.specs.Keys.{check_value}
-use Rattle.sn_rows.specs.Table.{Rows}
+use Rattle.sn_rows.specs.Table.{Puts, Rows}
 use Rattle.sn_rows.specs.declared.change.Change.{Change}
 use Rattle.sn_rows.specs.declared.key.Key.TheVariants as key
 use Rattle.sn_rows.specs.declared.server_rows.AccountRow.{AccountRow}
@@ -18,7 +18,7 @@ use Rattle.sn_sync.specs.declared.answer.Answer.{Answer}
 use Rattle.sn_sync.specs.declared.answer.Answer.TheVariants as answer
 use Rattle.sn_sync.specs.declared.answer.More.{More}
 use Rattle.sn_sync.specs.declared.answer.More.TheVariants as more
-use Rattle.sn_account.specs.Lookups.{Bytes, HasAccount, HasGeneration, HasItem, IsNamed, IsUnknown, Puts}
+use Rattle.sn_account.specs.Lookups.{Bytes, HasAccount, HasGeneration, HasItem, IsNamed, IsUnknown}
 use Rattle.sn_account.specs.Sessions.{IsNoSession, IsSession, account_uuid, session_token}
 use Rattle.sn_account.specs.Sound.{most_accounts, most_generations}
 

@@ -3,7 +3,7 @@ use Rattle.std.specs.Prelude.{◌≡◌, List, [], ◌∷◌, Option, Some, None
 use Rattle.sn_rows.specs.Table.{Rows, rows_after, same_key}
 use Rattle.sn_rows.specs.declared.key.Key.{Key}
 use Rattle.sn_rows.specs.declared.value.Value.{Value}
-use Rattle.sn_table.specs.RowMaps.{row_in}
+use Rattle.sn_row_map.specs.RowMaps.{row_in}
 use Rattle.sn_account.specs.declared.state.State.{State}
 
 -- the row of a key in a list of rows, where it was this before

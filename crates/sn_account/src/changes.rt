@@ -1,8 +1,7 @@
 //! Changes that put one row.
-
-ghost use Rattle.sn_account.specs.Lookups.{Puts};
 ghost use Rattle.sn_rows.specs.declared.key.Key.TheVariants as key;
 ghost use Rattle.sn_rows.specs.declared.value.Value.TheVariants as value;
+ghost use Rattle.sn_rows.specs.Table.{Puts};
 
 use sn_rows::{AccountRow, Change, GenerationRow, Key, Row, StoreRow, Value};
 

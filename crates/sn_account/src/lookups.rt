@@ -7,7 +7,7 @@ ghost use Rattle.sn_rows.specs.declared.kind.RowKind.TheVariants as kind;
 ghost use Rattle.sn_rows.specs.declared.server_rows.AccountRow.{AccountRow};
 ghost use Rattle.sn_rows.specs.declared.server_rows.GenerationRow.{GenerationRow};
 ghost use Rattle.sn_rows.specs.declared.server_rows.StoreRow.{StoreRow};
-ghost use Rattle.sn_table.specs.Ranges.{AreRowsOf};
+ghost use Rattle.sn_row_map.specs.Ranges.{AreRowsOf};
 
 use crate::state::State;
 use sn_rows::{AccountRow, GenerationRow, Key, RowKind, StoreRow, Value};

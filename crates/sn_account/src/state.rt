@@ -2,11 +2,11 @@
 
 ghost use Rattle.std.specs.Prelude.{All};
 ghost use Rattle.sn_account.specs.Room.{all_fit-prop};
-ghost use Rattle.sn_table.specs.RowMaps.{FitsIn};
+ghost use Rattle.sn_row_map.specs.RowMaps.{FitsIn};
 
 use sn_rows::Change;
 use sn_string::Many;
-use sn_table::RowMap;
+use sn_row_map::RowMap;
 use std::alloc::Global;
 
 /// The rows of a server. Changes may be marked: they count already, and are taken back or kept without

@@ -29,6 +29,7 @@ use Rattle.sn_rows.specs.declared.key.Key.TheVariants as key
 use Rattle.sn_rows.specs.declared.server_rows.AccountRow.{AccountRow}
 use Rattle.sn_rows.specs.declared.value.Value.{Value}
 use Rattle.sn_rows.specs.declared.value.Value.TheVariants as value
+use Rattle.sn_rows.specs.Facts.{put_elsewhere}
 use Rattle.sn_shows.specs.Devices.{sealed_of}
 use Rattle.sn_shows.specs.Laws.{AreApart, HasAccount, PutsVersion, created_of}
 use Rattle.sn_shows.specs.Servers.{ShowsAccounts, ShowsIdentity, ShowsStrings, account_at, first_of, stamps_in}
@@ -41,7 +42,7 @@ use Rattle.sn_ends.specs.Synced.{StandsOn}
 use Rattle.sn_ends.specs.Outcomes.{accepts_from, number_of}
 use Rattle.sn_ends.specs.Regular.{IsNoItem, IsVersionOf}
 use Rattle.sn_ends.proofs.ExchangeLists.{account_among, account_of_device, found_at, last_among}
-use Rattle.sn_ends.proofs.ExchangeRows.{AreSent, IsSentRow, put_elsewhere}
+use Rattle.sn_ends.proofs.ExchangeRows.{AreSent, IsSentRow}
 use Rattle.sn_ends.proofs.FindLemmas.{changed, none_found}
 use Rattle.sn_ends.proofs.HoldLemmas.{each_one, one_before, one_old_or_new}
 use Rattle.sn_ends.proofs.MoveLemmas.{account_identifier, account_named-changed, account_of-from, accounts-accept, draft_found, with_version}

@@ -1,7 +1,7 @@
 -- The drafts of a device, through its calls.
 use Rattle.std.proofs.Common.{◌≡◌, ◌≢◌, ◌⊎◌, ◌+◌, ◌-◌, ◌<◌, ◌≤◌, ℕ, zero, suc, List, [], ◌∷◌, ◌++◌, length, Option, Some, None, refl, sym, ap, ◌∙◌, subst, inl, inr, ⊎_elim, arith, length-append}
 use Rattle.sn_laws.specs.Each.{Each}
-use Rattle.sn_rows.proofs.TableLemmas.{spared_stays}
+use Rattle.sn_rows.specs.Facts.{put_elsewhere, put_here, spared_stays}
 use Rattle.sn_rows.specs.Table.{Rows, rows_after, rows_of_batches}
 use Rattle.sn_rows.specs.declared.body.RowBody.{RowBody}
 use Rattle.sn_rows.specs.declared.body.RowBody.TheVariants as body
@@ -16,7 +16,7 @@ use Rattle.sn_shows.specs.Laws.{PutsPosted}
 use Rattle.sn_ends.specs.Batches.{draft_in, drafts_from, if_draft, next_in, next_number, sent_of}
 use Rattle.sn_ends.specs.Changes.{AreDrafts, ArePosted, AreSettled, PostsItem}
 use Rattle.sn_ends.specs.Opened.{AreOpen, AreSentAs, IsSendable, IsSentAs, OpenAreDrafts, PostOpen, PutOpen, SettleOpen}
-use Rattle.sn_ends.proofs.ExchangeRows.{as_batch_follows, drafts_past, numbers_apart, one_batch, posts_spare, put_elsewhere, put_there, rows_append}
+use Rattle.sn_ends.proofs.ExchangeRows.{as_batch_follows, drafts_past, numbers_apart, one_batch, posts_spare, rows_append}
 use Rattle.sn_ends.proofs.SealedLemmas.{server_fits}
 
 low_or : (a b : ℕ) → (a < b) ⊎ (b ≤ a)
@@ -72,7 +72,7 @@ row_sent rows number item None changes e there p =
     subst (λ (cs : List Change). IsRowAs (rows_after rows cs) number item) (sym p.1)
     (record {
       row = put.sent;
-      there = put_there rows p.0 (key.Local number) (value.Local put.sent) put.puts;
+      there = put_here rows p.0 (key.Local number) (value.Local put.sent) put.puts;
       same = (put.uuid_is, put.kind_is, put.base, put.latest, put.posted ∙ ap (sent_of item) (sym e));
     })
 row_sent rows number item (Some b) changes e there p =
@@ -176,7 +176,7 @@ settled_none rows number stamp (i ∷ is) changes zero k at lt (change, later, p
     ap (λ (cs : List Change). rows_after rows cs (key.Local number)) parts
     ∙ settled_stay (rows_after rows (change ∷ [])) (suc number) (suc stamp) is later (key.Local number)
     (λ m low high e. numbers_apart number m low (sym e)) rest
-    ∙ put_there rows change (key.Local number) (value.Local put.settled) put.puts in
+    ∙ put_here rows change (key.Local number) (value.Local put.settled) put.puts in
     let was : rows_after rows changes (key.Local number) ≡ Some (value.Local item) =
     ap (λ (n : ℕ). rows_after rows changes (key.Local n)) (sym here) ∙ there in
     let same : item ≡ put.settled = cc in
@@ -199,7 +199,7 @@ settle_open device device_after owner settled stamp items sent left h as_sent ow
     λ k out. local k ∙ settled_stay rows settled stamp items p.changes (key.Local k)
     (λ m low high e. ⊎_elim (λ (l : k < settled). numbers_apart k m (omega arith) (sym e))
     (λ (l : settled + length items ≤ k). numbers_apart m k (omega arith) e) out) p.settled in
-    let there : after key.Owner ≡ Some (value.Owner p.tokens.row) = put_there mid p.next key.Owner (value.Owner p.tokens.row) p.tokens.puts in
+    let there : after key.Owner ≡ Some (value.Owner p.tokens.row) = put_here mid p.next key.Owner (value.Owner p.tokens.row) p.tokens.puts in
     let next : next_number rows ≡ next_number after = ap next_in owner_is ∙ sym p.tokens.next_is ∙ sym (ap next_in there) in
     let count : settled + length (sent ++ left) ≡ next_number rows = h.count in
     let parts : length (sent ++ left) ≡ length sent + length left = length-append sent left in
@@ -237,9 +237,9 @@ put_open device device_after settled items uuid text h p short =
     (λ e. numbers_apart k p.owner.next (omega arith) (sym e)) in
     let new : after (key.Local (settled + length items)) ≡ Some (value.Local put.item) =
     ap (λ (n : ℕ). after (key.Local n)) place ∙ local p.owner.next
-    ∙ put_there rows put.row (key.Local p.owner.next) (value.Local put.item) put.row_puts in
+    ∙ put_here rows put.row (key.Local p.owner.next) (value.Local put.item) put.row_puts in
     let there : after key.Owner ≡ Some (value.Owner put.next_puts.row) =
-    put_there first put.next key.Owner (value.Owner put.next_puts.row) put.next_puts.puts in
+    put_here first put.next key.Owner (value.Owner put.next_puts.row) put.next_puts.puts in
     let fits = server_fits (sealed_of put.strings) uuid text put.set put.opens short in
     let latest : put.item.latest ≡ Some (body.Sealed put.strings) = put.new.latest in
     let sendable : IsSendable put.item =

@@ -1,8 +1,8 @@
 -- What the batches of an exchange leave of the rows.
 use Rattle.std.proofs.Common.{◌≡◌, ◌≢◌, ◌⊎◌, ◌<◌, ◌≤◌, ℕ, suc, List, [], ◌∷◌, ◌++◌, Option, Some, None, Bool, true, false, refl, sym, ap, ◌∙◌, subst, inl, inr, arith, append-nil}
 use Rattle.sn_laws.proofs.EachLemmas.{is_false}
-use Rattle.sn_rows.proofs.TableLemmas.{batch_follows, keys_compare, row_after-append, spared_stays}
-use Rattle.sn_rows.specs.Table.{Rows, Spares, key_of, rows_after, rows_of_batches, same_key}
+use Rattle.sn_rows.specs.Facts.{batch_follows, keys_compare, row_after-append, spared_stays}
+use Rattle.sn_rows.specs.Table.{Puts, Rows, Spares, key_of, rows_after, rows_of_batches, same_key}
 use Rattle.sn_rows.specs.declared.body.RowBody.{RowBody}
 use Rattle.sn_rows.specs.declared.change.Change.{Change}
 use Rattle.sn_rows.specs.declared.device_rows.LocalItem.{LocalItem}
@@ -10,31 +10,9 @@ use Rattle.sn_rows.specs.declared.key.Key.{Key}
 use Rattle.sn_rows.specs.declared.key.Key.TheVariants as key
 use Rattle.sn_rows.specs.declared.value.Value.{Value}
 use Rattle.sn_rows.specs.declared.value.Value.TheVariants as value
-use Rattle.sn_shows.specs.Laws.{Puts, PutsPosted}
+use Rattle.sn_shows.specs.Laws.{PutsPosted}
 use Rattle.sn_ends.specs.Batches.{sent_of}
 use Rattle.sn_ends.specs.Changes.{AreDrafts, ArePosted, PostsItem, as_batch}
-
--- one put
-
-pub put_there : (rows : Rows) (change : Change) (at : Key) (v : Value) → Puts change at v → rows_after rows (change ∷ []) at ≡ Some v
-put_there rows change at v p =
-    let same : same_key (key_of change) at ≡ true = (keys_compare (key_of change) at).1 p.key_is in
-    rw same p.value_is
-
-key_apart : (change : Change) (at other : Key) → key_of change ≡ at → at ≢ other → same_key (key_of change) other ≡ false
-key_apart change at other e apart = is_false (same_key (key_of change) other) (λ t. apart (sym e ∙ (keys_compare (key_of change) other).0 t))
-
-pub put_elsewhere : (rows : Rows) (change : Change) (at other : Key) (v : Value) → Puts change at v → at ≢ other
-    → rows_after rows (change ∷ []) other ≡ rows other
-put_elsewhere rows change at other v p apart = rw (key_apart change at other p.key_is apart) refl
-
-pub put_or_not : (rows : Rows) (change : Change) (at : Key) (v : Value) → Puts change at v → (other : Key)
-    → (at ≡ other) ⊎ (rows_after rows (change ∷ []) other ≡ rows other)
-put_or_not rows change at v p other = by (same_key (key_of change) other) refl
-  where
-    by : (b : Bool) → same_key (key_of change) other ≡ b → (at ≡ other) ⊎ (rows_after rows (change ∷ []) other ≡ rows other)
-    by true e = inl (sym p.key_is ∙ (keys_compare (key_of change) other).0 e)
-    by false e = inr (rw e refl)
 
 -- batches
 
@@ -124,7 +102,7 @@ sent_row rows number item None changes e there some p =
     subst (λ (cs : List Change). IsSentRow (rows_after rows cs) number item) (sym p.1)
     (record {
       row = put.sent;
-      there = put_there rows p.0 (key.Local number) (value.Local put.sent) put.puts;
+      there = put_here rows p.0 (key.Local number) (value.Local put.sent) put.puts;
       uuid_is = put.uuid_is;
       kind_is = put.kind_is;
       latest = put.latest;

@@ -14,7 +14,7 @@ use Rattle.sn_laws.specs.declared.ideal.Ideal.{Ideal}
 use Rattle.sn_laws.specs.declared.ideal.Posted.{Posted}
 use Rattle.sn_laws.specs.declared.ideal.Version.{Version}
 use Rattle.sn_report.specs.Labels.{Labels}
-use Rattle.sn_rows.specs.Table.{Rows, rows_after}
+use Rattle.sn_rows.specs.Table.{Puts, Rows, rows_after}
 use Rattle.sn_rows.specs.declared.body.RowBody.{RowBody}
 use Rattle.sn_rows.specs.declared.body.RowBody.TheVariants as body
 use Rattle.sn_rows.specs.declared.body.RowStrings.{RowStrings}
@@ -24,8 +24,9 @@ use Rattle.sn_rows.specs.declared.key.Key.{Key}
 use Rattle.sn_rows.specs.declared.key.Key.TheVariants as key
 use Rattle.sn_rows.specs.declared.value.Value.{Value}
 use Rattle.sn_rows.specs.declared.value.Value.TheVariants as value
+use Rattle.sn_rows.specs.Facts.{put_elsewhere, put_or_not}
 use Rattle.sn_shows.specs.Devices.{ShowsContent, ShowsDevice, ShowsDeviceAs, ShowsDraft, ShowsDrafted, ShowsHolder, ShowsPosted, sealed_of}
-use Rattle.sn_shows.specs.Laws.{HasAccount, Puts}
+use Rattle.sn_shows.specs.Laws.{HasAccount}
 use Rattle.sn_shows.specs.Servers.{ShowsAccounts}
 use Rattle.sn_shows.specs.Sets.{OpensUnder}
 use Rattle.sn_string.specs.declared.params.KeySet.{KeySet}
@@ -35,7 +36,7 @@ use Rattle.sn_ends.specs.Synced.{StandsOn}
 use Rattle.sn_ends.specs.Regular.{IsNewDraft, IsRegular}
 use Rattle.sn_ends.proofs.ExchangeLists.{account_among}
 use Rattle.sn_ends.proofs.HoldLemmas.{each_one}
-use Rattle.sn_ends.proofs.ExchangeRows.{IsSentRow, put_elsewhere, put_or_not}
+use Rattle.sn_ends.proofs.ExchangeRows.{IsSentRow}
 
 -- local numbers go from 1 to below the next
 pub record IsNumbered (rows : Rows) (next : ℕ) : Type 0 where

@@ -14,7 +14,7 @@ use Rattle.sn_rows.specs.declared.key.Key.{Key}
 use Rattle.sn_rows.specs.declared.key.Key.TheVariants as key
 use Rattle.sn_rows.specs.declared.value.Value.{Value}
 use Rattle.sn_rows.specs.declared.value.Value.TheVariants as value
-use Rattle.sn_rows.proofs.TableLemmas.{batch_follows}
+use Rattle.sn_rows.specs.Facts.{batch_follows}
 use Rattle.sn_shows.specs.Laws.{PutsAccount}
 use Rattle.sn_string.specs.declared.params.KeySet.{KeySet}
 use Rattle.sn_ends.specs.Changes.{Begins, IsAccountOf, IsRegistration, IsStart, PutsStoreRow, Starts, count_in, last_in}

@@ -3,7 +3,7 @@ use Rattle.std.proofs.Common.{◌≡◌, List, [], ◌∷◌, Option, Some, None
 use Rattle.std.specs.Prelude.{if◌then◌else◌}
 use Rattle.std.specs.List.{flat_map}
 use Rattle.sn_rows.specs.Kinds.{key_kind, value_kind}
-use Rattle.sn_rows.specs.Table.{changed, key_of, row_after, rows_of_batches, same_key, value_of}
+use Rattle.sn_rows.specs.Table.{Puts, changed, key_of, row_after, rows_of_batches, same_key, value_of}
 use Rattle.sn_rows.specs.declared.change.Change.{Change}
 use Rattle.sn_rows.specs.declared.change.Change.TheVariants.{Put, Remove}
 use Rattle.sn_rows.specs.declared.key.Key.{Key}
@@ -11,8 +11,7 @@ use Rattle.sn_rows.specs.declared.key.Key.TheVariants as key
 use Rattle.sn_rows.specs.declared.server_rows.StoreRow.{StoreRow}
 use Rattle.sn_rows.specs.declared.value.Value.{Value}
 use Rattle.sn_rows.specs.declared.value.Value.TheVariants as value
-use Rattle.sn_rows.proofs.TableLemmas.{keys_compare}
-use Rattle.sn_shows.specs.Laws.{Puts}
+use Rattle.sn_rows.specs.Facts.{put_apart, put_here}
 use Rattle.sn_ends.specs.Rows.{store_in}
 
 -- the value, where there is one, is of the key's kind
@@ -54,13 +53,8 @@ store_row (Some v) row e = absurd (cc)
 
 -- a put sets its own row
 pub put_row : (found : Option Value) (k : Key) (c : Change) (v : Value) → Puts c k v → changed found k c ≡ Some v
-put_row found k c v p =
-    let same : same_key (key_of c) k ≡ true = (keys_compare (key_of c) k).1 p.key_is in
-    let one : changed found k c ≡ value_of c = rw same refl in
-    one ∙ p.value_is
+put_row found k c v p = put_here (λ at. found) c k v p
 
 -- and no other
 pub other_row : (found : Option Value) (k other : Key) (c : Change) (v : Value) → Puts c k v → same_key k other ≡ false → changed found other c ≡ found
-other_row found k other c v p e =
-    let same : same_key (key_of c) other ≡ false = ap (λ (q : Key). same_key q other) p.key_is ∙ e in
-    rw same refl
+other_row found k other c v p e = put_apart (λ at. found) c k other v p e

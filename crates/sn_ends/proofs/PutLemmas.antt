@@ -24,6 +24,7 @@ use Rattle.sn_rows.specs.declared.key.Key.TheVariants as key
 use Rattle.sn_rows.specs.declared.key.Slot.TheVariants.{Present}
 use Rattle.sn_rows.specs.declared.value.Value.{Value}
 use Rattle.sn_rows.specs.declared.value.Value.TheVariants as value
+use Rattle.sn_rows.specs.Facts.{neither_put, put_elsewhere, put_or_not, second_put}
 use Rattle.sn_string.proofs.Unique.{same_params}
 use Rattle.sn_string.specs.declared.params.KeySet.{KeySet}
 use Rattle.sn_shows.specs.Devices.{IsSetRow, ShowsBase, ShowsDevice, ShowsDrafted, ShowsHolder, ShowsLocal, sealed_of}
@@ -32,7 +33,6 @@ use Rattle.sn_shows.specs.Laws.{HasAccount, IsNewAt, PutsItem, PutsTokens}
 use Rattle.sn_shows.proofs.DeviceDrafts.{edited_shows}
 use Rattle.sn_shows.proofs.DeviceKeeps.{edit_keeps}
 use Rattle.sn_shows.proofs.DeviceOwners.{tokens_show}
-use Rattle.sn_shows.proofs.DevicePuts.{neither_there, put_elsewhere, put_or_not, second_there}
 use Rattle.sn_shows.proofs.DeviceStates.{holder_of}
 use Rattle.sn_ends.specs.Batches.{next_in, next_number}
 use Rattle.sn_ends.specs.Changes.{IsSetOf, PutsNew}
@@ -119,7 +119,7 @@ module _ (server : List (List Change)) (devices devices_after : Bytes → List (
   next_is =
       ap next_in
       (ap (λ (x : Rows). x key.Owner) now_is
-      ∙ second_there (rows name) p.put.row p.put.next key.Owner (value.Owner p.put.next_puts.row) p.put.next_puts.puts)
+      ∙ second_put (rows name) p.put.row p.put.next key.Owner (value.Owner p.put.next_puts.row) p.put.next_puts.puts)
       ∙ p.put.next_puts.next_is ∙ omega arith
 
   was_below : (number : ℕ) → IsSome (rows name (key.Local number)) → number < p.owner.next
@@ -189,7 +189,7 @@ module _ (server : List (List Change)) (devices devices_after : Bytes → List (
   local_stays number within =
       let apart : p.owner.next ≢ number = omega arith in
       ap (λ (x : Rows). x (key.Local number)) now_is
-      ∙ neither_there (rows name) p.put.row p.put.next (key.Local p.owner.next) key.Owner (key.Local number) (value.Local p.put.item) (value.Owner p.put.next_puts.row)
+      ∙ neither_put (rows name) p.put.row p.put.next (key.Local p.owner.next) key.Owner (key.Local number) (value.Local p.put.item) (value.Owner p.put.next_puts.row)
       p.put.row_puts p.put.next_puts.puts (λ e. apart (cc)) (λ e. cc)
 
   -- and a row is the new one or was there

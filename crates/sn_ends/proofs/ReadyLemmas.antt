@@ -14,7 +14,7 @@ use Rattle.sn_rows.specs.declared.key.Slot.TheVariants.{Present}
 use Rattle.sn_rows.specs.declared.server_rows.StoreRow.{StoreRow}
 use Rattle.sn_rows.specs.declared.value.Value.{Value}
 use Rattle.sn_rows.specs.declared.value.Value.TheVariants as value
-use Rattle.sn_rows.proofs.TableLemmas.{batch_follows, last_counts}
+use Rattle.sn_rows.specs.Facts.{batch_follows, last_counts}
 use Rattle.sn_shows.specs.Devices.{ShowsHolder}
 use Rattle.sn_shows.specs.Servers.{ShowsAccount, ShowsStore}
 use Rattle.sn_shows.proofs.DeviceStates.{holder_of}

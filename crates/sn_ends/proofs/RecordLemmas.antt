@@ -7,7 +7,7 @@ use Rattle.sn_laws.specs.Lookups.{Bytes}
 use Rattle.sn_rows.specs.Table.{Rows, rows_after, rows_of_batches}
 use Rattle.sn_rows.specs.declared.change.Change.{Change}
 use Rattle.sn_rows.specs.declared.key.Key.{Key}
-use Rattle.sn_rows.proofs.TableLemmas.{batch_follows}
+use Rattle.sn_rows.specs.Facts.{batch_follows}
 
 -- tables with the same rows are the same
 pub rows_same : (rows now : Rows) → ((key : Key) → rows key ≡ now key) → rows ≡ now

@@ -22,6 +22,7 @@ use Rattle.sn_rows.specs.declared.key.Key.TheVariants as key
 use Rattle.sn_rows.specs.declared.key.Slot.TheVariants.{Present}
 use Rattle.sn_rows.specs.declared.value.Value.{Value}
 use Rattle.sn_rows.specs.declared.value.Value.TheVariants as value
+use Rattle.sn_rows.specs.Facts.{first_put, neither_put}
 use Rattle.sn_string.specs.declared.params.KeySet.{KeySet}
 use Rattle.sn_shows.specs.Devices.{ShowsDevice, ShowsDeviceAs, ShowsNothing}
 use Rattle.sn_shows.specs.Laws.{HasAccount, PutsAccount, PutsOwner, PutsStore}
@@ -29,7 +30,6 @@ use Rattle.sn_shows.specs.Servers.{ShowsAccounts, ShowsServer, ShowsStore, stamp
 use Rattle.sn_shows.proofs.DeviceKeeps.{join_keeps}
 use Rattle.sn_shows.proofs.DeviceLookups.{find_new, find_past_new}
 use Rattle.sn_shows.proofs.DeviceOwners.{joined_shows}
-use Rattle.sn_shows.proofs.DevicePuts.{first_there, neither_there}
 use Rattle.sn_shows.proofs.DeviceStates.{not_device}
 use Rattle.sn_shows.proofs.ServersKeep.{register_keeps}
 use Rattle.sn_shows.proofs.ServersRegister.{new_account, registered_shows}
@@ -130,7 +130,7 @@ module _ (server server_after : List (List Change)) (devices devices_after : Byt
   pub no_local : (number : ℕ) → now name (key.Local number) ≡ None
   no_local number =
       ap (λ (x : Rows). x (key.Local number)) now_is
-      ∙ neither_there (rows name) r.owner r.present key.Owner (key.Set Present) (key.Local number) (value.Owner r.first.row) (value.Set r.first.keys)
+      ∙ neither_put (rows name) r.owner r.present key.Owner (key.Set Present) (key.Local number) (value.Owner r.first.row) (value.Set r.first.keys)
       r.first.owner_puts r.first.present_puts (λ e. cc) (λ e. cc)
       ∙ nothing.none (key.Local number)
 
@@ -138,7 +138,7 @@ module _ (server server_after : List (List Change)) (devices devices_after : Byt
   next_is =
       ap next_in
       (ap (λ (x : Rows). x key.Owner) now_is
-      ∙ first_there (rows name) r.owner r.present key.Owner (key.Set Present) (value.Owner r.first.row) (value.Set r.first.keys)
+      ∙ first_put (rows name) r.owner r.present key.Owner (key.Set Present) (value.Owner r.first.row) (value.Set r.first.keys)
       r.first.owner_puts r.first.present_puts (λ e. cc))
       ∙ r.first.next
 

@@ -22,6 +22,7 @@ use Rattle.sn_rows.specs.declared.device_rows.OwnerRow.{OwnerRow}
 use Rattle.sn_rows.specs.declared.key.Key.TheVariants as key
 use Rattle.sn_rows.specs.declared.value.Value.{Value}
 use Rattle.sn_rows.specs.declared.value.Value.TheVariants as value
+use Rattle.sn_rows.specs.Facts.{put_elsewhere, put_here}
 use Rattle.sn_shows.specs.Devices.{IsBase, ShowsDevice, sealed_of}
 use Rattle.sn_shows.specs.Laws.{HasAccount, PutsSettled}
 use Rattle.sn_shows.specs.Sets.{OpensUnder}
@@ -33,7 +34,7 @@ use Rattle.sn_ends.specs.Outcomes.{settles}
 use Rattle.sn_ends.specs.Regular.{IsRegular, IsVersionOf}
 use Rattle.sn_ends.proofs.AcceptLemmas.{AreVersions, ItemVersion}
 use Rattle.sn_ends.proofs.ExchangeLists.{account_among}
-use Rattle.sn_ends.proofs.ExchangeRows.{AreSent, IsSentRow, put_elsewhere, put_there, sent_stay}
+use Rattle.sn_ends.proofs.ExchangeRows.{AreSent, IsSentRow, sent_stay}
 use Rattle.sn_ends.proofs.HoldLemmas.{each_one}
 use Rattle.sn_ends.proofs.MoveLemmas.{account_identifier, account_of-from, draft_at-settle-other, draft_found}
 use Rattle.sn_ends.proofs.ExchangeStates.{AreDifferent, HasSent, Holds, IsHolder, holder_is, numbers_stay, read_sent, stands_stay}
@@ -159,7 +160,7 @@ module _ (given : GivenLaws) (devices : Bytes → Rows) (labels : Labels) (name 
         record {
           number = number;
           item = p.settled;
-          there = put_there rows change (key.Local number) (value.Local p.settled) p.puts;
+          there = put_here rows change (key.Local number) (value.Local p.settled) p.puts;
           item_is = p.uuid_is ∙ same;
           base = p.base ∙ ap (λ (w : Version). Some w.stamp) is;
         }
@@ -230,7 +231,7 @@ module _ (given : GivenLaws) (devices : Bytes → Rows) (labels : Labels) (name 
             (h.bases d a v owned one);
         other_bases = h.other_bases;
         numbers = record {
-          next_is = ap next_in (put_there rows change key.Owner (value.Owner p.row) p.puts) ∙ p.next_is ∙ count;
+          next_is = ap next_in (put_here rows change key.Owner (value.Owner p.row) p.puts) ∙ p.next_is ∙ count;
           low = λ number some. h.numbers.low number (subst (λ (o : Option Value). IsSome o) (other_row number) some);
           high = λ number some. h.numbers.high number (subst (λ (o : Option Value). IsSome o) (other_row number) some);
         };

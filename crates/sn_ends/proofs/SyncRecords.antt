@@ -12,7 +12,7 @@ use Rattle.sn_laws.specs.declared.ideal.Account.{Account}
 use Rattle.sn_laws.specs.declared.ideal.Ideal.{Ideal}
 use Rattle.sn_laws.specs.declared.moves.Move.{Move}
 use Rattle.sn_laws.specs.declared.moves.Move.TheVariants.{Register, Join, Edit, Post, Accept, Settle}
-use Rattle.sn_rows.proofs.TableLemmas.{batch_follows, last_counts, spared_stays}
+use Rattle.sn_rows.specs.Facts.{batch_follows, last_counts, spared_stays}
 use Rattle.sn_rows.specs.Table.{Spares, rows_of_batches, same_key}
 use Rattle.sn_rows.specs.declared.body.RowBody.{RowBody}
 use Rattle.sn_rows.specs.declared.change.Change.{Change}

@@ -8,7 +8,7 @@ use Rattle.sn_laws.specs.declared.moves.Move.{Move}
 use Rattle.sn_report.specs.declared.report.DeviceRefusal.TheVariants as refusal
 use Rattle.sn_report.specs.declared.report.Last.TheVariants as last
 use Rattle.sn_report.specs.declared.report.ServerRefusal.TheVariants as server
-use Rattle.sn_rows.proofs.TableLemmas.{batch_follows, last_counts, spared_stays}
+use Rattle.sn_rows.specs.Facts.{batch_follows, last_counts, spared_stays}
 use Rattle.sn_rows.specs.Table.{Rows, Spares, rows_of_batches, same_key}
 use Rattle.sn_rows.specs.declared.change.Change.{Change}
 use Rattle.sn_rows.specs.declared.device_rows.LocalItem.{LocalItem}

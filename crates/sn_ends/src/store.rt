@@ -4,11 +4,11 @@ ghost use Rattle.std.specs.Prelude.{◌≡◌, ◌++◌, [], ◌∷◌, List, le
 ghost use Rattle.std.specs.Option.{option_copied};
 ghost use Rattle.sn_rows.specs.Table.{rows_of_batches};
 ghost use Rattle.sn_rows.specs.declared.key.Key.{Key};
-ghost use Rattle.sn_table.specs.RowMaps.{row_in};
+ghost use Rattle.sn_row_map.specs.RowMaps.{row_in};
 
 use sn_rows::{Change, Key, Value};
 use sn_string::{Many, Twin};
-use sn_table::RowMap;
+use sn_row_map::RowMap;
 use std::alloc::{AllocError, Global};
 use std::marker::Model;
 

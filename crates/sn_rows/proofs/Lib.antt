@@ -4,5 +4,4 @@ pub mod FormLemmas
 pub mod Glue
 pub mod Loop
 pub mod Same
-pub mod TableLemmas
 pub mod TextLemmas

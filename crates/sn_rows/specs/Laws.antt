@@ -1,16 +1,22 @@
 -- What holds of every list of changes.
-use Rattle.std.specs.Prelude.{◌≡◌, ◌↔◌, ℕ, List, [], ◌∷◌, ◌++◌, ◌⊎◌, IsTrue, None, MatchResult, Result, Ok}
+use Rattle.std.specs.Prelude.{◌≡◌, ◌≢◌, ◌↔◌, ℕ, List, [], ◌∷◌, ◌++◌, ◌⊎◌, IsTrue, None, Some, MatchResult, Result, Ok}
 use Rattle.sn_rows.specs.declared.key.Key.{Key}
 use Rattle.sn_rows.specs.declared.change.Change.{Change}
 use Rattle.sn_rows.specs.declared.error.RowError.{RowError}
 use Rattle.sn_rows.specs.declared.error.RowError.TheVariants as error
-use Rattle.sn_rows.specs.Table.{Rows, same_key, value_of, rows_after, rows_of, rows_of_batches, Spares, IsLast}
+use Rattle.sn_rows.specs.declared.value.Value.{Value}
+use Rattle.sn_rows.specs.Order.{code_order, key_order}
+use Rattle.sn_rows.specs.Table.{Rows, Puts, Removes, same_key, value_of, rows_after, rows_of, rows_of_batches, with_row, Spares, IsLast}
 use Rattle.sn_rows.specs.Spelling.{spelled, AreInForm}
 use Rattle.sn_rows.specs.Reading.{IsRefusal}
 
 -- two keys are the same where they are equal
 abbrev pub KeysCompare : Type 0
 KeysCompare = (a b : Key) → IsTrue (same_key a b) ↔ (a ≡ b)
+
+-- the code compares keys in their order
+abbrev pub KeysAreInOrder : Type 0
+KeysAreInOrder = (a b : Key) → code_order a b ≡ key_order a b
 
 -- the row of a key is what its last change leaves; without a change of it there is none
 abbrev pub LastCounts : Type 0
@@ -34,6 +40,28 @@ BatchFollows = (batches : List (List Change)) (batch : List Change) (key : Key) 
 -- changes of other rows leave a row as it was
 abbrev pub SparedStays : Type 0
 SparedStays = (rows : Rows) (changes : List Change) (key : Key) → Spares key changes → rows_after rows changes key ≡ rows key
+
+-- a put leaves the rows with its own row: that row there, and each other one as it was
+abbrev pub PutGives : Type 0
+PutGives = (rows : Rows) (change : Change) (at : Key) (v : Value) → Puts change at v → rows_after rows (change ∷ []) ≡ with_row rows at (Some v)
+
+abbrev pub PutHere : Type 0
+PutHere = (rows : Rows) (change : Change) (at : Key) (v : Value) → Puts change at v → rows_after rows (change ∷ []) at ≡ Some v
+
+abbrev pub PutElsewhere : Type 0
+PutElsewhere = (rows : Rows) (change : Change) (at other : Key) (v : Value) → Puts change at v → at ≢ other
+    → rows_after rows (change ∷ []) other ≡ rows other
+
+-- a removal leaves the rows without its row
+abbrev pub RemovalGives : Type 0
+RemovalGives = (rows : Rows) (change : Change) (at : Key) → Removes change at → rows_after rows (change ∷ []) ≡ with_row rows at None
+
+abbrev pub RemovedHere : Type 0
+RemovedHere = (rows : Rows) (change : Change) (at : Key) → Removes change at → rows_after rows (change ∷ []) at ≡ None
+
+abbrev pub RemovedElsewhere : Type 0
+RemovedElsewhere = (rows : Rows) (change : Change) (at other : Key) → Removes change at → at ≢ other
+    → rows_after rows (change ∷ []) other ≡ rows other
 
 -- the bytes spell these changes: what `write` gives of changes, and what `read` has found
 abbrev pub Spells : List ℕ → List Change → Type 0

@@ -1,8 +1,10 @@
 pub mod Bounds
 pub mod Cells
 pub mod Columns
+pub mod Facts
 pub mod Kinds
 pub mod Laws
+pub mod Order
 pub mod Reading
 pub mod Spelling
 pub mod Table

@@ -80,3 +80,17 @@ pub record IsLast (changes : List Change) (key : Key) (change : Change) : Type 0
   pub parts : changes ≡ before ++ change ∷ after
   pub named : key_of change ≡ key
   pub spared : Spares key after
+
+-- the rows with this value, or none, at a key
+abbrev pub with_row : Rows → Key → Option Value → Rows
+with_row rows at found key = if same_key at key then found else rows key
+
+-- the change puts this value at this key
+pub record Puts (change : Change) (at : Key) (v : Value) : Type 0 where
+  pub key_is : key_of change ≡ at
+  pub value_is : value_of change ≡ Some v
+
+-- the change takes the row of this key away
+pub record Removes (change : Change) (at : Key) : Type 0 where
+  pub key_is : key_of change ≡ at
+  pub value_is : value_of change ≡ None

@@ -35,6 +35,20 @@ pub enum Change {
     Remove(Key),
 }
 
+impl Change {
+    ghost use Rattle.sn_rows.specs.Table.{key_of};
+
+    /// The key whose row the change sets or takes away.
+    pub fn key(&self) -> Key
+        ensures { result ≡ key_of self.now }
+    {
+        match self {
+            Change::Put(row) => row.key,
+            Change::Remove(key) => *key,
+        }
+    }
+}
+
 impl Twin for Change {
     fn twin(&self, alloc: Global) -> Result<Change, AllocError> {
         match self {

@@ -9,7 +9,7 @@ use Rattle.sn_laws.specs.declared.ideal.Account.{Account}
 use Rattle.sn_laws.specs.declared.ideal.Device.{Device}
 use Rattle.sn_laws.specs.declared.ideal.Draft.{Draft}
 use Rattle.sn_laws.specs.declared.ideal.Ideal.{Ideal}
-use Rattle.sn_rows.specs.Table.{Rows, rows_after}
+use Rattle.sn_rows.specs.Table.{Puts, Rows, rows_after}
 use Rattle.sn_rows.specs.declared.change.Change.{Change}
 use Rattle.sn_rows.specs.declared.device_rows.LocalItem.{LocalItem}
 use Rattle.sn_rows.specs.declared.key.Key.{Key}
@@ -17,9 +17,8 @@ use Rattle.sn_rows.specs.declared.key.Key.TheVariants as key
 use Rattle.sn_rows.specs.declared.key.Slot.TheVariants.{Present, Older, Asked}
 use Rattle.sn_rows.specs.declared.value.Value.{Value}
 use Rattle.sn_rows.specs.declared.value.Value.TheVariants as value
+use Rattle.sn_rows.specs.Facts.{put_elsewhere, put_or_not, put_here}
 use Rattle.sn_shows.specs.Devices.{HasRow, IsDeviceKey, ShowsHolder, ShowsLocal, ShowsOlder}
-use Rattle.sn_shows.specs.Laws.{Puts}
-use Rattle.sn_shows.proofs.DevicePuts.{put_elsewhere, put_or_not, put_there}
 use Rattle.sn_shows.proofs.DeviceStates.{local_alike}
 
 -- the put row shows its item in the next state, the rows of other numbers are of other items, and their drafts are as before
@@ -41,7 +40,7 @@ module _ (rows : Rows) (s t : Ideal) (name : Bytes) (d : Device) (a : Account) (
   away p other apart = put_elsewhere rows change (key.Local local) other (value.Local item) p.puts apart
 
   here : IsPutHere → later (key.Local local) ≡ Some (value.Local item)
-  here p = put_there rows change (key.Local local) (value.Local item) p.puts
+  here p = put_here rows change (key.Local local) (value.Local item) p.puts
 
   elsewhere : (other : ℕ) → local ≢ other → key.Local local ≢ key.Local other
   elsewhere other apart e = apart (cc)

@@ -16,10 +16,10 @@ use Rattle.sn_rows.specs.declared.key.Key.TheVariants as key
 use Rattle.sn_rows.specs.declared.key.Slot.TheVariants.{Present, Older, Asked}
 use Rattle.sn_rows.specs.declared.value.Value.{Value}
 use Rattle.sn_rows.specs.declared.value.Value.TheVariants as value
+use Rattle.sn_rows.specs.Facts.{first_put, neither_put, put_elsewhere, put_or_not, put_here, second_put}
 use Rattle.sn_shows.specs.Devices.{HasRow, IsDeviceKey, IsSetRow, ShowsDevice, ShowsDeviceAs, ShowsHolder, ShowsNothing, ShowsOlder}
 use Rattle.sn_shows.specs.Laws.{JoinedShows, PutsOwner, PutsTokens, TokensShow}
 use Rattle.sn_shows.proofs.DeviceLookups.{find_new}
-use Rattle.sn_shows.proofs.DevicePuts.{first_there, neither_there, put_elsewhere, put_or_not, put_there, second_there}
 use Rattle.sn_shows.proofs.DeviceStates.{holder_of, shows_of}
 
 -- the account's row put again
@@ -30,7 +30,7 @@ tokens_holder rows s name d a change h p =
     let away : (other : Key) → key.Owner ≢ other → rows_after rows (change ∷ []) other ≡ rows other =
     λ other apart. put_elsewhere rows change key.Owner other (value.Owner p.row) p.puts apart in
     record {
-      owner = record { owner = p.row; stands = put_there rows change key.Owner (value.Owner p.row) p.puts; identifier = p.identifier };
+      owner = record { owner = p.row; stands = put_here rows change key.Owner (value.Owner p.row) p.puts; identifier = p.identifier };
       present = record { row = h.present.row; stands = away (key.Set Present) (λ e. cc) ∙ h.present.stands; is = h.present.is };
       older = subst (λ (found : Option Value). ShowsOlder a found d.held) (sym (away (key.Set Older) (λ e. cc))) h.older;
       asked = away (key.Set Asked) (λ e. cc) ∙ h.asked;
@@ -65,17 +65,17 @@ joined_holder : (rows : Rows) (s : Ideal) (name identifier : Bytes) (number : �
 joined_holder rows s name identifier number a owner present h p =
     let away : (other : Key) → key.Owner ≢ other → key.Set Present ≢ other → rows_after rows (owner ∷ present ∷ []) other ≡ None =
     λ other apart further.
-    neither_there rows owner present key.Owner (key.Set Present) other (value.Owner p.row) (value.Set p.set) p.owner_puts p.present_puts apart further
+    neither_put rows owner present key.Owner (key.Set Present) other (value.Owner p.row) (value.Set p.set) p.owner_puts p.present_puts apart further
     ∙ h.none other in
     record {
       owner = record {
         owner = p.row;
-        stands = first_there rows owner present key.Owner (key.Set Present) (value.Owner p.row) (value.Set p.set) p.owner_puts p.present_puts (λ e. cc);
+        stands = first_put rows owner present key.Owner (key.Set Present) (value.Owner p.row) (value.Set p.set) p.owner_puts p.present_puts (λ e. cc);
         identifier = p.identifier;
       };
       present = record {
         row = p.set;
-        stands = second_there rows owner present (key.Set Present) (value.Set p.set) p.present_puts;
+        stands = second_put rows owner present (key.Set Present) (value.Set p.set) p.present_puts;
         is = subst (λ (n : ℕ). IsSetRow a n p.set) (sym (greatest_one number)) p.set_is;
       };
       older = away (key.Set Older) (λ e. cc) (λ e. cc);

@@ -3,9 +3,7 @@ pub mod DeviceItems
 pub mod DeviceKeeps
 pub mod DeviceLookups
 pub mod DeviceOwners
-pub mod DevicePuts
 pub mod DeviceStates
-pub mod Puts
 pub mod ServersAccept
 pub mod ServersApart
 pub mod ServersKeep

@@ -21,9 +21,9 @@ use Rattle.sn_rows.specs.declared.key.Key.TheVariants as key
 use Rattle.sn_rows.specs.declared.server_rows.ItemRow.{ItemRow}
 use Rattle.sn_rows.specs.declared.value.Value.{Value}
 use Rattle.sn_rows.specs.declared.value.Value.TheVariants as value
+use Rattle.sn_rows.specs.Facts.{put_apart, put_here}
 use Rattle.sn_shows.specs.Servers.{HasCause, ShowsAccount, ShowsAccounts, ShowsItem, account_at, first_of}
 use Rattle.sn_shows.specs.Laws.{AreApart, PutsVersion, created_of}
-use Rattle.sn_shows.proofs.Puts.{put_elsewhere, put_here}
 use Rattle.sn_shows.proofs.ServersApart.{one_at}
 use Rattle.sn_shows.proofs.ServersLists.{account_changed, change_account, first_new, first_stays, last_other, last_own, more}
 use Rattle.sn_shows.proofs.ServersRows.{Continues, HasSuch, cause_after, cause_continues, keep_account, keep_generation, keep_identity}
@@ -47,7 +47,7 @@ module _ (rows : Rows) (number : ℕ) (a : Account) (d : Draft) (stamp : ℕ) (c
   now = rows_after rows (change ∷ [])
 
   same_row : (at : Key) → same_key (key.Item d.uuid) at ≡ false → now at ≡ rows at
-  same_row at off = put_elsewhere rows change (key.Item d.uuid) at (value.Item p.row) p.puts off
+  same_row at off = put_apart rows change (key.Item d.uuid) at (value.Item p.row) p.puts off
 
   -- the item's last version is the new one
   shows_version : (v : Version) → last_of d.uuid (a.versions ++ version ∷ []) ≡ Some v → ShowsItem now number (more version a) d.uuid v

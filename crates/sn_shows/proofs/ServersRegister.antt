@@ -12,11 +12,11 @@ use Rattle.sn_rows.specs.declared.change.Change.{Change}
 use Rattle.sn_rows.specs.declared.key.Key.{Key}
 use Rattle.sn_rows.specs.declared.key.Key.TheVariants as key
 use Rattle.sn_rows.specs.declared.value.Value.TheVariants as value
+use Rattle.sn_rows.specs.Facts.{first_put, neither_put, second_put}
 use Rattle.sn_string.specs.declared.params.KeySet.{KeySet}
 use Rattle.sn_shows.specs.Sets.{set_at}
 use Rattle.sn_shows.specs.Servers.{HasCause, ShowsAccount, ShowsAccounts, ShowsGeneration, account_at}
 use Rattle.sn_shows.specs.Laws.{PutsAccount}
-use Rattle.sn_shows.proofs.Puts.{apart_keys, put_first, put_neither, put_second}
 use Rattle.sn_shows.proofs.ServersLists.{account_before, account_cases, account_last, number_within}
 use Rattle.sn_shows.proofs.ServersRows.{Continues, cause_after, cause_continues, keep_account}
 
@@ -40,8 +40,8 @@ shows_new rows identifier set account generation number p =
     record {
       identity = record {
         row = p.row;
-        stands = put_first rows account generation (key.Account number) (key.Generation number 1) (value.Account p.row) (value.Generation p.params)
-            p.account_puts p.generation_puts refl;
+        stands = first_put rows account generation (key.Account number) (key.Generation number 1) (value.Account p.row) (value.Generation p.params)
+            p.account_puts p.generation_puts (λ e. cc);
         identifier = p.identifier_is;
         generation = p.first;
         last = set;
@@ -55,7 +55,7 @@ shows_new rows identifier set account generation number p =
     first_set : ShowsGeneration (both rows account generation) number (new_account identifier set) 1 set
     first_set = record {
       row = p.params;
-      stands = put_second rows account generation (key.Generation number 1) (value.Generation p.params) p.generation_puts;
+      stands = second_put rows account generation (key.Generation number 1) (value.Generation p.params) p.generation_puts;
       cost = p.cost;
       nonce = p.nonce;
       identifier = p.own;
@@ -75,14 +75,14 @@ shows_old : (rows : Rows) (identifier : Bytes) (set : KeySet) (account generatio
     → ShowsAccount (rows_after rows (account ∷ generation ∷ [])) other a
 shows_old rows identifier set account generation number other a p apart h =
     keep_account rows (rows_after rows (account ∷ generation ∷ [])) other a
-    (same (key.Account other) (apart_keys (key.Account number) (key.Account other) (λ e. apart (cc))) refl)
-    (λ n. same (key.Generation other n) refl (apart_keys (key.Generation number 1) (key.Generation other n) (λ e. apart (cc))))
-    (λ uuid v last. same (key.Item uuid) refl refl) h
+    (same (key.Account other) (λ e. apart (cc)) (λ e. cc))
+    (λ n. same (key.Generation other n) (λ e. cc) (λ e. apart (cc)))
+    (λ uuid v last. same (key.Item uuid) (λ e. cc) (λ e. cc)) h
   where
-    same : (at : Key) → same_key (key.Account number) at ≡ false → same_key (key.Generation number 1) at ≡ false
+    same : (at : Key) → key.Account number ≢ at → key.Generation number 1 ≢ at
         → rows_after rows (account ∷ generation ∷ []) at ≡ rows at
     same at off off_too =
-        put_neither rows account generation (key.Account number) (key.Generation number 1) at (value.Account p.row) (value.Generation p.params)
+        neither_put rows account generation (key.Account number) (key.Generation number 1) at (value.Account p.row) (value.Generation p.params)
         p.account_puts p.generation_puts off off_too
 
 continues : (accounts : List Account) (new : Account) (number : ℕ) (a : Account) → account_at number accounts ≡ Some a

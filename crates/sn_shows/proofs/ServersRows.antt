@@ -5,18 +5,15 @@ use Rattle.std.proofs.lemmas.Bool.{cases_Bool}
 use Rattle.sn_laws.specs.declared.ideal.Account.{Account}
 use Rattle.sn_laws.specs.declared.ideal.Version.{Version}
 use Rattle.sn_laws.specs.Lookups.{Bytes, last_of}
-use Rattle.sn_rows.specs.Table.{Rows, rows_after, same_key}
+use Rattle.sn_rows.specs.Table.{Puts, Rows, rows_after, same_key}
 use Rattle.sn_rows.specs.declared.change.Change.{Change}
 use Rattle.sn_rows.specs.declared.key.Key.{Key}
 use Rattle.sn_rows.specs.declared.key.Key.TheVariants as key
 use Rattle.sn_rows.specs.declared.value.Value.{Value}
-use Rattle.sn_rows.proofs.TableLemmas.{keys_compare}
+use Rattle.sn_rows.specs.Facts.{keys_compare, put_apart}
 use Rattle.sn_string.specs.declared.params.KeySet.{KeySet}
 use Rattle.sn_shows.specs.Sets.{set_at}
 use Rattle.sn_shows.specs.Servers.{HasCause, ShowsAccount, ShowsGeneration, ShowsIdentity, ShowsItem, account_at}
-use Rattle.sn_shows.specs.Laws.{Puts}
-use Rattle.sn_shows.proofs.Puts.{put_elsewhere}
-
 -- an account's rows, where they are the same as before
 
 -- the account may have other versions
@@ -118,5 +115,5 @@ pub cause_after : (rows : Rows) (accounts : List Account) (change : Change) (at 
 cause_after rows accounts change at v puts cause before other some =
     elim (cases_Bool (same_key at other)) [
       | inl same ↦ subst (λ (k : Key). HasCause accounts k) ((keys_compare at other).0 same) cause
-      | inr apart ↦ before other (subst (λ (o : Option Value). IsSome o) (put_elsewhere rows change at other v puts apart) some)
+      | inr apart ↦ before other (subst (λ (o : Option Value). IsSome o) (put_apart rows change at other v puts apart) some)
     ]

@@ -13,7 +13,7 @@ use Rattle.sn_laws.specs.declared.ideal.Ideal.{Ideal}
 use Rattle.sn_laws.specs.declared.ideal.Version.{Version}
 use Rattle.sn_laws.specs.declared.moves.Move.{Move}
 use Rattle.sn_laws.specs.declared.moves.Move.TheVariants.{Register, Join, Edit, Post, Accept, Settle}
-use Rattle.sn_rows.specs.Table.{Rows, key_of, value_of, rows_after}
+use Rattle.sn_rows.specs.Table.{Puts, Rows, rows_after}
 use Rattle.sn_rows.specs.declared.body.RowBody.TheVariants as body
 use Rattle.sn_rows.specs.declared.body.RowStrings.{RowStrings}
 use Rattle.sn_rows.specs.declared.change.Change.{Change}
@@ -33,11 +33,6 @@ use Rattle.sn_string.specs.declared.params.KeySet.{KeySet}
 use Rattle.sn_shows.specs.Sets.{OpensUnder}
 use Rattle.sn_shows.specs.Servers.{ShowsServer, ShowsAccounts, ShowsStrings, account_at, first_of, stamps_in}
 use Rattle.sn_shows.specs.Devices.{ShowsDevice, IsSetRow, IsBase, sealed_of}
-
--- the change puts this value at this key
-pub record Puts (change : Change) (key : Key) (v : Value) : Type 0 where
-  pub key_is : key_of change ≡ key
-  pub value_is : value_of change ≡ Some v
 
 -- the server
 

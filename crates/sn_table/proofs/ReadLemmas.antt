@@ -13,15 +13,15 @@ use Rattle.sn_journal.proofs.Starts.{length-header}
 use Rattle.sn_rows.specs.Spelling.{spelled, entries_of, AreInForm}
 use Rattle.sn_rows.specs.Table.{row_after}
 use Rattle.sn_rows.specs.declared.change.Change.{Change}
-use Rattle.sn_rows.proofs.TableLemmas.{batch_follows}
+use Rattle.sn_rows.specs.Facts.{batch_follows}
 use Rattle.sn_rows.proofs.ColumnLemmas.{payload_again}
 use Rattle.sn_rows.proofs.Same.{is_only}
 use Rattle.sn_table.specs.Batches.{IsBatch, IsNoBatch}
 use Rattle.sn_table.specs.Reading.{IsAdded, AreRead, IsUnread, IsAddError, IsReadError}
-use Rattle.sn_table.specs.RowMaps.{row_in}
+use Rattle.sn_row_map.specs.RowMaps.{row_in}
 use Rattle.sn_table.specs.declared.reading.Unread.{Unread}
 use Rattle.sn_table.specs.declared.reading.Unread.TheVariants.{Memory, NoBatch}
-use Rattle.sn_table.specs.declared.row_map.RowMap.{RowMap}
+use Rattle.sn_row_map.specs.declared.row_map.RowMap.{RowMap}
 
 -- one payload more
 pub read_more : (owner : Owner) (payloads : List (List ℕ)) (payload : List ℕ) (old new : RowMap) → AreRead owner payloads old → IsAdded owner payload old new → AreRead owner (payloads ++ payload ∷ []) new

@@ -12,9 +12,9 @@ use Rattle.sn_rows.specs.Spelling.{spelled, AreInForm}
 use Rattle.sn_rows.specs.Table.{row_after}
 use Rattle.sn_rows.specs.declared.change.Change.{Change}
 use Rattle.sn_rows.specs.declared.key.Key.{Key}
-use Rattle.sn_rows.proofs.TableLemmas.{batch_follows}
+use Rattle.sn_rows.specs.Facts.{batch_follows}
 use Rattle.sn_table.specs.Batches.{IsOf, IsBatch, IsStore, IsAllOrNothing}
-use Rattle.sn_table.specs.RowMaps.{row_in}
+use Rattle.sn_row_map.specs.RowMaps.{row_in}
 use Rattle.sn_table.specs.Tables.{IsOpen, IsLoaded, table_owner}
 use Rattle.sn_table.specs.declared.table.Table.{Table}
 use Rattle.sn_table.specs.declared.error.TableError.{TableError}

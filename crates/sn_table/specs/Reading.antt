@@ -7,10 +7,10 @@ use Rattle.sn_rows.specs.Table.{row_after, rows_of_batches}
 use Rattle.sn_rows.specs.declared.change.Change.{Change}
 use Rattle.sn_rows.specs.declared.key.Key.{Key}
 use Rattle.sn_table.specs.Batches.{IsBatch, IsNoBatch}
-use Rattle.sn_table.specs.RowMaps.{row_in}
+use Rattle.sn_row_map.specs.RowMaps.{row_in}
 use Rattle.sn_table.specs.declared.reading.Unread.{Unread}
 use Rattle.sn_table.specs.declared.reading.Unread.TheVariants.{Memory, NoBatch}
-use Rattle.sn_table.specs.declared.row_map.RowMap.{RowMap}
+use Rattle.sn_row_map.specs.declared.row_map.RowMap.{RowMap}
 
 -- the payload spells a batch, and the rows are those that it leaves
 pub record IsAdded (owner : Owner) (payload : List ℕ) (old new : RowMap) : Type 0 where

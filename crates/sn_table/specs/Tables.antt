@@ -12,7 +12,7 @@ use Rattle.sn_rows.specs.declared.change.Change.{Change}
 use Rattle.sn_rows.specs.declared.key.Key.{Key}
 use Rattle.sn_table.specs.Batches.{IsBatch, IsStore}
 use Rattle.sn_table.specs.Reading.{IsUnread}
-use Rattle.sn_table.specs.RowMaps.{row_in, SameRows}
+use Rattle.sn_row_map.specs.RowMaps.{row_in, SameRows}
 use Rattle.sn_table.specs.declared.table.Table.{Table}
 use Rattle.sn_table.specs.declared.table.Committed.{Committed}
 use Rattle.sn_table.specs.declared.table.Committed.TheVariants.{Done, Refused, Broken}

@@ -5,7 +5,6 @@ mod error;
 mod laws;
 mod loading;
 mod reading;
-mod row_map;
 mod table;
 #[cfg(test)]
 mod tests;
@@ -14,5 +13,4 @@ pub use error::TableError;
 pub use laws::each_is_whole_or_nothing;
 pub use loading::load;
 pub use reading::are_of;
-pub use row_map::RowMap;
 pub use table::{CommitError, Committed, Table};

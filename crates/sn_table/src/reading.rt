@@ -8,8 +8,8 @@ ghost use Rattle.sn_table.specs.Batches.{owner_of_kind, IsOf, IsBatch, IsNoBatch
 ghost use Rattle.sn_table.specs.Reading.{IsAdded, AreRead, IsAddError, IsReadError};
 ghost use Rattle.sn_table.specs.declared.reading.Unread.TheVariants.{Memory};
 
-use crate::row_map::{RowMap, key_of};
 use sn_journal::Owner;
+use sn_row_map::RowMap;
 use sn_rows::{Change, RowError, RowKind};
 use sn_string::Many;
 use std::alloc::{AllocError, Global};
@@ -49,7 +49,7 @@ fn owner_of_kind(kind: RowKind) -> Owner
 fn is_of(owner: Owner, change: &Change) -> bool
     ensures { IsTrue result ↔ IsOf owner change.now }
 {
-    owner_of_kind(key_of(change).kind()) == owner
+    owner_of_kind(change.key().kind()) == owner
 }
 
 /// Whether all changes are of rows of this owner's.

@@ -4,12 +4,12 @@ ghost use Rattle.std.specs.Prelude.{◌≡◌, ◌⊎◌, ◌<◌, ◌≤◌, �
 ghost use Rattle.std.specs.Option.{option_copied};
 ghost use Rattle.sn_rows.specs.Spelling.{spelled, AreInForm};
 ghost use Rattle.sn_rows.specs.declared.change.Change.{Change};
-ghost use Rattle.sn_table.specs.Ranges.{AreRowsOf};
-ghost use Rattle.sn_table.specs.RowMaps.{row_in, FitsIn, SameRows};
+ghost use Rattle.sn_row_map.specs.Ranges.{AreRowsOf};
+ghost use Rattle.sn_row_map.specs.RowMaps.{row_in, FitsIn, SameRows};
 
-use crate::row_map::{RowMap, keys_of};
 use sn_disk::Disk;
 use sn_journal::{AppendError, Journal};
+use sn_row_map::{RowMap, keys_of};
 use sn_rows::{Change, Key, RowKind, Value};
 use sn_string::Many;
 use std::alloc::{AllocError, Global};

@@ -1,7 +1,7 @@
 use Rattle.std.proofs.Common.{◌<◌, sym, subst, arith}
 use Rattle.sn_rows.specs.declared.kind.RowKind.TheVariants as kind
 use Rattle.sn_account.specs.States.{state_rows}
-use Rattle.sn_table.specs.Ranges.{AreRowsOf}
+use Rattle.sn_row_map.specs.Ranges.{AreRowsOf}
 use Rattle.sn_account.proofs.BehindLemmas.{current_more, found_behind, none_behind, unmarked_rows}
 use Rattle.sn_account.proofs.passwords.least_behind.Goals as goal
 

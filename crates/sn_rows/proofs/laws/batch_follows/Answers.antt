@@ -1,4 +1,4 @@
-use Rattle.sn_rows.proofs.TableLemmas.{batch_follows}
+use Rattle.sn_rows.specs.Facts.{batch_follows}
 use Rattle.sn_rows.proofs.laws.batch_follows.Goals as goal
 
 pub returns : goal.returns

@@ -1,4 +1,4 @@
-use Rattle.sn_rows.proofs.TableLemmas.{row_after-append}
+use Rattle.sn_rows.specs.Facts.{row_after-append}
 use Rattle.sn_rows.proofs.laws.follows.Goals as goal
 
 pub returns : goal.returns

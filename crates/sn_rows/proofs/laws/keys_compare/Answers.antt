@@ -1,4 +1,4 @@
-use Rattle.sn_rows.proofs.TableLemmas.{keys_compare}
+use Rattle.sn_rows.specs.Facts.{keys_compare}
 use Rattle.sn_rows.proofs.laws.keys_compare.Goals as goal
 
 pub returns : goal.returns

@@ -1,5 +1,5 @@
 use Rattle.std.proofs.Common.{None, ap, ◌∙◌}
-use Rattle.sn_rows.proofs.TableLemmas.{last_counts}
+use Rattle.sn_rows.specs.Facts.{last_counts}
 use Rattle.sn_rows.specs.Table.{row_after}
 use Rattle.sn_rows.proofs.laws.last_counts.Goals as goal
 

@@ -1,5 +1,5 @@
 use Rattle.std.proofs.Common.{None}
-use Rattle.sn_rows.proofs.TableLemmas.{spared_stays}
+use Rattle.sn_rows.specs.Facts.{spared_stays}
 use Rattle.sn_rows.proofs.laws.spared_is_none.Goals as goal
 
 pub returns : goal.returns

@@ -1,4 +1,4 @@
-use Rattle.sn_rows.proofs.TableLemmas.{spared_stays}
+use Rattle.sn_rows.specs.Facts.{spared_stays}
 use Rattle.sn_rows.proofs.laws.spared_stays.Goals as goal
 
 pub returns : goal.returns

@@ -1,4 +1,4 @@
-use Rattle.sn_rows.proofs.TableLemmas.{batch_follows}
+use Rattle.sn_rows.specs.Facts.{batch_follows}
 use Rattle.sn_ends.proofs.store.PlainStore.commit.Goals as goal
 
 pub invariant_of-self-inside-2 : goal.invariant_of-self-inside-2

@@ -1,0 +1,5 @@
+mod KeyLemmas
+mod ListLemmas
+mod RangeLemmas
+mod RowLemmas
+mod StepLemmas

@@ -1,7 +1,0 @@
-use Rattle.std.proofs.Common.{sym, ◌∙◌}
-use Rattle.sn_table.specs.RowMaps.{HasRoom}
-use Rattle.sn_table.proofs.row_map.RowMap.has_room.Goals as goal
-
-pub returns : goal.returns
-unfolding HasRoom
-returns c = (λ t. sym c.contains_key.ensures ∙ t, λ h. c.contains_key.ensures ∙ h)
