@@ -5,6 +5,7 @@ ghost use Rattle.serde_json.specs.Data.{Data};
 ghost use Rattle.serde_json.specs.Find.{get};
 ghost use Rattle.serde_json.specs.View.{items_view, view};
 ghost use Rattle.sn_sync.specs.Answers.{AreConflicts, HasNoNumber, HasNoUuid, IsAnswer, IsConflict, IsUser, RefusesAnswer, RefusesConflict, RefusesConflictList, RefusesConflicts, RefusesMember, RefusesOn, RefusesRefused, RefusesUser, RefusesUserOf, SaysConflicts, SaysItem, SaysMore, SaysOn, SaysRefused, SaysUser};
+ghost use Rattle.sn_sync.specs.Fits.{FitsAnswer};
 ghost use Rattle.sn_sync.specs.Items.{sent, stored};
 ghost use Rattle.sn_sync.specs.Members.{IsObject, SaysNumber, SaysText, SaysUuid};
 ghost use Rattle.sn_sync.specs.Refusals.{Caused};
@@ -33,6 +34,7 @@ pub fn read_answer(
     text: &[u8],
 ) -> Result<Answer, SyncError>
     ensures ok { IfOk result (IsAnswer route status text.now) }
+    ensures fits { IfOk result (FitsAnswer route status) }
     ensures err { IfErr result (Caused (RefusesAnswer route status text.now)) }
 {
     let body = body_of(alloc, text)?;

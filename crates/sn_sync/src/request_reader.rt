@@ -3,6 +3,7 @@
 ghost use Rattle.std.specs.Prelude.{◌≡◌, IfErr, IfOk, codes, option_map, string_bytes};
 ghost use Rattle.serde_json.specs.Find.{get};
 ghost use Rattle.serde_json.specs.View.{view};
+ghost use Rattle.sn_sync.specs.Fits.{FitsRequest};
 ghost use Rattle.sn_sync.specs.Members.{SaysCost, SaysNonce, SaysWord};
 ghost use Rattle.sn_sync.specs.Query.{first_value};
 ghost use Rattle.sn_sync.specs.Refusals.{Caused};
@@ -31,6 +32,7 @@ pub fn read_request(
     text: &[u8],
 ) -> Result<Request, SyncError>
     ensures ok { IfOk result (IsRequest route token.now text.now) }
+    ensures fits { IfOk result FitsRequest }
     ensures err { IfErr result (Caused (RefusesRequest route text.now)) }
 {
     match route {
