@@ -66,7 +66,7 @@ fn an_input_in_pieces_is_read_to_its_end(rt: HostRuntime) -> Result<(), Fail> {
         failing: 99,
     });
     let bytes = read_all(rt.alloc(), &mut input, 100)?;
-    assert_eq!(rt; bytes.as_slice(), b"0123456789");
+    assert_eq!(rt; bytes.as_slice(), b"0123456789".as_slice());
     assert_eq!(rt; input.faults(), 0);
     Ok(())
 }
@@ -97,7 +97,7 @@ fn a_short_write_goes_on(rt: HostRuntime) -> Result<(), Fail> {
     let mut out = Output::new(&mut taken);
     write_all(&mut out, b"0123456789")?;
     assert_eq!(rt; out.faults(), 0);
-    assert_eq!(rt; taken.taken.as_slice(), b"0123456789");
+    assert_eq!(rt; taken.taken.as_slice(), b"0123456789".as_slice());
     Ok(())
 }
 
@@ -113,7 +113,7 @@ fn a_write_that_fails_or_takes_nothing_is_a_fault(rt: HostRuntime) -> Result<(),
         let mut out = Output::new(&mut taken);
         assert!(rt; write_all(&mut out, b"0123456789").is_err());
         assert_eq!(rt; out.faults(), 1);
-        assert_eq!(rt; taken.taken.as_slice(), b"012345");
+        assert_eq!(rt; taken.taken.as_slice(), b"012345".as_slice());
     }
     Ok(())
 }
