@@ -3,6 +3,7 @@
 #![tactic(auto)]
 
 pub mod base64_texts;
+pub mod bounds;
 pub mod bytes;
 pub mod ciphertexts;
 pub mod forms;
@@ -18,6 +19,7 @@ pub mod uuid_texts;
 pub mod writer;
 
 pub use base64_texts::{base64_bytes, base64_text};
+pub use bounds::LAST_STAMP;
 pub use bytes::Bytes;
 pub use ciphertexts::is_ciphertext;
 pub use forms::{is_hash, is_iv, is_uuid};

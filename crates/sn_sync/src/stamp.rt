@@ -2,15 +2,13 @@
 
 ghost use Rattle.std.specs.Prelude.{◌≡◌, ◌<◌, ◌≤◌, ◌≤ℤ◌, pos, ℕ, List, [], ◌∷◌, ◌++◌, string_bytes, IfErr, IfNone, IfOk, IfSome};
 ghost use Rattle.jiff_core.specs.Date.{epoch_day};
-ghost use Rattle.sn_sync.specs.Stamps.{IsStampText, last_stamp, padded};
+ghost use Rattle.sn_string.specs.Bounds.{last_stamp};
+ghost use Rattle.sn_sync.specs.Stamps.{IsStampText, padded};
 ghost use Rattle.sn_sync.specs.StampParts.{BeginsWithDate, IsDayNumber, IsTimeOfDay};
 
 use crate::digits::field;
 use jiff_core::civil::Date;
 use std::alloc::{AllocError, Global};
-
-/// The last microsecond of the year 9999.
-pub(crate) const LAST_STAMP: u64 = 253_402_300_799_999_999;
 
 const MICROS_OF_DAY: u64 = 86_400_000_000;
 
