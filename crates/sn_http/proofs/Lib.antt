@@ -1,0 +1,6 @@
+pub mod Carrying
+pub mod Digits
+pub mod Ends
+pub mod Finding
+pub mod Taking
+pub mod Unique
