@@ -3,4 +3,5 @@ pub mod Digits
 pub mod Ends
 pub mod Finding
 pub mod Taking
+pub mod Writing
 pub mod Unique

@@ -8,3 +8,7 @@ pub mod Messages
 pub mod Causes
 pub mod Laws
 pub mod Blanks
+pub mod Lines
+pub mod Requests
+pub mod Answers
+pub mod AnswerHeads

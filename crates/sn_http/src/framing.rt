@@ -16,7 +16,7 @@ const TRANSFER_ENCODING: &[u8] = b"transfer-encoding";
 
 const CONTENT_ENCODING: &[u8] = b"content-encoding";
 
-const CONTENT_LENGTH: &[u8] = b"content-length";
+pub(crate) const CONTENT_LENGTH: &[u8] = b"content-length";
 
 /// How long the body is, or the status of the first check that fails.
 #[tactic(auto, unfolding(crate::specs::Framing::framing))]
