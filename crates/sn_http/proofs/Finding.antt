@@ -14,7 +14,7 @@ use Rattle.sn_http.specs.Messages.{IsHeadless, OfTold}
 use Rattle.std.proofs.Math.Seq.{take-append-add}
 use Rattle.sn_http.proofs.Ends.{head_ends}
 
-take-append-more : (front rest : List ℕ) (k : ℕ) → length front ≤ k → take k (front ++ rest) ≡ front ++ take (k - length front) rest
+pub take-append-more : (front rest : List ℕ) (k : ℕ) → length front ≤ k → take k (front ++ rest) ≡ front ++ take (k - length front) rest
 take-append-more front rest k le =
     let total : k ≡ length front + (k - length front) = omega (arith, le) in
     ap (λ (n : ℕ). take n (front ++ rest)) total ∙ take-append-add front rest (k - length front)

@@ -4,4 +4,5 @@ pub mod Ends
 pub mod Finding
 pub mod Taking
 pub mod Writing
+pub mod Answering
 pub mod Unique

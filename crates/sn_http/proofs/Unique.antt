@@ -13,19 +13,19 @@ use Rattle.sn_http.specs.Laws.{SameMessage, OneMessage, NoMessageWhereCheck, One
 use Rattle.sn_http.specs.declared.message.Message.{Message}
 use Rattle.sn_http.proofs.Taking.{begins_more}
 
-abbrev fine : ℕ → Result ℕ ℕ
+abbrev pub fine : ℕ → Result ℕ ℕ
 fine n = Ok n
 
-abbrev failed : ℕ → Result ℕ ℕ
+abbrev pub failed : ℕ → Result ℕ ℕ
 failed n = Err n
 
-ok_inj : {a b : ℕ} → fine a ≡ fine b → a ≡ b
+pub ok_inj : {a b : ℕ} → fine a ≡ fine b → a ≡ b
 ok_inj {a} p = subst (λ (r : Result ℕ ℕ). IfOk r (λ n. a ≡ n)) p refl
 
 err_inj : {a b : ℕ} → failed a ≡ failed b → a ≡ b
 err_inj {a} p = subst (λ (r : Result ℕ ℕ). IfErr r (λ n. a ≡ n)) p refl
 
-not_both : {a b : ℕ} → fine a ≡ failed b → ⊥
+pub not_both : {a b : ℕ} → fine a ≡ failed b → ⊥
 not_both p = subst (λ (r : Result ℕ ℕ). IfOk r (λ n. ⊥)) (sym p) tt
 
 framed_same : (h k : RequestHead) (r s : Result ℕ ℕ) → h ≡ k → framing h.method (fields_of h.fields) ≡ r → framing k.method (fields_of k.fields) ≡ s → r ≡ s

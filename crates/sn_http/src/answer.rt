@@ -9,7 +9,7 @@ ghost use Rattle.sn_http.specs.Answers.{phrase, allowed, challenge, status_line,
 
 use crate::answer_head::answer_head_in;
 use crate::block::{Block, put, send};
-use crate::carry::HEAD_LIMIT;
+use crate::carry::first_bytes;
 use itoa::Buffer;
 use sn_io::{Failed, Sink};
 use thiserror::Error;
@@ -148,12 +148,14 @@ pub fn read_answer(bytes: &[u8]) -> Result<(u16, &[u8]), NoAnswer>
     ensures ok { IfOk result (λ read. IsAnswer bytes.now read.0 read.1.now) }
     ensures err { OnErr result ((status : ℕ) (body : List ℕ) → ¬ (IsAnswer bytes.now status body)) }
 {
-    let front = &bytes[..HEAD_LIMIT.min(bytes.len())];
-    match answer_head_in(front) {
-        Some(head) => match head.size {
-            Ok(size) if size == bytes.len() - head.len => Ok((head.status, &bytes[head.len..])),
-            _ => Err(NoAnswer),
-        },
-        None => Err(NoAnswer),
+    let Some(head) = answer_head_in(first_bytes(bytes)) else {
+        return Err(NoAnswer);
+    };
+    let Ok(size) = head.size else {
+        return Err(NoAnswer);
+    };
+    if size != bytes.len() - head.len {
+        return Err(NoAnswer);
     }
+    Ok((head.status, &bytes[head.len..]))
 }

@@ -23,6 +23,7 @@ pub(crate) struct AnswerHead {
 pub(crate) fn answer_head_in(bytes: &[u8]) -> Option<AnswerHead>
     requires { length bytes.now ≤ 16384 }
     ensures some { IfSome result (IsAnswerHeadAt bytes.now) }
+    ensures fits { IfSome result (λ head. head.len ≤ length bytes.now) }
     ensures none { IfNone result (HasNoAnswerHead bytes.now) }
 {
     let mut headers = [EMPTY_HEADER_SPAN; 64];

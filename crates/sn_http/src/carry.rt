@@ -59,8 +59,7 @@ impl Carry {
     pub(crate) fn front(&self) -> &[u8]
         ensures { result.now ≡ take 16384 self.now.bytes }
     {
-        let bytes = self.bytes();
-        &bytes[..HEAD_LIMIT.min(bytes.len())]
+        first_bytes(self.bytes())
     }
 
     pub(crate) fn place(&self) -> u64
@@ -95,6 +94,15 @@ impl Carry {
         }
         read_block(&mut self.buffer, source)
     }
+}
+
+/// The bytes in which a head is to end.
+pub(crate) fn first_bytes(bytes: &[u8]) -> &[u8]
+    ensures is { result.now ≡ take 16384 bytes.now }
+    ensures short { length result.now ≤ 16384 }
+    ensures within { length result.now ≤ length bytes.now }
+{
+    &bytes[..HEAD_LIMIT.min(bytes.len())]
 }
 
 // Reads once, behind the bytes that are there.
