@@ -19,6 +19,8 @@ mod trigger;
 
 pub use answer::{NoAnswer, WriteFault, read_answer, write_answer};
 pub use carry::Carry;
-pub use laws::{no_message_where_check, one_message, one_status};
+pub use laws::{
+    answer_reads_back, no_message_where_check, one_message, one_status, request_reads_back,
+};
 pub use message::{Incoming, Message, read_message};
 pub use request::write_request;
