@@ -31,7 +31,7 @@ pub use reader::{Parts, StringError, read};
 pub use text::Text;
 pub use twin::Twin;
 pub use uuid_texts::{uuid_of, uuid_text};
-pub use writer::{authenticated, with_params, write};
+pub use writer::{authenticated, authenticated_text, with_hash, with_params, write};
 
 #[cfg(test)]
 mod tests;

@@ -145,6 +145,19 @@ fn reads_its_parts(rt: HostRuntime) -> Result<(), Fail> {
 }
 
 #[test]
+fn writes_around_its_hash(rt: HostRuntime) -> Result<(), Fail> {
+    if !is_hash(HASH) {
+        return Err(Fail::from("hash"));
+    }
+    let bytes = base64_bytes(rt.alloc(), CIPHERTEXT)?.ok_or("base64")?;
+    let hashed = authenticated_text(rt.alloc(), UUID, IV, &bytes, PARAMS)?;
+    assert_eq!(rt; hashed.as_str(), HASHED);
+    let whole = with_hash(rt.alloc(), hashed, HASH, PARAMS)?;
+    assert_eq!(rt; whole.as_str(), WHOLE);
+    Ok(())
+}
+
+#[test]
 fn spells_bytes(rt: HostRuntime) -> Result<(), Fail> {
     let alloc = rt.alloc();
     let hash = hash_bytes("000102030405060708090a0b0c0d0e0f101112131415161718191a1b1c1d1e1f").ok_or(

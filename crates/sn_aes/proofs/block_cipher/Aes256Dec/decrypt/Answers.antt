@@ -1,6 +1,6 @@
 use Rattle.std.proofs.Common.{◌∙◌, sym, ap}
 use Rattle.sn_aes.specs.Cipher.{aes256}
-use Rattle.sn_aes.proofs.block_cipher.Aes256.decrypt.Goals as goal
+use Rattle.sn_aes.proofs.block_cipher.Aes256Dec.decrypt.Goals as goal
 
 pub returns : goal.returns
 returns c =
