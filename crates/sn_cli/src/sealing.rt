@@ -15,7 +15,7 @@ use crate::input::input_text;
 use crate::output::write_out;
 use crate::status::Status;
 use sn_io::{Seeds, Sink, Source};
-use sn_items::{Words, seal_text};
+use sn_items::{Words, seal_owned_text};
 use sn_string::{Params, Text};
 use std::alloc::{AllocError, Global};
 
@@ -40,28 +40,28 @@ pub fn seal_input<I: Source, O: Sink, R: Seeds>(
         Err(status) => return status,
     };
     let mut words = Words::from_seed(seeds.draw());
-    match sealed_line(alloc, &mut words, &plain, item, params) {
+    match sealed_line(alloc, &mut words, plain, item, params) {
         Ok(line) => write_out(out, line.as_bytes()),
         Err(AllocError) => Status::Memory,
     }
 }
 
-// The 003 string of the plain text, and a line feed.
+// The 003 string of the plain text, and a line feed, for which the string has room.
 fn sealed_line(
     alloc: Global,
     words: &mut Words,
-    plain: &str,
+    plain: String,
     item: &ItemOptions,
     options: &ParamsOptions,
 ) -> Result<String, AllocError>
     requires { IsIdentifier options.now.identifier.now × IsCost options.now.cost × IsNonce options.now.nonce.now }
     ensures { IfOk result (λ line. (params : Params) × HasParams (seal_line item.now options.now) params × (text : List ℕ)
-        × IsSealed plain.now item.now.uuid (drawn 16 words.old).0 (encryption_half item.now.key) (authentication_half item.now.key) params text
+        × IsSealed (string_bytes plain) item.now.uuid (drawn 16 words.old).0 (encryption_half item.now.key) (authentication_half item.now.key) params text
         × (string_bytes line ≡ text ++ 10 ∷ [])) }
 {
     let params = params_of(alloc, options)?;
     let (encryption_key, authentication_key) = halves(&item.key);
-    let mut line = seal_text(
+    let mut line = seal_owned_text(
         alloc,
         words,
         plain,

@@ -21,10 +21,8 @@ returns-in-Ok-sealed_line-clause-ran g c =
       has_params = found.1;
       text = found.2;
       sealed =
-          subst (λ t. IsSealed t item.uuid (drawn 16 (of_seed seed)).0 (encryption_half item.key) (authentication_half item.key) found.0 found.2)
-          c.deref.ensures
-          (subst (λ drawing. IsSealed c.deref.result.now item.uuid (drawn 16 drawing).0 (encryption_half item.key)
-          (authentication_half item.key) found.0 found.2) c.from_seed-words.ensures found.3);
+          subst (λ drawing. IsSealed plain item.uuid (drawn 16 drawing).0 (encryption_half item.key)
+          (authentication_half item.key) found.0 found.2) c.from_seed-words.ensures found.3;
       ended = found.4;
     } in
     let wrote : Writes c.write_out.result (g.O.Sink.held c.args.out.now) (g.O.Sink.held c.write_out.new.out) output =

@@ -10,6 +10,6 @@ returns c =
     let params = c.in_ok-params.params in
     let text = string_bytes c.in_ok-line.line in
     let has : HasParams (seal_line c.args.item.now c.args.options.now) params = search rules in
-    let sealed : IsSealed c.args.plain.now c.args.item.now.uuid (drawn 16 c.args.words.now).0 (encryption_half c.args.item.now.key)
+    let sealed : IsSealed (string_bytes c.args.plain) c.args.item.now.uuid (drawn 16 c.args.words.now).0 (encryption_half c.args.item.now.key)
     (authentication_half c.args.item.now.key) params text = search rules in
     (params, has, text, sealed, search rules)
