@@ -1,3 +1,1 @@
-pub mod Moments
 pub mod Records
-pub mod Shelves

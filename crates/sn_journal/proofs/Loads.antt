@@ -3,7 +3,7 @@ use Rattle.std.proofs.Common.{◌≡◌, ◌⊎◌, inl, inr, ℕ, ◌+◌, ◌-
 use Rattle.std.specs.List.{flat_map}
 use Rattle.std.proofs.lemmas.List.{take_rest}
 use Rattle.sn_disk.specs.Disk.{LeavesOnly}
-use Rattle.sn_disk.proofs.Moments.{joined}
+use Rattle.sn_disk.specs.Moments.{joined}
 use Rattle.sn_journal.specs.Image.{header_of, batch, front, IsChain, IsStart, IsImage, SameBatches}
 use Rattle.sn_journal.specs.Reading.{IsBatches}
 use Rattle.sn_journal.specs.Loading.{IsStartAt}

@@ -76,6 +76,7 @@ impl<D: Disk> Journal<D> {
 
         ensures refused { IfErr result (IsRefusal self (length payload.now)) }
         ensures large { 2 ^ 30 < length payload.now → result ≡ Err (AppendError.TooLarge self (length payload.now)) }
+        ensures grows { D.grows (disk_of self) (disk_after result) }
         ensures later { D.fault_count (disk_of self) ≤ D.fault_count (disk_after result) }
     {
         if payload.len() > MOST_PAYLOAD {

@@ -75,6 +75,7 @@ pub fn load<D: Disk>(
         × LeavesOnly D.moment D.left_since disk (loaded_disk result) (IsBeforeOrAfter owner payloads payload) }
 
     ensures refused { IfErr result (λ refusal. IsLoadError owner D.told (D.seen disk) (D.fault_count disk) (D.fault_count refusal.0) refusal.1) }
+    ensures grows { D.grows disk (loaded_disk result) }
     ensures later { D.fault_count disk ≤ D.fault_count (loaded_disk result) }
 {
     let mut disk = disk;
@@ -97,6 +98,7 @@ fn open<D: Disk>(
     ensures any_moment { D.told → LeavesOnly D.moment D.left_since disk.old disk.new
         (λ c. D.may_leave disk.old c ⊎ SameBatches owner (D.seen disk.old) c) }
     ensures refused { IfErr result (IsLoadError owner D.told (D.seen disk.old) (D.fault_count disk.old) (D.fault_count disk.new)) }
+    ensures grows { D.grows disk.old disk.new }
     ensures later { D.fault_count disk.old ≤ D.fault_count disk.new }
 {
     let bytes = read_synced(alloc, disk)?;
@@ -124,6 +126,7 @@ fn read_synced<D: Disk>(alloc: Global, disk: &mut D) -> Result<Vec<u8>, JournalE
     ensures seen { D.told → OnOk result (D.seen disk.new ≡ D.seen disk.old) }
     ensures durable { D.told → OnOk result (Only (D.seen disk.new) (D.may_leave disk.new)) }
     ensures any_moment { D.told → LeavesOnly D.moment D.left_since disk.old disk.new (D.may_leave disk.old) }
+    ensures grows { D.grows disk.old disk.new }
     ensures later { D.fault_count disk.old ≤ D.fault_count disk.new }
     ensures refused { IfErr result (λ e. (e ≡ JournalError.Memory) ⊎ ((e ≡ JournalError.DiskFault) × Rose (D.fault_count disk.old) (D.fault_count disk.new))) }
 {
@@ -137,6 +140,7 @@ fn read_whole<D: Disk>(alloc: Global, disk: &mut D) -> Result<Vec<u8>, JournalEr
     ensures seen { D.told → D.seen disk.new ≡ D.seen disk.old }
     ensures crash { D.told → (c : List ℕ) → D.may_leave disk.new c → D.may_leave disk.old c }
     ensures any_moment { D.told → LeavesOnly D.moment D.left_since disk.old disk.new (D.may_leave disk.old) }
+    ensures grows { D.grows disk.old disk.new }
     ensures later { D.fault_count disk.old ≤ D.fault_count disk.new }
     ensures refused { IfErr result (λ e. (e ≡ JournalError.Memory) ⊎ ((e ≡ JournalError.DiskFault) × Rose (D.fault_count disk.old) (D.fault_count disk.new))) }
 {

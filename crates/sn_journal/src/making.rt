@@ -17,6 +17,7 @@ pub(crate) fn make_from<D: Disk>(disk: &mut D, owner: Owner, start: Start) -> Re
     ensures durable { D.told → OnOk result (Only (D.seen disk.new) (D.may_leave disk.new)) }
     ensures any_moment { D.told → Only (D.seen disk.old) (D.may_leave disk.old) →
         LeavesOnly D.moment D.left_since disk.old disk.new (λ c. IsImage owner c []) }
+    ensures grows { D.grows disk.old disk.new }
     ensures cause { HasCause (D.fault_count disk.old) (D.fault_count disk.new) result }
 {
     match start {
@@ -33,6 +34,7 @@ fn make<D: Disk>(disk: &mut D, owner: Owner) -> Result<(), Failed>
     ensures durable { D.told → OnOk result (Only (D.seen disk.new) (D.may_leave disk.new)) }
     ensures any_moment { D.told → Only (D.seen disk.old) (D.may_leave disk.old) →
         LeavesOnly D.moment D.left_since disk.old disk.new (λ c. IsImage owner c []) }
+    ensures grows { D.grows disk.old disk.new }
     ensures cause { HasCause (D.fault_count disk.old) (D.fault_count disk.new) result }
 {
     write_durably(disk, 0, &[0])?;
@@ -46,6 +48,7 @@ fn make_header<D: Disk>(disk: &mut D, owner: Owner) -> Result<(), Failed>
     ensures durable { D.told → OnOk result (Only (D.seen disk.new) (D.may_leave disk.new)) }
     ensures any_moment { D.told → Only (D.seen disk.old) (D.may_leave disk.old) →
         LeavesOnly D.moment D.left_since disk.old disk.new (λ c. IsImage owner c []) }
+    ensures grows { D.grows disk.old disk.new }
     ensures cause { HasCause (D.fault_count disk.old) (D.fault_count disk.new) result }
 {
     write_durably(disk, 1, &after_first_byte(owner))?;
@@ -60,6 +63,7 @@ fn make_first_byte<D: Disk>(disk: &mut D, _owner: Owner) -> Result<(), Failed>
     ensures durable { D.told → OnOk result (Only (D.seen disk.new) (D.may_leave disk.new)) }
     ensures any_moment { D.told → Only (D.seen disk.old) (D.may_leave disk.old) →
         LeavesOnly D.moment D.left_since disk.old disk.new (λ c. IsImage _owner c []) }
+    ensures grows { D.grows disk.old disk.new }
     ensures cause { HasCause (D.fault_count disk.old) (D.fault_count disk.new) result }
 {
     write_durably(disk, 0, b"S")

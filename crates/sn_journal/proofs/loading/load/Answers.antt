@@ -1,6 +1,6 @@
 use Rattle.std.proofs.Common.{⊎_elim, subst, sym}
 use Rattle.sn_disk.specs.Disk.{LeavesOnly}
-use Rattle.sn_disk.proofs.Moments.{weaker}
+use Rattle.sn_disk.specs.Moments.{weaker}
 use Rattle.sn_journal.specs.Image.{contents, IsImage, IsBeforeOrAfter}
 use Rattle.sn_journal.proofs.Findings.{one_image, same_shown, either_list, either_shown}
 use Rattle.sn_journal.proofs.loading.load.Goals as goal

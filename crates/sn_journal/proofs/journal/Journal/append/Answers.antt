@@ -1,6 +1,6 @@
 use Rattle.std.proofs.Common.{◌≡◌, ◌+◌, ◌≤◌, ◌++◌, [], ◌∷◌, List, ℕ, length, inl, sym, ◌∙◌, ap, arith, Result, OnOk, Ok, Err, false, is_err, length-append}
 use Rattle.sn_disk.specs.Disk.{overwritten}
-use Rattle.sn_disk.proofs.Moments.{weaker, joined}
+use Rattle.sn_disk.specs.Moments.{weaker, joined}
 use Rattle.sn_journal.specs.Image.{front}
 use Rattle.sn_journal.proofs.Gates.{long_after, chain_torn, chain_staged, staged_torn, staged_opened, length-front_more}
 use Rattle.sn_journal.proofs.journal.Journal.append.Goals as goal

@@ -1,5 +1,5 @@
 use Rattle.std.proofs.Common.{ap, ◌∙◌, map}
-use Rattle.sn_disk.proofs.Moments.{weaker}
+use Rattle.sn_disk.specs.Moments.{weaker}
 use Rattle.sn_rows.specs.Spelling.{spelled}
 use Rattle.sn_rows.specs.Table.{row_after}
 use Rattle.sn_table.proofs.TableLemmas.{all_or_nothing, opened_more, batch_of}
