@@ -1,13 +1,11 @@
 -- How the record of a disk in memory grows.
-use Rattle.std.specs.Prelude.{◌≡◌, ◌⊎◌, ◌≤◌, ◌<◌, ◌^◌, ◌+◌, ℕ, Bool, true, false, List, [], ◌∷◌, ◌++◌, length, take, reverse, IsTrue}
-use Rattle.std.proofs.Common.{inl, inr, refl, sym, ◌∙◌, ap, subst, arith, length-append, append_assoc, append-nil}
-use Rattle.std.proofs.lemmas.List.{take_at, take-append-le}
-use Rattle.sn_io.specs.Causes.{Rose}
+use Rattle.std.specs.Prelude.{◌≡◌, ◌⊎◌, ◌≤◌, ◌<◌, ◌^◌, ℕ, Bool, false, List, [], ◌∷◌, ◌++◌, IsTrue}
+use Rattle.std.proofs.Common.{inl, inr, refl, sym, ◌∙◌, ap, subst, arith, append_assoc, append-nil}
 use Rattle.sn_io.specs.FaultPlan.{Plan}
-use Rattle.sn_disk.specs.Steps.{Told, Step, stop_step, with_step, Reaches, Leaves, LeftAt, IsCall}
+use Rattle.sn_disk.specs.Steps.{Told, Step, stop_step, with_step, IsCall}
 use Rattle.sn_disk.specs.Images.{image_in}
 use Rattle.sn_disk.specs.Courses.{Course, Does, StopsIn, Runs}
-use Rattle.sn_disk.specs.MemDisk.{disk_told, disk_plan, disk_stopped, disk_course, lists, HasListed, Counted, IsWanting, IsStopping, Grows}
+use Rattle.sn_disk.specs.MemDisk.{disk_plan, disk_course, lists, HasListed, Counted, IsWanting, IsStopping, Grows}
 use Rattle.sn_disk.specs.declared.memory.MemDisk.{MemDisk}
 
 -- the record after a run of calls: the same start, and the same steps with more behind them

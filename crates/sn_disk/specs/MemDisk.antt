@@ -1,5 +1,5 @@
 -- What a disk in memory tells, and how its calls end.
-use Rattle.std.specs.Prelude.{◌≡◌, ◌⊎◌, ◌≤◌, ◌==◌, ℕ, Bool, true, false, List, IsTrue, Result, Ok, Err}
+use Rattle.std.specs.Prelude.{◌≡◌, ◌⊎◌, ◌≤◌, ◌==◌, ℕ, Bool, false, List, IsTrue, Result, Ok, Err}
 use Rattle.std.specs.List.{list_any}
 use Rattle.sn_io.specs.Causes.{Rose}
 use Rattle.sn_io.specs.FaultPlan.{Plan, is_listed, began, failed, wanted}
