@@ -27,6 +27,13 @@ disk_stopped disk = disk.stopped
 abbrev pub disk_course : MemDisk → Course
 disk_course disk = record { told = disk.history; stop = disk.stop; stopped = disk.stopped }
 
+-- it is to stop then, and goes on with what it tells
+pub record HasStopSet (stop : Stop) (old new : MemDisk) : Type 0 where
+  pub told : disk_told new ≡ disk_told old
+  pub stop_is : disk_stop new ≡ stop
+  pub going : disk_stopped new ≡ false
+  pub plan : disk_plan new ≡ disk_plan old
+
 -- A call that isn't listed, on a disk that hasn't stopped.
 pub record Begins (old new : MemDisk) : Type 0 where
   pub not_listed : is_listed (disk_plan old) ≡ false

@@ -30,7 +30,7 @@ pub struct MemDisk {
 }
 
 impl MemDisk {
-    ghost use Rattle.sn_disk.specs.MemDisk.{disk_told, disk_plan, disk_stop, disk_stopped, disk_course, Begins, Refuses, IsWanting, IsStopping, Grows};
+    ghost use Rattle.sn_disk.specs.MemDisk.{disk_told, disk_plan, disk_stop, disk_stopped, disk_course, HasStopSet, Begins, Refuses, IsWanting, IsStopping, Grows};
 
     /// A disk of these bytes. The calls of the numbers in `failing`, from 0, fail.
     pub fn new(alloc: Global, bytes: Vec<u8>, failing: Vec<u64>) -> Result<MemDisk, AllocError>
@@ -62,8 +62,7 @@ impl MemDisk {
 
     /// Sets whether and when it is to stop. A disk that has stopped goes on with what was left.
     pub fn set_stop(&mut self, stop: Stop)
-        ensures course { disk_course self.new ≡ record { told = disk_told self.old; stop = stop; stopped = false } }
-        ensures plan { disk_plan self.new ≡ disk_plan self.old }
+        ensures { HasStopSet stop self.old self.new }
     {
         self.stop = stop;
         self.stopped = false;

@@ -8,8 +8,8 @@ use Rattle.sn_journal.specs.Reading.{IsBroken}
 use Rattle.sn_journal.specs.Loading.{IsCommonFront, IsForeign, IsDamaged}
 use Rattle.sn_journal.specs.Laws.{batches, foreign, damaged, HasOneFinding, IsSameAfterCrashedLoads}
 use Rattle.sn_journal.specs.declared.owner.Owner.{Owner}
-use Rattle.sn_journal.proofs.Starts.{length-header, header_split}
-use Rattle.sn_journal.proofs.Unique.{one_reading, closed_whole}
+use Rattle.sn_journal.specs.Facts.{length-header, header_split}
+use Rattle.sn_journal.specs.Unique.{one_reading, closed_whole}
 
 -- a file begins with the header
 begins : (owner : Owner) (file rest : List ℕ) → file ≡ header_of owner ++ rest → (take 16 file ≡ header_of owner) × (drop 16 file ≡ rest) × (16 ≤ length file) × (slice_index file 0 ≡ 83)

@@ -1,12 +1,12 @@
 -- A file has one reading.
-use Rattle.std.proofs.Common.{◌≡◌, ◌⊎◌, inl, inr, ℕ, ◌+◌, List, [], ◌∷◌, ◌++◌, length, take, drop, slice_index, All, refl, sym, ◌∙◌, ap, arith, append_assoc, length-append}
+use Rattle.std.proofs.Common.{◌≡◌, ◌⊎◌, inl, inr, ℕ, suc, ◌<◌, ◌+◌, List, [], ◌∷◌, ◌++◌, length, take, drop, slice_index, All, refl, sym, ◌∙◌, ap, arith, append_assoc, length-append}
 use Rattle.std.specs.List.{flat_map, AllByRecursion}
 use Rattle.std.specs.Int.{w32, to_be_bytes, from_be_bytes}
 use Rattle.std.proofs.lemmas.Nat.{from_be_bytes-to_be_bytes_4}
 use Rattle.std.proofs.lemmas.List.{take_at, drop_at}
 use Rattle.std.proofs.lemmas.List.Elements.{recursion_from_All}
 use Rattle.sn_journal.specs.Image.{counted, batch, IsClosed, IsBounded}
-use Rattle.sn_journal.specs.Reading.{IsBroken}
+use Rattle.sn_journal.specs.Reading.{IsBroken, AreIn}
 
 -- the size that a counted payload tells
 pub told_size : (payload later : List ℕ) → IsBounded payload → from_be_bytes w32 (take 4 (counted payload ++ later)) ≡ length payload
@@ -76,3 +76,18 @@ pub closed_whole : (rest : List ℕ) → IsClosed rest → IsBroken rest → ⊥
 closed_whole [] closed broken = closed
 closed_whole (gate ∷ tail) closed (inl none) = omega (arith, ap length none)
 closed_whole (gate ∷ tail) closed (inr broken) = closed broken.0
+
+-- the first of the payloads, and those behind it
+pub first_read : (bytes payload left : List ℕ) (payloads : List (List ℕ)) → AreIn bytes payloads → bytes ≡ batch payload ++ left → IsBounded payload → (later : List (List ℕ)) × (payloads ≡ payload ∷ later) × AreIn left later
+first_read bytes payload left [] are is short = absurd (elim are.over [ inl closed ↦ closed_end are.rest payload left closed short (sym are.split ∙ is) | inr broken ↦ broken_end are.rest payload left broken short (sym are.split ∙ is) ])
+first_read bytes payload left (first ∷ later) are is short =
+    let one = one_payload first payload (flat_map batch later ++ are.rest) left (are.bounded 0 [] (omega arith)) short (sym (append_assoc (batch first) (flat_map batch later) are.rest) ∙ sym are.split ∙ is) in
+    (later, ap (λ (p : List ℕ). p ∷ later) one.0, record { rest = are.rest; split = sym one.1; over = are.over; bounded = λ k d below. are.bounded (suc k) d (omega (arith, below)) })
+
+-- where no whole batch stands there are no payloads
+pub none_read : (bytes : List ℕ) (payloads : List (List ℕ)) → AreIn bytes payloads → IsClosed bytes ⊎ IsBroken bytes → payloads ≡ []
+none_read bytes [] are over = refl
+none_read bytes (first ∷ later) are over = absurd (elim over [
+  | inl closed ↦ closed_end bytes first (flat_map batch later ++ are.rest) closed (are.bounded 0 [] (omega arith)) (are.split ∙ append_assoc (batch first) (flat_map batch later) are.rest)
+  | inr broken ↦ broken_end bytes first (flat_map batch later ++ are.rest) broken (are.bounded 0 [] (omega arith)) (are.split ∙ append_assoc (batch first) (flat_map batch later) are.rest)
+])
