@@ -2,7 +2,10 @@ pub mod AccountUuids
 pub mod BehindLemmas
 pub mod CarryLemmas
 pub mod FirstLemmas
+pub mod IncomingLemmas
+pub mod ListLemmas
 pub mod NamedLemmas
+pub mod PageLemmas
 pub mod PasswordLemmas
 pub mod PresentLemmas
 pub mod PutsLemmas
@@ -14,3 +17,7 @@ pub mod SoundFields
 pub mod SoundRegistering
 pub mod SoundSteps
 pub mod SparedRows
+pub mod TakesLemmas
+pub mod SyncLemmas
+pub mod TakenLemmas
+pub mod WalkLemmas

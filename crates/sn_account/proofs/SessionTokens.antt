@@ -65,7 +65,7 @@ IsUuidText-front text front n h e =
     let cut = ap (take 36) h.is ∙ take_at (uuid_text (account_uuid n)) (46 ∷ h.rest) 36 (length-uuid_text (account_uuid n)) in
     subst (λ (t : List ℕ). IsUuidText t (account_uuid n)) (sym (e ∙ cut)) (IsUuidText-account n)
 
-same_uuid : (text a b : List ℕ) → IsUuidText text a → IsUuidText text b → a ≡ b
+pub same_uuid : (text a b : List ℕ) → IsUuidText text a → IsUuidText text b → a ≡ b
 same_uuid text a b h k = ap (λ (o : Option (List ℕ)). unwrap_or o []) (parsed-spelled text a h ∙ sym (parsed-spelled text b k))
 
 -- and no other

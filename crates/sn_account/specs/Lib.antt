@@ -6,6 +6,9 @@ pub mod Stored
 pub mod Pages
 pub mod Incoming
 pub mod Syncs
+pub mod Taking
+pub mod Candidates
+pub mod Replies
 pub mod Rule
 pub mod Room
 pub mod States

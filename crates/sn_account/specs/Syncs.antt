@@ -1,6 +1,5 @@
 -- The rule of a sync.
 use Rattle.std.specs.Prelude.{◌≡◌, ◌≢◌, ◌⊎◌, ℕ, ◌<◌, ◌≤◌, Bool, true, false, List, [], ◌∷◌, ◌++◌, length, codes, Option, Some, None, All}
-use Rattle.std.specs.List.{AllZip}
 use Rattle.sn_rows.specs.Table.{Puts, Rows}
 use Rattle.sn_rows.specs.declared.change.Change.{Change}
 use Rattle.sn_rows.specs.declared.key.Key.TheVariants as key
@@ -16,10 +15,9 @@ use Rattle.sn_sync.specs.declared.item.Body.TheVariants as body
 use Rattle.sn_sync.specs.declared.item.Item.{Item}
 use Rattle.sn_account.specs.Incoming.{Progress, RunsOut, TakesAll}
 use Rattle.sn_account.specs.Lookups.{Bytes}
-use Rattle.sn_account.specs.Pages.{Found, IsGreatest, IsLastOf, IsPage}
+use Rattle.sn_account.specs.Pages.{AreGiven, Found, IsGreatest, IsLastOf, IsPage}
 use Rattle.sn_account.specs.Rules.{IsBadAuth, IsPresent, Refuses}
 use Rattle.sn_account.specs.Sessions.{IsNoSession, IsSession}
-use Rattle.sn_account.specs.Stored.{IsGiven}
 
 -- ---- tokens
 
@@ -57,8 +55,11 @@ abbrev pub strings_in : Body → List Bytes
 strings_in body.Deleted = []
 strings_in (body.Strings content enc) = content ∷ enc ∷ []
 
+abbrev pub IsShort : Bytes → Type 0
+IsShort string = length string ≤ most_string
+
 abbrev pub AreShort : List Bytes → Type 0
-AreShort strings = All (λ s. length s ≤ most_string) strings
+AreShort strings = All IsShort strings
 
 abbrev pub NoneLong : List Item → Type 0
 NoneLong items = All (λ i. AreShort (strings_in i.body)) items
@@ -85,14 +86,11 @@ pub record IsFirstLong (items : List Item) (uuid : Bytes) (size : ℕ) : Type 0 
 
 -- ---- changes and answer
 
--- the changes end with the store's row, where any was made
-abbrev pub AreChanges : StoreRow → Progress → List Change → Type 0
-AreChanges store q changes = ((q.changes ≡ []) × (changes ≡ []))
-    ⊎ ((q.changes ≢ []) × ((end : Change) × (row : StoreRow) × Puts end key.Store (value.Store row)
-    × (row.secret ≡ store.secret) × (row.accounts ≡ store.accounts) × (row.last ≡ q.last) × (changes ≡ q.changes ++ end ∷ [])))
-
-abbrev pub AreGiven : List Found → List Item → Type 0
-AreGiven found items = AllZip (λ f i. IsGiven f.0 f.1 i) found items
+-- those that were made, and at their end the store's row with the last stamp, where any was made
+abbrev pub AreChanges : StoreRow → List Change → ℕ → List Change → Type 0
+AreChanges store made last changes = ((made ≡ []) × (changes ≡ []))
+    ⊎ ((made ≢ []) × ((end : Change) × (row : StoreRow) × Puts end key.Store (value.Store row)
+    × (row.secret ≡ store.secret) × (row.accounts ≡ store.accounts) × (row.last ≡ last) × (changes ≡ made ++ end ∷ [])))
 
 -- before the first item
 abbrev pub start : Rows → StoreRow → Progress
@@ -114,7 +112,7 @@ pub record Synced (rows : Rows) (store : StoreRow) (n : ℕ) (present : Params) 
   pub retrieved_are : AreGiven page retrieved
   pub end : Progress
   pub taken : TakesAll present now n (start rows store) items end
-  pub changes_are : AreChanges store end changes
+  pub changes_are : AreChanges store end.changes end.last changes
   pub cursor_token : Option Bytes
   pub sync_token : Bytes
   pub tokens : AreTokens end.rows n page left cursor_token sync_token
