@@ -7,10 +7,14 @@ pub mod PasswordLemmas
 pub mod PresentLemmas
 pub mod PutsLemmas
 pub mod RegisterLemmas
+pub mod RuleSound
+pub mod RuleSpares
 pub mod SessionTokens
 pub mod SignInLemmas
 pub mod SoundChanging
 pub mod SoundFields
 pub mod SoundRegistering
 pub mod SoundSteps
+pub mod SoundSync
 pub mod SparedRows
+pub mod SyncSteps

@@ -7,6 +7,7 @@ mod lookups;
 pub mod marking;
 pub mod passwords;
 mod refusals;
+pub mod rule_laws;
 pub mod session_laws;
 pub mod sessions;
 pub mod sound_laws;
