@@ -7,6 +7,7 @@ pub mod PasswordLemmas
 pub mod PresentLemmas
 pub mod PutsLemmas
 pub mod RegisterLemmas
+pub mod RuleFits
 pub mod RuleSound
 pub mod RuleSpares
 pub mod SessionTokens
@@ -18,3 +19,4 @@ pub mod SoundSteps
 pub mod SoundSync
 pub mod SparedRows
 pub mod SyncSteps
+pub mod TokenFits

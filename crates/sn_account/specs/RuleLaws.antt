@@ -4,8 +4,10 @@ use Rattle.sn_rows.specs.Table.{Rows, rows_after}
 use Rattle.sn_rows.specs.declared.change.Change.{Change}
 use Rattle.sn_rows.specs.declared.key.Key.TheVariants as key
 use Rattle.sn_rows.specs.declared.server_rows.ItemRow.{ItemRow}
-use Rattle.sn_sync.specs.Laws.{FitsRequest}
+use Rattle.sn_sync.specs.Laws.{FitsAnswer, FitsRequest}
+use Rattle.sn_sync.specs.Requests.{route_of}
 use Rattle.sn_sync.specs.declared.answer.Answer.{Answer}
+use Rattle.sn_sync.specs.declared.answer.Answer.TheVariants as answer
 use Rattle.sn_sync.specs.declared.request.Request.{Request}
 use Rattle.sn_sync.specs.declared.request.Request.TheVariants as request
 use Rattle.sn_account.specs.Lookups.{Bytes, HasItem, HasStore}
@@ -37,3 +39,17 @@ pub record SparesAccount (rows now : Rows) (m : ℕ) : Type 0 where
 abbrev pub SparesEveryOther : Type 0
 SparesEveryOther = (rows : Rows) (r : Request) (now : ℕ) (changes : List Change) (given : Answer) → IsSound rows → FitsRequest r → Rule rows r now changes given
     → (m : ℕ) → ((n : ℕ) → ActsFor rows r n → m ≢ n) → SparesAccount rows (rows_after rows changes) m
+
+-- ---- within bounds
+
+-- the status with which an answer is sent
+abbrev pub status_of : Answer → ℕ
+status_of (answer.Account token identifier uuid) = 200
+status_of (answer.Params params) = 200
+status_of (answer.Sync conflicts cursor_token retrieved saved sync_token) = 200
+status_of (answer.Refused status tag further) = status
+
+-- what is answered is within the bounds of an answer, so it is read back as it was written
+abbrev pub AnswersFit : Type 0
+AnswersFit = (rows : Rows) (r : Request) (now : ℕ) (changes : List Change) (given : Answer)
+    → IsSound rows → FitsRequest r → Rule rows r now changes given → FitsAnswer (route_of r) (status_of given) given
