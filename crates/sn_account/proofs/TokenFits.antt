@@ -11,7 +11,7 @@ use Rattle.sha2.specs.Sha256.{digest_bytes, sha256}
 use Rattle.sha2.proofs.Facts256.{length-sha256}
 use Rattle.uuid.specs.Text.{by_index, digit_place, hex_digit, hyphen, is_hyphen_place, lower, nibble}
 use Rattle.uuid.proofs.TextLemmas.{by_index_at, by_index_length}
-use Rattle.sn_hmac.specs.Hmac.{hmac, hmac_sha256}
+use Rattle.sn_hmac.specs.Hmac.{hmac_sha256}
 use Rattle.sn_string.specs.Uuids.{uuid_text}
 use Rattle.sn_sync.specs.Laws.{AreBytes}
 use Rattle.sn_sync.specs.Members.{IsSessionToken}
@@ -112,11 +112,11 @@ uuid_visible xs = All-from_get_or IsVisible (uuid_text xs) 0 at
 -- ---- the token
 
 mac_length : (secret signed : List ℕ) → length (hmac_sha256 secret signed) ≡ 32
-unfolding hmac_sha256 hmac
+unfolding hmac_sha256
 mac_length secret signed = length-sha256 _
 
 mac_bytes : (secret signed : List ℕ) → All IsByte (hmac_sha256 secret signed)
-unfolding hmac_sha256 hmac
+unfolding hmac_sha256
 mac_bytes secret signed = sha_fits _
 
 pub token_fits : (secret : List ℕ) (n g : ℕ) → IsSessionToken (session_token secret n g)
