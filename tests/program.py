@@ -1,4 +1,4 @@
-"""Runs the built program, which `tests/run` has made by `./sn`."""
+"""Runs the built program, which `tests/run` has made by `./sn`: the newest, where a build that was cut off left an older one."""
 
 import glob
 import os
@@ -6,7 +6,8 @@ import resource
 import subprocess
 
 TOP = os.path.join(os.path.dirname(os.path.abspath(__file__)), "..")
-SN = (glob.glob(os.path.join(TOP, ".built", "sn-*")) + [os.path.join(TOP, "sn")])[0]
+BUILT = sorted(glob.glob(os.path.join(TOP, ".built", "sn-*")), key=os.path.getmtime)
+SN = BUILT[-1] if BUILT else os.path.join(TOP, "sn")
 
 UUID = "00000000-0000-4000-8000-000000000001"
 KEY = bytes(range(64))

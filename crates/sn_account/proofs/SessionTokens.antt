@@ -24,7 +24,7 @@ around_colon secret uuid g =
     append_assoc uuid (codes ".") (encode_lower (hmac_sha256 secret (uuid ++ codes ":" ++ decimal g)))
     ∙ ap (λ (signed : List ℕ). uuid ++ 46 ∷ encode_lower (hmac_sha256 secret signed)) (append_assoc uuid (codes ":") (decimal g))
 
-session_token-parts : (secret : List ℕ) (n g : ℕ) → session_token secret n g ≡ uuid_text (account_uuid n) ++ 46 ∷ encode_lower (hmac_sha256 secret (uuid_text (account_uuid n) ++ 58 ∷ decimal g))
+pub session_token-parts : (secret : List ℕ) (n g : ℕ) → session_token secret n g ≡ uuid_text (account_uuid n) ++ 46 ∷ encode_lower (hmac_sha256 secret (uuid_text (account_uuid n) ++ 58 ∷ decimal g))
 unfolding session_token
 session_token-parts secret n g = around_colon secret (uuid_text (account_uuid n)) g
 

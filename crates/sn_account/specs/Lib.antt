@@ -13,3 +13,4 @@ pub mod Rule
 pub mod Room
 pub mod States
 pub mod Laws
+pub mod RuleLaws

@@ -13,6 +13,7 @@ mod pages;
 pub mod passwords;
 mod refusals;
 mod replies;
+pub mod rule_laws;
 pub mod session_laws;
 pub mod sessions;
 pub mod sound_laws;
