@@ -11,6 +11,8 @@ use Rattle.sn_rows.specs.declared.server_rows.StoreRow.{StoreRow}
 use Rattle.sn_rows.specs.declared.value.Value.{Value}
 use Rattle.sn_rows.specs.declared.value.Value.TheVariants as value
 use Rattle.sn_string.specs.declared.params.Params.{Params}
+use Rattle.sn_sync.specs.Laws.{FitsAnswer, FitsRequest}
+use Rattle.sn_sync.specs.Requests.{route_of}
 use Rattle.sn_sync.specs.Tokens.{IsToken}
 use Rattle.sn_sync.specs.declared.answer.Answer.{Answer}
 use Rattle.sn_sync.specs.declared.item.Item.{Item}
@@ -23,12 +25,14 @@ use Rattle.sn_account.specs.Replies.{IsReply, greatest_after}
 use Rattle.sn_account.specs.Rules.{IsPresent}
 use Rattle.sn_account.specs.Sound.{IsSound}
 use Rattle.sn_account.specs.Rule.{Rule, RuleOf}
+use Rattle.sn_account.specs.RuleLaws.{status_of}
 use Rattle.sn_account.specs.Sessions.{IsSession}
 use Rattle.sn_account.specs.Syncs.{AreTokens, IsStampOf, NoneLong, Serves, ServesBounded, Syncs, above_of, is_first, most_items, start}
 use Rattle.sn_account.specs.Taking.{progress}
 use Rattle.sn_account.specs.declared.accounts.Ruled.{Ruled}
 use Rattle.sn_account.specs.declared.page.Page.{Page}
 use Rattle.sn_account.specs.declared.taken.Taken.{Taken}
+use Rattle.sn_account.proofs.RuleFits.{answers_fit}
 
 -- the store's row is one
 pub same_store : (rows : Rows) (a b : StoreRow) → HasStore rows a → HasStore rows b → a ≡ b
@@ -197,3 +201,9 @@ pub rule_ok : {E : Type 0} (rows : Rows) (store : StoreRow) (request other : Req
     → IfOk outcome (λ r. Rule rows request now r.changes r.answer)
 rule_ok rows store request other now (Ok r) has is rule = rule_at rows store request other now r.changes r.answer has is rule
 rule_ok rows store request other now (Err e) has is rule = tt
+
+-- what is answered by the rule is within the bounds of an answer
+pub within_ok : {E : Type 0} (rows : Rows) (request : Request) (now : ℕ) (outcome : Result Ruled E) → IsSound rows → FitsRequest request
+    → IfOk outcome (λ r. Rule rows request now r.changes r.answer) → IfOk outcome (λ r. FitsAnswer (route_of request) (status_of r.answer) r.answer)
+within_ok rows request now (Ok r) sound fits rule = answers_fit rows request now r.changes r.answer sound fits rule
+within_ok rows request now (Err e) sound fits rule = tt
