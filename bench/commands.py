@@ -3,7 +3,8 @@
 
 Reading a string is timed by `sn open` of one that names another uuid: the whole string is read by the grammar and
 nothing is hashed or decrypted. Beside it Python matches the grammar with `re` and decodes the base64, on the same text.
-Each time is the least of some rounds, taken in turn, less that of a run that refuses its words.
+Each time is processor time, the least of some rounds, taken in turn, less that of a run that refuses its words. Beside
+`sn seal` stands what its cipher and its hash take in the library, on texts of the same lengths, in the same rounds.
 """
 
 import argparse
@@ -16,6 +17,7 @@ import subprocess
 import sys
 import time
 
+import primitives
 import results
 
 HERE = pathlib.Path(__file__).resolve().parent
@@ -44,16 +46,15 @@ def program():
 
 # A small process starts the program, since a child's peak memory counts that of the process which it came from.
 LAUNCHER = """
-import os, sys, time
-began = time.perf_counter()
+import os, sys
 child = os.posix_spawn(sys.argv[1], sys.argv[1:], os.environ, file_actions=[(os.POSIX_SPAWN_OPEN, 2, os.devnull, os.O_WRONLY, 0)])
 _, status, usage = os.wait4(child, 0)
-print(time.perf_counter() - began, usage.ru_maxrss, os.waitstatus_to_exitcode(status), file=sys.stderr)
+print(usage.ru_utime + usage.ru_stime, usage.ru_maxrss, os.waitstatus_to_exitcode(status), file=sys.stderr)
 """
 
 
 def run(words, path, out):
-    """Seconds, peak kilobytes and status of one run over the files."""
+    """Seconds of processor time, peak kilobytes and status of one run over the files."""
     with open(path, "rb") as given, open(out, "wb") as written:
         done = subprocess.run(
             [sys.executable, "-S", "-c", LAUNCHER, program()] + words,
@@ -67,19 +68,29 @@ def run(words, path, out):
 
 
 def python_reads(text):
-    began = time.perf_counter()
+    began = time.process_time()
     found = GRAMMAR.fullmatch(text)
     data = base64.b64decode(found.group(1), validate=True)
     assert len(data) % 16 == 0 and base64.b64decode(found.group(2), validate=True)
-    return time.perf_counter() - began
+    return time.process_time() - began
 
 
-def measured(scratch, rounds):
+def cipher_and_hash(proved, plain, covered):
+    """Seconds of the library's CBC over the plain text and its HMAC over what a string's hash covers."""
+    began = time.process_time()
+    proved.seal(plain)
+    proved.hmac(covered)
+    return time.process_time() - began
+
+
+def measured(proved, scratch, rounds):
     plain, sealed, out, nothing = (scratch / name for name in ("plain", "sealed", "out", "nothing"))
     nothing.write_bytes(b"")
     plain.write_bytes(b"a" * LARGEST)
     whole = scratch / "whole"
     assert run(SEAL, plain, whole)[2] == 0
+    version, _, *covered, _ = whole.read_bytes().split(b":")
+    covered = b":".join([version, *covered])
     part = scratch / "part"
     part.write_bytes(b"a" * (LARGEST * 3 // 4 - 1000))
     assert run(SEAL, part, sealed)[2] == 0
@@ -95,6 +106,8 @@ def measured(scratch, rounds):
             seconds, peak, status = run(words, path, out)
             assert status == {"start": 2, "seal": 0, "open": 0, "read": 3}[name], name
             best[name] = min(best.get(name, (seconds, peak)), (seconds, peak))
+        seconds = cipher_and_hash(proved, plain.read_bytes(), covered)
+        best["floor"] = min(best.get("floor", (seconds, 0)), (seconds, 0))
         seconds = python_reads(text)
         best["python"] = min(best.get("python", (seconds, 0)), (seconds, 0))
     return best, len(text)
@@ -102,7 +115,7 @@ def measured(scratch, rounds):
 
 def table(best, length):
     start = best["start"][0]
-    lines = ["| what | bytes in | seconds | MB/s | peak memory, of the bytes in |", "|---|---|---|---|---|"]
+    lines = ["| what | bytes in | seconds | MB/s | of its cipher and hash | peak memory, of the bytes in |", "|---|---|---|---|---|---|"]
     rows = [
         ("`sn seal`", "seal", LARGEST),
         ("`sn open`", "open", length + 1),
@@ -111,10 +124,21 @@ def table(best, length):
     for what, name, size in rows:
         seconds, peak = best[name]
         net = max(seconds - start, 1e-9)
-        lines.append("| %s | %d | %.3f | %.0f | %.1f times |" % (what, size, net, size / net / 1e6, peak * 1024 / size))
+        share, memory = "", "%.1f times" % (peak * 1024 / size)
+        if name == "seal":
+            share = barred(net / best["floor"][0], 1.5)
+            memory = barred(peak * 1024 / size, 3.0)
+        lines.append("| %s | %d | %.3f | %.0f | %s | %s |" % (what, size, net, size / net / 1e6, share, memory))
+    seconds = best["floor"][0]
+    lines.append("| its cipher and hash in the library | %d | %.3f | %.0f | | |" % (LARGEST, seconds, LARGEST / seconds / 1e6))
     seconds = best["python"][0]
-    lines.append("| Python, `re.fullmatch` and `base64.b64decode` | %d | %.3f | %.0f | |" % (length, seconds, length / seconds / 1e6))
+    lines.append("| Python, `re.fullmatch` and `base64.b64decode` | %d | %.3f | %.0f | | |" % (length, seconds, length / seconds / 1e6))
     return lines
+
+
+def barred(times, bar):
+    """A figure with its bar."""
+    return "%.2f times (bar %.1f, %s)" % (times, bar, "met" if times <= bar else "not met")
 
 
 def machine():
@@ -126,13 +150,14 @@ def machine():
 
 def main():
     parser = argparse.ArgumentParser()
+    parser.add_argument("--library", required=True)
     parser.add_argument("--rounds", type=int, default=5)
     options = parser.parse_args()
     import tempfile
 
     with tempfile.TemporaryDirectory() as scratch:
-        best, length = measured(pathlib.Path(scratch), options.rounds)
-    head = "%s, %s, Python %s; least of %d rounds." % (
+        best, length = measured(primitives.Proved(options.library), pathlib.Path(scratch), options.rounds)
+    head = "%s, %s, Python %s; processor time, least of %d rounds." % (
         datetime.date.today(),
         machine(),
         sys.version.split()[0],

@@ -147,6 +147,11 @@ class Help(unittest.TestCase):
             for word in ("seal", "open", "show", "replay", "--help", "--version"):
                 self.assertIn(word, text)
 
+    def test_the_usage_names_the_program(self):
+        self.assertIn("Usage: sn <COMMAND>", self.answer(["--help"]))
+        for command in ("seal", "open", "show", "replay"):
+            self.assertIn("Usage: sn %s" % command, self.answer([command, "--help"]))
+
     def test_each_option_is_told(self):
         for command, options in (("seal", "uuid key identifier cost nonce"), ("open", "uuid key"), ("show", ""), ("replay", "")):
             text = self.answer([command, "--help"])

@@ -69,6 +69,14 @@ class Links(unittest.TestCase):
 
 
 class Whole(unittest.TestCase):
+    def test_each_file_that_is_named_is_there(self):
+        named = re.compile(r"`((?:tests|bench|docs|examples|crates)/[\w./-]+)`")
+        for document in documents():
+            for path in named.findall(prose(document)):
+                if "NAME" not in path:
+                    with self.subTest(document=os.path.relpath(document, TOP), path=path):
+                        self.assertTrue(os.path.exists(os.path.join(TOP, path)))
+
     def test_each_crate_is_listed(self):
         crates = {line.split(":")[0].split()[0] for line in text_of(os.path.join(TOP, "crates.txt")).splitlines() if line[:1] not in "#\n"}
         for document in ("PROMISES", "ARCHITECTURE"):

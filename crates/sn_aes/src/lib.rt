@@ -9,7 +9,7 @@ mod key_schedule;
 mod substitution;
 mod tables;
 
-pub use block_cipher::Aes256;
+pub use block_cipher::{Aes256Dec, Aes256Enc};
 pub use bytes::{block_of_columns, columns_of_block, xor_columns};
 
 #[cfg(test)]

@@ -3,10 +3,10 @@ ghost use Rattle.std.specs.Prelude.{◌≡◌, ◌%◌, length};
 ghost use Rattle.sn_cbc.specs.Cbc.{IsChained};
 
 use crate::blocks::{block_at, write_block};
-use sn_aes::{Aes256, block_of_columns, columns_of_block, xor_columns};
+use sn_aes::{Aes256Dec, Aes256Enc, block_of_columns, columns_of_block, xor_columns};
 
 /// Encrypts a text of whole blocks.
-pub fn encrypt(aes: &Aes256, iv: &[u8; 16], text: &mut [u8])
+pub fn encrypt(aes: &Aes256Enc, iv: &[u8; 16], text: &mut [u8])
     requires { length text.old % 16 ≡ 0 }
     ensures { IsChained aes.now iv.now text.old text.new }
 {
@@ -20,7 +20,7 @@ pub fn encrypt(aes: &Aes256, iv: &[u8; 16], text: &mut [u8])
 }
 
 /// The text that `encrypt` takes to this one.
-pub fn decrypt(aes: &Aes256, iv: &[u8; 16], text: &mut [u8])
+pub fn decrypt(aes: &Aes256Dec, iv: &[u8; 16], text: &mut [u8])
     requires { length text.old % 16 ≡ 0 }
     ensures { IsChained aes.now iv.now text.new text.old }
 {

@@ -1,16 +1,18 @@
 // The padding of a text (RFC 5652, 6.3).
-ghost use Rattle.std.specs.Prelude.{◌≡◌, ◌≤◌, ◌<◌, ◌+◌, ℕ, length, replicate, IfOk, IfSome, IsNone, IsTrue, ◌↔◌};
+ghost use Rattle.std.specs.Prelude.{◌≡◌, ◌≤◌, ◌<◌, ◌+◌, ℕ, length, replicate, IfOk, IfSome, IsNone, IsOk, IsTrue, ◌↔◌};
+ghost use Rattle.std.specs.Vec.{vec_len, vec_capacity};
 ghost use Rattle.sn_cbc.specs.Cbc.{padded, IsPadded, AreBytes};
 
-use std::alloc::{AllocError, Global};
+use std::alloc::AllocError;
 
-/// The text with its padding, in a list that is taken whole at once.
-pub fn padded_text(alloc: Global, plain: &[u8]) -> Result<Vec<u8>, AllocError>
-    ensures { IfOk result (λ text. text.items ≡ padded plain.now) }
+/// The text with its padding, in its place.
+pub fn padded_text(plain: Vec<u8>) -> Result<Vec<u8>, AllocError>
+    ensures text { IfOk result (λ text. text.items ≡ padded plain.items) }
+    ensures room { vec_len plain + 16 ≤ vec_capacity plain → IsOk result }
 {
-    let count = 16 - plain.len() % 16;
-    let mut text = Vec::with_capacity(alloc, plain.len() + count)?;
-    text.extend_from_slice(plain)?;
+    let mut text = plain;
+    let count = 16 - text.len() % 16;
+    text.reserve_exact(count)?;
     text.extend_from_slice(&[count as u8; 16][..count])?;
     Ok(text)
 }

@@ -1,11 +1,12 @@
 // Sealing and opening whole texts.
-ghost use Rattle.std.specs.Prelude.{◌≡◌, ◌%◌, ◌↔◌, IsTrue, ℕ, List, length, IfOk, IsErrOf};
+ghost use Rattle.std.specs.Prelude.{◌≡◌, ◌%◌, ◌↔◌, ◌+◌, ◌≤◌, IsTrue, ℕ, List, length, IfOk, IsErrOf, IsOk};
+ghost use Rattle.std.specs.Vec.{vec_len, vec_capacity};
 ghost use Rattle.sn_cbc.specs.Cbc.{IsCbc, IsWhole, IsChained, AreBytes};
 
 use crate::CbcError;
 use crate::chain::{decrypt, encrypt};
 use crate::padding::{padded_text, padding_of};
-use sn_aes::Aes256;
+use sn_aes::{Aes256Dec, Aes256Enc};
 use std::alloc::{AllocError, Global};
 
 /// The ciphertext of a plain text, which has 1 to 16 bytes more.
@@ -17,8 +18,18 @@ pub fn seal(
 ) -> Result<Vec<u8>, AllocError>
     ensures { IfOk result (λ bytes. IsCbc key.now iv.now plain.now bytes.items) }
 {
-    let mut text = padded_text(alloc, plain)?;
-    encrypt(&Aes256::new(key), iv, text.as_mut_slice());
+    let mut owned = Vec::with_capacity(alloc, plain.len() + 16)?;
+    owned.extend_from_slice(plain)?;
+    seal_owned(key, iv, owned)
+}
+
+/// The ciphertext of a plain text, in its place. Takes no memory where there is room for 16 bytes more.
+pub fn seal_owned(key: &[u8; 32], iv: &[u8; 16], plain: Vec<u8>) -> Result<Vec<u8>, AllocError>
+    ensures ciphertext { IfOk result (λ bytes. IsCbc key.now iv.now plain.items bytes.items) }
+    ensures room { vec_len plain + 16 ≤ vec_capacity plain → IsOk result }
+{
+    let mut text = padded_text(plain)?;
+    encrypt(&Aes256Enc::new(key), iv, text.as_mut_slice());
     Ok(text)
 }
 
@@ -73,7 +84,7 @@ fn decrypted(key: &[u8; 32], iv: &[u8; 16], bytes: Vec<u8>) -> Vec<u8>
     ensures { IsChained key.now iv.now result.items bytes.items }
 {
     let mut text = bytes;
-    decrypt(&Aes256::new(key), iv, text.as_mut_slice());
+    decrypt(&Aes256Dec::new(key), iv, text.as_mut_slice());
     text
 }
 

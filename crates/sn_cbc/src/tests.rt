@@ -1,8 +1,8 @@
 //! Ciphertexts from outside: SP 800-38A, F.2.5, which gives the first 64 bytes of its case, and others that an
 //! independent AES gives.
 
-use crate::{CbcError, seal, unseal, unseal_owned};
-use sn_aes::Aes256;
+use crate::{CbcError, seal, seal_owned, unseal, unseal_owned};
+use sn_aes::Aes256Enc;
 use std::test::Fail;
 
 struct Case {
@@ -221,6 +221,16 @@ fn texts_both_ways(rt: HostRuntime) -> Result<(), Fail> {
 }
 
 #[test]
+fn sealed_in_place(rt: HostRuntime) -> Result<(), Fail> {
+    for case in &CASES {
+        let owned = Vec::from_slice(rt.alloc(), case.plain)?;
+        let sealed = seal_owned(&case.key, &case.iv, owned)?;
+        assert_eq!(rt; sealed.as_slice(), case.bytes, "{}", case.name);
+    }
+    Ok(())
+}
+
+#[test]
 fn no_whole_blocks(rt: HostRuntime) -> Result<(), Fail> {
     let key = [1; 32];
     let iv = [2; 16];
@@ -239,7 +249,7 @@ fn no_whole_blocks(rt: HostRuntime) -> Result<(), Fail> {
 fn one_block_of_text(rt: HostRuntime) -> Result<(), Fail> {
     let key = [1; 32];
     let iv = [0; 16];
-    let aes = Aes256::new(&key);
+    let aes = Aes256Enc::new(&key);
     let mut two = [2; 16];
     two[14] = 3;
     let mut sixteen = [16; 16];

@@ -4,7 +4,7 @@ use Rattle.std.specs.Fmt.{decimal}
 use Rattle.clap.specs.Faults.{fault_of}
 use Rattle.clap.specs.declared.error.kind.ErrorKind.TheVariants.{DisplayHelp, DisplayVersion}
 use Rattle.hex.specs.Hex.{encode_lower}
-use Rattle.sn_cli.specs.Syntax.{Takes, command_named, sn_app, value_of}
+use Rattle.sn_cli.specs.Syntax.{AsksForHelp, AsksForVersion, Takes, command_named, sn_app, value_of}
 use Rattle.sn_string.specs.Bounds.{IsIdentifier, IsCost, IsNonce}
 use Rattle.sn_string.specs.Hex.{IsLowerHex}
 use Rattle.sn_string.specs.Uuids.{IsUuidText, uuid_text}
@@ -70,6 +70,18 @@ IsShowLine words = Names words (codes "show")
 -- the words are a line of `replay`
 abbrev pub IsReplayLine : List (List ℕ) → Type 0
 IsReplayLine words = Names words (codes "replay")
+
+-- the words are a line of a command, each of which reads its input
+abbrev pub IsReading : List (List ℕ) → Type 0
+IsReading words =
+    ((line : SealLine) × IsSealLine words line)
+    ⊎ ((line : OpenLine) × IsOpenLine words line)
+    ⊎ IsShowLine words
+    ⊎ IsReplayLine words
+
+-- the words ask for help or for the version
+abbrev pub Asks : List (List ℕ) → Type 0
+Asks words = AsksForHelp words ⊎ AsksForVersion words
 
 -- the words are no command line, and ask neither for help nor for the version
 pub record IsUsage (words : List (List ℕ)) : Type 0 where

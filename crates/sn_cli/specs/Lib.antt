@@ -1,5 +1,7 @@
+pub mod Calls
 pub mod CommandLine
 pub mod Commands
+pub mod Errors
 pub mod Given
 pub mod Inputs
 pub mod Lines

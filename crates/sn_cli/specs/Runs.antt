@@ -1,167 +1,149 @@
--- What the commands do.
-use Rattle.std.specs.Prelude.{◌≡◌, ◌≢◌, ◌⊎◌, ℕ, ◌^◌, List, [], ◌∷◌, ◌++◌, take, drop}
+-- What a run did, by its status: what it read, which output its line called for, and how much of it was appended.
+use Rattle.std.specs.Prelude.{◌≡◌, ◌⊎◌, ℕ, List, ⊤}
 use Rattle.std.specs.declared.option.Option.{Option}
 use Rattle.std.specs.Io.KnownBytes.{Appends}
-use Rattle.std.specs.Str.{IsUtf8}
-use Rattle.rand_chacha.specs.ChaCha.{of_seed}
-use Rattle.sn_cli.specs.CommandLine.{SealLine, OpenLine, IsSealLine, IsOpenLine, IsShowLine, IsReplayLine}
+use Rattle.sn_cli.specs.Calls.{OpenCallsFor, OpenRefuses, ReplayCallsFor, ReplayRefuses, SealCallsFor, SealRefuses, ShowRefuses}
+use Rattle.sn_cli.specs.CommandLine.{SealLine, OpenLine, Asks, IsReading, IsSealLine, IsOpenLine, IsShowLine, IsReplayLine, IsUsage}
+use Rattle.sn_cli.specs.Inputs.{ReadsText, StopsReading}
 use Rattle.sn_cli.specs.Shown.{IsShown}
-use Rattle.sn_cli.specs.Syntax.{AsksForHelp, AsksForVersion}
-use Rattle.sn_io.specs.Streams.{Gains, HasGiven}
-use Rattle.sn_items.specs.Draws.{drawn}
-use Rattle.sn_items.specs.Opens.{Opens}
-use Rattle.sn_items.specs.Refusals.{HasCause}
-use Rattle.sn_items.specs.Seals.{IsSealed}
-use Rattle.sn_items.specs.Utf8.{IsValidTo}
-use Rattle.sn_items.specs.declared.error.ItemError.{ItemError}
-use Rattle.sn_replay.specs.Headline.{Carries}
+use Rattle.sn_cli.specs.declared.refusal.Refusal.{Refusal}
+use Rattle.sn_cli.specs.declared.refusal.Refusal.TheVariants.{InputLong, InputUtf8}
+use Rattle.sn_cli.specs.declared.status.Status.{Status}
+use Rattle.sn_cli.specs.declared.status.Status.TheVariants.{Done, Usage, Refused, ReadFault, WriteFault, Memory}
+use Rattle.sn_io.specs.Streams.{Gains, TakesPart}
 use Rattle.sn_replay.specs.declared.bench.PlainBench.{PlainBench}
-use Rattle.sn_report.specs.Text.{report_text}
-use Rattle.sn_report.specs.declared.report.Report.{Report}
-use Rattle.sn_script.specs.Scripts.{IsScript, IsScriptRefusal}
-use Rattle.sn_script.specs.declared.script.Script.{Script}
-use Rattle.sn_script.specs.declared.script.ScriptError.{ScriptError}
-use Rattle.sn_script.specs.declared.script.ScriptError.TheVariants as script_error
-use Rattle.sn_string.specs.Grammar.{parts_of}
-use Rattle.sn_string.specs.Refusals.{Refuses}
-use Rattle.sn_string.specs.declared.params.Params.{Params}
-use Rattle.sn_string.specs.declared.reader.StringError.{StringError}
+use Rattle.sn_script.specs.Scripts.{IsScript}
+use Rattle.sn_script.specs.declared.script.Line.{Line}
 
--- the most bytes of an input
-abbrev pub MOST_INPUT : ℕ
-MOST_INPUT = 2 ^ 24
+-- the output was appended: all of it, or at a write fault a front of it and not all
+abbrev pub Writes : Status → Option (List ℕ) → Option (List ℕ) → List ℕ → Type 0
+Writes Done before after output = Appends before after output
+Writes Usage before after output = ⊥
+Writes (Refused refusal) before after output = ⊥
+Writes ReadFault before after output = ⊥
+Writes WriteFault before after output = TakesPart before after output
+Writes Memory before after output = ⊥
 
--- the halves of an item's key: the first encrypts, the second authenticates
-abbrev pub encryption_half : List ℕ → List ℕ
-encryption_half key = take 32 key
+-- the whole input was read as a text, which calls for an output, and that was appended
+pub record WritesOf (calls_for : List ℕ → List ℕ → Type 0) (status : Status) (input_before input_after out_before out_after : Option (List ℕ)) : Type 0 where
+  pub text : List ℕ
+  pub read : ReadsText input_before input_after text
+  pub output : List ℕ
+  pub called : calls_for text output
+  pub wrote : Writes status out_before out_after output
 
-abbrev pub authentication_half : List ℕ → List ℕ
-authentication_half key = drop 32 key
+-- the whole input was read as a text, which is refused
+pub record RefusesInput (refuses : List ℕ → Refusal → Type 0) (refusal : Refusal) (input_before input_after : Option (List ℕ)) : Type 0 where
+  pub text : List ℕ
+  pub read : ReadsText input_before input_after text
+  pub cause : refuses text refusal
 
--- the parameters of a line of `seal`
-pub record HasParams (line : SealLine) (params : Params) : Type 0 where
-  pub identifier : params.identifier ≡ line.identifier
-  pub cost : params.pw_cost ≡ line.cost
-  pub nonce : params.pw_nonce ≡ line.nonce
+-- What a command did that reads its whole input as a text, of which each calls for an output or is refused. Want of
+-- memory may come once some of the input was read; a command never finds its own line faulty.
+abbrev pub RunsOver : (calls_for : List ℕ → List ℕ → Type 0) (refuses : List ℕ → Refusal → Type 0) → Status
+    → (input_before input_after out_before out_after : Option (List ℕ)) → Type 0
+RunsOver calls_for refuses Done input_before input_after out_before out_after =
+    WritesOf calls_for Done input_before input_after out_before out_after
+RunsOver calls_for refuses Usage input_before input_after out_before out_after = ⊥
+RunsOver calls_for refuses (Refused InputLong) input_before input_after out_before out_after =
+    StopsReading (Refused InputLong) input_before input_after
+RunsOver calls_for refuses (Refused (InputUtf8 place)) input_before input_after out_before out_after =
+    StopsReading (Refused (InputUtf8 place)) input_before input_after
+RunsOver calls_for refuses (Refused refusal) input_before input_after out_before out_after =
+    RefusesInput refuses refusal input_before input_after
+RunsOver calls_for refuses ReadFault input_before input_after out_before out_after = StopsReading ReadFault input_before input_after
+RunsOver calls_for refuses WriteFault input_before input_after out_before out_after =
+    WritesOf calls_for WriteFault input_before input_after out_before out_after
+RunsOver calls_for refuses Memory input_before input_after out_before out_after = StopsReading Memory input_before input_after
 
--- `seal` read its whole input, drew one seed, and wrote the input's 003 string and a line feed; the initialization
--- vector is the seed's first four words
-pub record Seals (words : List (List ℕ)) (input_before input_after out_before out_after : Option (List ℕ))
+-- what a command drew that draws one seed: it, once the input is a text, and none before
+abbrev pub Draws : Status → List ℕ → Option (List (List ℕ)) → Option (List (List ℕ)) → Type 0
+Draws Done seed before after = Gains before after seed
+Draws Usage seed before after = after ≡ before
+Draws (Refused refusal) seed before after = after ≡ before
+Draws ReadFault seed before after = after ≡ before
+Draws WriteFault seed before after = Gains before after seed
+Draws Memory seed before after = (after ≡ before) ⊎ Gains before after seed
+
+-- what `seal` did: the output is the one that the seed drawn calls for
+pub record SealRuns (line : SealLine) (status : Status) (input_before input_after out_before out_after : Option (List ℕ))
     (seeds_before seeds_after : Option (List (List ℕ))) : Type 0 where
-  pub line : SealLine
-  pub spelled : IsSealLine words line
-  pub plain : List ℕ
-  pub given : HasGiven MOST_INPUT input_before input_after plain
-  pub utf8 : IsUtf8 plain
   pub seed : List ℕ
-  pub drew : Gains seeds_before seeds_after seed
-  pub params : Params
-  pub has_params : HasParams line params
-  pub text : List ℕ
-  pub sealed : IsSealed plain line.uuid (drawn 16 (of_seed seed)).0 (encryption_half line.key) (authentication_half line.key) params text
-  pub wrote : Appends out_before out_after (text ++ 10 ∷ [])
+  pub drew : Draws status seed seeds_before seeds_after
+  pub ran : RunsOver (SealCallsFor line seed) SealRefuses status input_before input_after out_before out_after
 
--- the text is the input without a line feed at its end
-abbrev pub IsOneLine : List ℕ → List ℕ → Type 0
-IsOneLine input text =
-    (input ≡ text ++ 10 ∷ []) ⊎ ((input ≡ text) × ((front : List ℕ) → ¬ (input ≡ front ++ 10 ∷ [])))
+-- some text is the output, or memory was wanting for it
+abbrev pub WritesText : Status → Option (List ℕ) → Option (List ℕ) → Type 0
+WritesText Done before after = (text : List ℕ) × Writes Done before after text
+WritesText Usage before after = ⊥
+WritesText (Refused refusal) before after = ⊥
+WritesText ReadFault before after = ⊥
+WritesText WriteFault before after = (text : List ℕ) × Writes WriteFault before after text
+WritesText Memory before after = ⊤
 
--- what `open` read: its whole input, as one text
-pub record ReadsText (words : List (List ℕ)) (input_before input_after : Option (List ℕ)) (line : OpenLine) (text : List ℕ) : Type 0 where
-  pub spelled : IsOpenLine words line
-  pub input : List ℕ
-  pub given : HasGiven MOST_INPUT input_before input_after input
-  pub utf8 : IsUtf8 input
-  pub one_line : IsOneLine input text
+-- What a question for help or for the version brought about: nothing is read, and a text is the output. Where `clap` finds
+-- a fault beside the question, the words may be faulty.
+pub record AnswersWith (status : Status) (input_before input_after out_before out_after : Option (List ℕ)) : Type 0 where
+  pub unread : input_after ≡ input_before
+  pub wrote : WritesText status out_before out_after ⊎ (status ≡ Usage)
 
--- `open` read one text and wrote just the bytes that it opens to
-pub record OpensText (words : List (List ℕ)) (input_before input_after out_before out_after : Option (List ℕ)) : Type 0 where
-  pub line : OpenLine
-  pub text : List ℕ
-  pub read : ReadsText words input_before input_after line text
-  pub plain : List ℕ
-  pub opens : Opens text line.uuid (encryption_half line.key) (authentication_half line.key) plain
-  pub wrote : Appends out_before out_after plain
+-- what the words of a run of this status are; want of memory may come at any words
+abbrev pub AreWordsOf : Status → List (List ℕ) → Type 0
+AreWordsOf Done words = IsReading words ⊎ Asks words
+AreWordsOf Usage words = IsUsage words
+AreWordsOf (Refused refusal) words = IsReading words
+AreWordsOf ReadFault words = IsReading words
+AreWordsOf WriteFault words = IsReading words ⊎ Asks words
+AreWordsOf Memory words = ⊤
 
--- `open` read one text, which doesn't open for this cause
-pub record RefusesText (words : List (List ℕ)) (input_before input_after : Option (List ℕ)) (error : ItemError) : Type 0 where
-  pub line : OpenLine
-  pub text : List ℕ
-  pub read : ReadsText words input_before input_after line text
-  pub cause : HasCause text line.uuid (encryption_half line.key) (authentication_half line.key) error
-
--- `show` read its whole input, as one text
-pub record ReadsString (words : List (List ℕ)) (input_before input_after : Option (List ℕ)) (text : List ℕ) : Type 0 where
-  pub spelled : IsShowLine words
-  pub given : HasGiven MOST_INPUT input_before input_after text
-  pub utf8 : IsUtf8 text
-
--- and wrote the lines of its parts
-pub record ShowsText (words : List (List ℕ)) (input_before input_after out_before out_after : Option (List ℕ)) : Type 0 where
-  pub text : List ℕ
-  pub read : ReadsString words input_before input_after text
-  pub lines : List ℕ
-  pub shown : IsShown text lines
-  pub wrote : Appends out_before out_after lines
-
--- or the text is no 003 string, for this cause
-pub record RefusesForm (words : List (List ℕ)) (input_before input_after : Option (List ℕ)) (error : StringError) : Type 0 where
-  pub text : List ℕ
-  pub read : ReadsString words input_before input_after text
-  pub cause : Refuses (parts_of text) error
-
--- `replay` read its whole input, as one text
-pub record ReadsScript (words : List (List ℕ)) (input_before input_after : Option (List ℕ)) (text : List ℕ) : Type 0 where
-  pub spelled : IsReplayLine words
-  pub given : HasGiven MOST_INPUT input_before input_after text
-  pub utf8 : IsUtf8 text
-
--- and wrote the report that the text's script carries, from nothing
-pub record Replays (words : List (List ℕ)) (input_before input_after out_before out_after : Option (List ℕ)) : Type 0 where
-  pub text : List ℕ
-  pub read : ReadsScript words input_before input_after text
-  pub script : Script
-  pub is : IsScript text script.lines
-  pub bench : PlainBench
-  pub report : Report
-  pub carries : Carries script bench report
-  pub wrote : Appends out_before out_after (report_text report)
-
--- or the text is no script, for this cause: the number of its first line out of the grammar
-pub record RefusesScript (words : List (List ℕ)) (input_before input_after : Option (List ℕ)) (error : ScriptError) : Type 0 where
-  pub text : List ℕ
-  pub read : ReadsScript words input_before input_after text
-  pub cause : IsScriptRefusal text error
-  pub numbered : error ≢ script_error.Memory
-
--- the words ask for help or for the version; a text was written, and nothing read
-pub record Answers (words : List (List ℕ)) (input_before input_after out_before out_after : Option (List ℕ)) : Type 0 where
-  pub asks : AsksForHelp words ⊎ AsksForVersion words
-  pub input : input_after ≡ input_before
-  pub text : List ℕ
-  pub wrote : Appends out_before out_after text
-
--- what a run that is done did: one of these, by its words; only `seal` draws a seed
-unfoldable pub Does : (words : List (List ℕ)) (input_before input_after out_before out_after : Option (List ℕ))
-    (seeds_before seeds_after : Option (List (List ℕ))) → Type 0
-Does words input_before input_after out_before out_after seeds_before seeds_after =
-    Seals words input_before input_after out_before out_after seeds_before seeds_after
-    ⊎ ((seeds_after ≡ seeds_before)
-    × (OpensText words input_before input_after out_before out_after
-    ⊎ ShowsText words input_before input_after out_before out_after
-    ⊎ Replays words input_before input_after out_before out_after
-    ⊎ Answers words input_before input_after out_before out_after))
-
--- the words are a line of a command that reads its input
-abbrev pub IsReading : List (List ℕ) → Type 0
-IsReading words =
+-- the words are a line of a command to which this text is a right one
+abbrev pub Accepts : List (List ℕ) → List ℕ → Type 0
+Accepts words text =
     ((line : SealLine) × IsSealLine words line)
-    ⊎ ((line : OpenLine) × IsOpenLine words line)
-    ⊎ IsShowLine words
-    ⊎ IsReplayLine words
+    ⊎ ((line : OpenLine) × (plain : List ℕ) × IsOpenLine words line × OpenCallsFor line text plain)
+    ⊎ ((output : List ℕ) × IsShowLine words × IsShown text output)
+    ⊎ ((lines : List Line) × IsReplayLine words × IsScript text lines)
 
--- the whole input was read, and its longest UTF-8 prefix ends at this place
-pub record IsInputUtf8 (input_before input_after : Option (List ℕ)) (place : ℕ) : Type 0 where
-  pub input : List ℕ
-  pub given : HasGiven MOST_INPUT input_before input_after input
-  pub valid : IsValidTo input place
+-- a status that refuses what was given, or wants another line
+abbrev pub IsRefusal : Status → Type 0
+IsRefusal Done = ⊥
+IsRefusal Usage = ⊤
+IsRefusal (Refused refusal) = ⊤
+IsRefusal ReadFault = ⊥
+IsRefusal WriteFault = ⊥
+IsRefusal Memory = ⊥
+
+-- a status that comes of the input alone
+abbrev pub IsOfInput : Status → Type 0
+IsOfInput Done = ⊥
+IsOfInput Usage = ⊥
+IsOfInput (Refused refusal) = ⊤
+IsOfInput ReadFault = ⊤
+IsOfInput WriteFault = ⊥
+IsOfInput Memory = ⊥
+
+-- a status at which nothing was written to standard output
+abbrev pub IsSilent : Status → Type 0
+IsSilent Done = ⊥
+IsSilent Usage = ⊤
+IsSilent (Refused refusal) = ⊤
+IsSilent ReadFault = ⊤
+IsSilent WriteFault = ⊥
+IsSilent Memory = ⊤
+
+-- what a run did, whatever its words; each field is a clause of the top call
+pub record Meets (words : List (List ℕ)) (status : Status) (bench_before bench_after : PlainBench)
+    (input_before input_after out_before out_after : Option (List ℕ)) (seeds_before seeds_after : Option (List (List ℕ))) : Type 0 where
+  pub seal : (line : SealLine) → IsSealLine words line
+      → SealRuns line status input_before input_after out_before out_after seeds_before seeds_after
+  pub open_ : (line : OpenLine) → IsOpenLine words line
+      → RunsOver (OpenCallsFor line) (OpenRefuses line) status input_before input_after out_before out_after
+  pub show : IsShowLine words → RunsOver IsShown ShowRefuses status input_before input_after out_before out_after
+  pub replay : IsReplayLine words → RunsOver (ReplayCallsFor bench_after) ReplayRefuses status input_before input_after out_before out_after
+  pub help : Asks words → AnswersWith status input_before input_after out_before out_after
+  pub spelled : AreWordsOf status words
+  pub usage : IsUsage words → ¬ (Asks words) → (status ≡ Usage) ⊎ (status ≡ Memory)
+  pub unread : IsUsage words → input_after ≡ input_before
+  pub undrawn : ((line : SealLine) → ¬ (IsSealLine words line)) → seeds_after ≡ seeds_before
+  pub unplayed : ¬ (IsReplayLine words) → bench_after ≡ bench_before
+  pub no_script : IsOfInput status → bench_after ≡ bench_before

@@ -1,6 +1,7 @@
 // The command lines.
 ghost use Rattle.std.specs.Prelude.{◌≡◌, ℕ, List, codes, IsSome, IfSome, IfNone, IfOk, IfErr, IsTrue, ◌↔◌, ◌≤◌, length};
 ghost use Rattle.sn_string.specs.Bounds.{IsIdentifier, IsCost, IsNonce};
+ghost use Rattle.sn_cli.specs.Calls.{encryption_half, authentication_half};
 ghost use Rattle.sn_cli.specs.CommandLine.{SealLine, OpenLine, IsSealLine, IsOpenLine, GivesItem, GivesCost, GivesParams};
 ghost use Rattle.sn_cli.specs.Commands.{IsCommand, IsLineError};
 ghost use Rattle.sn_cli.specs.Given.{IsGivenBy};
@@ -21,6 +22,19 @@ const USUAL_COST: u32 = 110_000;
 pub struct ItemOptions {
     pub uuid: Uuid,
     pub key: [u8; 64],
+}
+
+/// The key that encrypts and the one that authenticates.
+pub fn halves(key: &[u8; 64]) -> ([u8; 32], [u8; 32])
+    ensures first { result.0 ≡ encryption_half key.now }
+    ensures second { result.1 ≡ authentication_half key.now }
+{
+    let (front, back) = key.split_at(32);
+    let mut first = [0u8; 32];
+    let mut second = [0u8; 32];
+    first.copy_from_slice(front);
+    second.copy_from_slice(back);
+    (first, second)
 }
 
 /// Auth parameters, within their bounds.

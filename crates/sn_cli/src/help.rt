@@ -1,9 +1,10 @@
 // The help and the version.
-ghost use Rattle.std.specs.Prelude.{◌≡◌, ◌⊎◌, ℕ, List};
-ghost use Rattle.std.specs.Io.KnownBytes.{Appends, Keeps};
+ghost use Rattle.std.specs.Prelude.{◌≡◌};
+ghost use Rattle.std.specs.Io.KnownBytes.{Keeps};
 ghost use Rattle.sn_io.specs.Causes.{Rose};
+ghost use Rattle.sn_cli.specs.Runs.{IsSilent, WritesText};
 
-use crate::commands::write_out;
+use crate::output::write_out;
 use crate::status::Status;
 use clap::Error;
 use sn_io::Sink;
@@ -11,10 +12,9 @@ use std::alloc::Global;
 
 /// Writes the text that the words ask for.
 pub fn answer_help<O: Sink>(alloc: Global, text: &Error, out: &mut O) -> Status
-    ensures done { result ≡ Status.Done → (text : List ℕ) × Appends (O.held out.old) (O.held out.new) text }
+    ensures wrote { WritesText result (O.held out.old) (O.held out.new) }
+    ensures silent { IsSilent result → Keeps (O.held out.old) (O.held out.new) }
     ensures write { result ≡ Status.WriteFault → Rose (O.fault_count out.old) (O.fault_count out.new) }
-    ensures memory { result ≡ Status.Memory → Keeps (O.held out.old) (O.held out.new) }
-    ensures only { (result ≡ Status.Done) ⊎ (result ≡ Status.WriteFault) ⊎ (result ≡ Status.Memory) }
 {
     match format!(in alloc; "{text}") {
         Ok(text) => write_out(out, text.as_bytes()),

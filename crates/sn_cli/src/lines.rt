@@ -1,17 +1,13 @@
 // The line of a status.
 ghost use Rattle.std.specs.Prelude.{◌≡◌, ◌⊎◌, IfOk, string_bytes};
 ghost use Rattle.sn_io.specs.Streams.{Tells};
-ghost use Rattle.sn_items.specs.declared.error.ItemError.{ItemError};
-ghost use Rattle.sn_script.specs.declared.script.ScriptError.{ScriptError};
-ghost use Rattle.sn_string.specs.declared.reader.StringError.{StringError};
-ghost use Rattle.sn_cli.specs.declared.status.Refusal.{Refusal};
-ghost use Rattle.sn_cli.specs.Lines.{line_of, refusal_text, item_text, form_text, script_text};
+ghost use Rattle.sn_cli.specs.declared.refusal.Refusal.{Refusal};
+ghost use Rattle.sn_cli.specs.Lines.{line_of, item_text, form_text};
 
-use crate::status::{Refusal, Status};
+use crate::refusal::{FormRefusal, ItemRefusal, Refusal};
+use crate::status::Status;
 use sn_io::{Sink, write_all};
-use sn_items::ItemError;
-use sn_script::ScriptError;
-use sn_string::{StringError, hex_text, uuid_text};
+use sn_string::{hex_text, uuid_text};
 use std::alloc::{AllocError, Global};
 
 /// Writes the line of a status. Where there is no memory for a refusal's line, the status is want of memory.
@@ -70,59 +66,48 @@ fn refusal_line(alloc: Global, refusal: &Refusal) -> Result<String, AllocError>
     let text = match refusal {
         Refusal::InputLong => format!(in alloc; "cli.1 InputLong")?,
         Refusal::InputUtf8 { place } => format!(in alloc; "cli.2 InputUtf8 {place}")?,
-        Refusal::Form(error) => form_line(alloc, error)?,
-        Refusal::Item(error) => item_line(alloc, error)?,
-        Refusal::Script(error) => script_line(alloc, error)?,
+        Refusal::Form(refusal) => form_line(alloc, refusal)?,
+        Refusal::Item(refusal) => item_line(alloc, refusal)?,
+        Refusal::Line { number } => format!(in alloc; "replay.1 Line {number}")?,
     };
     format!(in alloc; "sn: {text}\n")
 }
 
-fn item_line(alloc: Global, error: &ItemError) -> Result<String, AllocError>
-    ensures { IfOk result (λ line. string_bytes line ≡ item_text error.now) }
+fn item_line(alloc: Global, refusal: &ItemRefusal) -> Result<String, AllocError>
+    ensures { IfOk result (λ line. string_bytes line ≡ item_text refusal.now) }
 {
-    match error {
-        ItemError::Form(error) => form_line(alloc, error),
-        ItemError::OtherUuid { written } => {
+    match refusal {
+        ItemRefusal::Form(refusal) => form_line(alloc, refusal),
+        ItemRefusal::OtherUuid { written } => {
             let written = uuid_text(alloc, *written)?;
             format!(in alloc; "items.8 OtherUuid {written}")
         }
-        ItemError::HashMismatch { written, computed } => {
+        ItemRefusal::HashMismatch { written, computed } => {
             let written = hex_text(alloc, written)?;
             let computed = hex_text(alloc, computed)?;
             format!(in alloc; "items.9 HashMismatch {written} {computed}")
         }
-        ItemError::Padding => format!(in alloc; "items.10 Padding"),
-        ItemError::NotUtf8 { place } => format!(in alloc; "items.11 NotUtf8 {place}"),
-        ItemError::NotItemKey => format!(in alloc; "items.12 NotItemKey"),
-        ItemError::NotObject => format!(in alloc; "items.13 NotObject"),
-        ItemError::OtherSet { nonce } => {
+        ItemRefusal::Padding => format!(in alloc; "items.10 Padding"),
+        ItemRefusal::NotUtf8 { place } => format!(in alloc; "items.11 NotUtf8 {place}"),
+        ItemRefusal::NotItemKey => format!(in alloc; "items.12 NotItemKey"),
+        ItemRefusal::NotObject => format!(in alloc; "items.13 NotObject"),
+        ItemRefusal::OtherSet { nonce } => {
             let nonce = nonce.as_str();
             format!(in alloc; "items.14 OtherSet {nonce}")
         }
-        ItemError::Memory => format!(in alloc; "memory"),
     }
 }
 
-fn form_line(alloc: Global, error: &StringError) -> Result<String, AllocError>
-    ensures { IfOk result (λ line. string_bytes line ≡ form_text error.now) }
+fn form_line(alloc: Global, refusal: &FormRefusal) -> Result<String, AllocError>
+    ensures { IfOk result (λ line. string_bytes line ≡ form_text refusal.now) }
 {
-    match error {
-        StringError::Parts { count } => format!(in alloc; "string.1 Parts {count}"),
-        StringError::Version { place } => format!(in alloc; "string.2 Version {place}"),
-        StringError::Hash { place } => format!(in alloc; "string.3 Hash {place}"),
-        StringError::Uuid { place } => format!(in alloc; "string.4 Uuid {place}"),
-        StringError::Iv { place } => format!(in alloc; "string.5 Iv {place}"),
-        StringError::Ciphertext { place } => format!(in alloc; "string.6 Ciphertext {place}"),
-        StringError::Params { place } => format!(in alloc; "string.7 Params {place}"),
-        StringError::Memory => format!(in alloc; "memory"),
-    }
-}
-
-fn script_line(alloc: Global, error: &ScriptError) -> Result<String, AllocError>
-    ensures { IfOk result (λ line. string_bytes line ≡ script_text error.now) }
-{
-    match error {
-        ScriptError::Line { number } => format!(in alloc; "replay.1 Line {number}"),
-        ScriptError::Memory => format!(in alloc; "memory"),
+    match refusal {
+        FormRefusal::Parts { count } => format!(in alloc; "string.1 Parts {count}"),
+        FormRefusal::Version { place } => format!(in alloc; "string.2 Version {place}"),
+        FormRefusal::Hash { place } => format!(in alloc; "string.3 Hash {place}"),
+        FormRefusal::Uuid { place } => format!(in alloc; "string.4 Uuid {place}"),
+        FormRefusal::Iv { place } => format!(in alloc; "string.5 Iv {place}"),
+        FormRefusal::Ciphertext { place } => format!(in alloc; "string.6 Ciphertext {place}"),
+        FormRefusal::Params { place } => format!(in alloc; "string.7 Params {place}"),
     }
 }

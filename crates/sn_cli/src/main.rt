@@ -2,52 +2,64 @@
 #![tactic(auto)]
 
 mod command_line;
-mod commands;
 mod given;
 mod help;
 mod input;
 mod lines;
 mod number;
+mod opening;
+mod output;
 mod outside;
 mod program;
+mod refusal;
 mod replaying;
+mod sealing;
 mod showing;
 mod status;
+#[cfg(test)]
+mod stream_tests;
 mod syntax;
 #[cfg(test)]
 mod tests;
+mod words;
 
 use outside::{DrawnSeed, Input, Output};
 use program::run;
 use rand_chacha::ChaCha20Rng;
 use rand_core::Rng;
+use sn_replay::PlainBench;
 use status::Status;
 use std::io;
 use std::process::ExitCode;
 use std::random::RandomSource;
+use words::{arguments, status_without_words};
 
 fn main(rt: HostRuntime) -> ExitCode {
-    let mut err = Output::new(rt.stderr());
-    let Ok(seed) = system_seed(&rt) else {
-        lines::tell(rt.alloc(), &mut err, Status::ReadFault);
-        return ExitCode::from(Status::ReadFault.code());
+    let status = match arguments(&rt) {
+        Ok(words) => run_on_streams(&rt, &words),
+        Err(error) => told(&rt, status_without_words(&error)),
     };
-    let Ok(words) = arguments(&rt) else {
-        lines::tell(rt.alloc(), &mut err, Status::Memory);
-        return ExitCode::from(Status::Memory.code());
-    };
-    let mut input = Input::new(rt.reader());
-    let mut out = Output::new(rt.stdout());
-    let mut seeds = DrawnSeed::new(seed);
-    let status = run(
-        rt.alloc(),
-        &words,
-        &mut input,
-        &mut out,
-        &mut err,
-        &mut seeds,
-    );
     ExitCode::from(status.code())
+}
+
+fn run_on_streams(rt: &HostRuntime, words: &[String]) -> Status {
+    let Ok(seed) = system_seed(rt) else {
+        return told(rt, Status::ReadFault);
+    };
+    run(
+        rt.alloc(),
+        words,
+        &mut PlainBench::new(rt.alloc()),
+        &mut Input::new(rt.reader()),
+        &mut Output::new(rt.stdout()),
+        &mut Output::new(rt.stderr()),
+        &mut DrawnSeed::new(seed),
+    )
+}
+
+// The status, once its line is written.
+fn told(rt: &HostRuntime, status: Status) -> Status {
+    lines::tell(rt.alloc(), &mut Output::new(rt.stderr()), status)
 }
 
 fn system_seed(rt: &impl RandomSource) -> io::Result<[u8; 32]> {
@@ -55,9 +67,4 @@ fn system_seed(rt: &impl RandomSource) -> io::Result<[u8; 32]> {
     let mut seed = [0u8; 32];
     generator.fill_bytes(&mut seed);
     Ok(seed)
-}
-
-fn arguments(rt: &HostRuntime) -> io::Result<Vec<String>> {
-    let words = std::env::args(rt)?.skip(1).collect(rt.alloc())?;
-    Ok(words)
 }

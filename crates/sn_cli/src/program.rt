@@ -1,91 +1,91 @@
 // The top call.
-ghost use Rattle.std.specs.Prelude.{◌≡◌, ◌⊎◌, ◌+◌, ◌↔◌, ℕ, List};
+ghost use Rattle.std.specs.Prelude.{◌≡◌, ◌⊎◌, List, ℕ};
 ghost use Rattle.std.specs.Io.KnownBytes.{Keeps};
 ghost use Rattle.sn_io.specs.Causes.{Rose};
-ghost use Rattle.sn_io.specs.Streams.{GivesPart, Tells};
-ghost use Rattle.sn_items.specs.declared.error.ItemError.{ItemError};
-ghost use Rattle.sn_script.specs.declared.script.ScriptError.{ScriptError};
-ghost use Rattle.sn_string.specs.declared.reader.StringError.{StringError};
-ghost use Rattle.sn_cli.specs.CommandLine.{SealLine, IsSealLine, IsUsage};
-ghost use Rattle.sn_cli.specs.Lines.{line_of, IsOfInput, IsSilent};
-ghost use Rattle.sn_cli.specs.Runs.{MOST_INPUT, Does, RefusesText, RefusesForm, RefusesScript, IsInputUtf8, IsReading};
-ghost use Rattle.sn_cli.specs.Syntax.{AsksForHelp, AsksForVersion};
+ghost use Rattle.sn_io.specs.Streams.{Tells};
+ghost use Rattle.sn_replay.specs.Benches.{IsFresh};
+ghost use Rattle.sn_cli.specs.Calls.{OpenCallsFor, OpenRefuses, ReplayCallsFor, ReplayRefuses, ShowRefuses};
+ghost use Rattle.sn_cli.specs.CommandLine.{SealLine, OpenLine, Asks, IsSealLine, IsOpenLine, IsShowLine, IsReplayLine, IsUsage};
+ghost use Rattle.sn_cli.specs.Inputs.{HasText};
+ghost use Rattle.sn_cli.specs.Lines.{line_of};
+ghost use Rattle.sn_cli.specs.Runs.{Accepts, AnswersWith, AreWordsOf, IsOfInput, IsRefusal, IsSilent, Meets, RunsOver, SealRuns};
+ghost use Rattle.sn_cli.specs.Shown.{IsShown};
 ghost use Rattle.sn_cli.specs.Words.{texts};
 
 use crate::command_line::{Command, LineError, command_of};
-use crate::commands::{open_input, seal_input};
 use crate::help::answer_help;
 use crate::lines::tell;
+use crate::opening::open_input;
 use crate::replaying::replay_input;
+use crate::sealing::seal_input;
 use crate::showing::show_input;
-use crate::status::{Refusal, Status};
+use crate::status::Status;
 use sn_io::{Seeds, Sink, Source};
+use sn_items::sealed_opens;
+use sn_replay::PlainBench;
+use sn_string::laws::read_back;
 use std::alloc::Global;
 
-/// Carries out the command that the words spell, over the input, the two outputs and the seeds that are handed in.
+/// Carries out the command that the words spell, over the bench, the input, the two outputs and the seeds that are
+/// handed in. `bench` has both ends of a replay.
 pub fn run<I: Source, O: Sink, E: Sink, R: Seeds>(
     alloc: Global,
     words: &[String],
+    bench: &mut PlainBench,
     input: &mut I,
     out: &mut O,
     err: &mut E,
     seeds: &mut R,
 ) -> Status
-    ensures usage { result ≡ Status.Usage → IsUsage (texts words.now) }
-    ensures spelled { IsUsage (texts words.now) → ¬ (AsksForHelp (texts words.now)) → ¬ (AsksForVersion (texts words.now))
-        → (result ≡ Status.Usage) ⊎ (result ≡ Status.Memory) }
-    ensures untouched { result ≡ Status.Usage → (I.left input.new ≡ I.left input.old) × (R.given seeds.new ≡ R.given seeds.old) }
-    ensures undrawn { ((line : SealLine) → ¬ (IsSealLine (texts words.now) line)) → R.given seeds.new ≡ R.given seeds.old }
-    ensures reads { IsOfInput result → IsReading (texts words.now) }
-    ensures done { result ≡ Status.Done → Does (texts words.now) (I.left input.old) (I.left input.new) (O.held out.old) (O.held out.new)
-        (R.given seeds.old) (R.given seeds.new) }
+    requires fresh { IsFresh bench.old }
 
-    // A refusal comes by its cause, and nothing is written.
-    ensures item { (error : ItemError) → result ≡ Status.Refused (Refusal.Item error)
-        → RefusesText (texts words.now) (I.left input.old) (I.left input.new) error }
-    ensures form { (error : StringError) → result ≡ Status.Refused (Refusal.Form error)
-        → RefusesForm (texts words.now) (I.left input.old) (I.left input.new) error }
-    ensures script { (error : ScriptError) → result ≡ Status.Refused (Refusal.Script error)
-        → RefusesScript (texts words.now) (I.left input.old) (I.left input.new) error }
-    ensures long { result ≡ Status.Refused Refusal.InputLong → GivesPart (I.left input.old) (I.left input.new) (MOST_INPUT + 1) }
-    ensures utf8 { (place : ℕ) → result ≡ Status.Refused (Refusal.InputUtf8 place)
-        → IsInputUtf8 (I.left input.old) (I.left input.new) place }
+    // What each line calls for of its input, and how much of it was appended.
+    ensures seal { (line : SealLine) → IsSealLine (texts words.now) line → SealRuns line result
+        (I.left input.old) (I.left input.new) (O.held out.old) (O.held out.new) (R.given seeds.old) (R.given seeds.new) }
+    ensures open { (line : OpenLine) → IsOpenLine (texts words.now) line → RunsOver (OpenCallsFor line) (OpenRefuses line) result
+        (I.left input.old) (I.left input.new) (O.held out.old) (O.held out.new) }
+    ensures show { IsShowLine (texts words.now) → RunsOver IsShown ShowRefuses result
+        (I.left input.old) (I.left input.new) (O.held out.old) (O.held out.new) }
+    ensures replay { IsReplayLine (texts words.now) → RunsOver (ReplayCallsFor bench.new) ReplayRefuses result
+        (I.left input.old) (I.left input.new) (O.held out.old) (O.held out.new) }
+    ensures help { Asks (texts words.now) → AnswersWith result (I.left input.old) (I.left input.new) (O.held out.old) (O.held out.new) }
+
+    // The words of each status, and the status of words that are no line.
+    ensures spelled { AreWordsOf result (texts words.now) }
+    ensures usage { IsUsage (texts words.now) → ¬ (Asks (texts words.now)) → (result ≡ Status.Usage) ⊎ (result ≡ Status.Memory) }
+
+    // A text to which the line is a right one isn't refused.
+    ensures accepted { (text : List ℕ) → HasText (I.left input.old) text → Accepts (texts words.now) text → ¬ (IsRefusal result) }
+
+    // What stays as it was.
+    ensures unread { IsUsage (texts words.now) → I.left input.new ≡ I.left input.old }
+    ensures undrawn { ((line : SealLine) → ¬ (IsSealLine (texts words.now) line)) → R.given seeds.new ≡ R.given seeds.old }
+    ensures unplayed { ¬ (IsReplayLine (texts words.now)) → bench.new ≡ bench.old }
+    ensures no_script { IsOfInput result → bench.new ≡ bench.old }
     ensures silent { IsSilent result → Keeps (O.held out.old) (O.held out.new) }
 
     ensures read { result ≡ Status.ReadFault → Rose (I.fault_count input.old) (I.fault_count input.new) }
     ensures write { result ≡ Status.WriteFault → Rose (O.fault_count out.old) (O.fault_count out.new) }
     ensures told { Tells (E.held err.old) (E.held err.new) (E.fault_count err.old) (E.fault_count err.new) (line_of result) }
 {
-    let status = answer(alloc, words, input, out, seeds);
+    sealed_opens();
+    read_back();
+    let status = answer(alloc, words, bench, input, out, seeds);
     tell(alloc, err, status)
 }
 
 // All but the line.
-#[tactic(auto, unfolding(crate::specs::Runs::Does))]
 fn answer<I: Source, O: Sink, R: Seeds>(
     alloc: Global,
     words: &[String],
+    bench: &mut PlainBench,
     input: &mut I,
     out: &mut O,
     seeds: &mut R,
 ) -> Status
-    ensures usage { result ≡ Status.Usage → IsUsage (texts words.now) }
-    ensures spelled { IsUsage (texts words.now) → ¬ (AsksForHelp (texts words.now)) → ¬ (AsksForVersion (texts words.now))
-        → (result ≡ Status.Usage) ⊎ (result ≡ Status.Memory) }
-    ensures untouched { result ≡ Status.Usage → (I.left input.new ≡ I.left input.old) × (R.given seeds.new ≡ R.given seeds.old) }
-    ensures undrawn { ((line : SealLine) → ¬ (IsSealLine (texts words.now) line)) → R.given seeds.new ≡ R.given seeds.old }
-    ensures reads { IsOfInput result → IsReading (texts words.now) }
-    ensures done { result ≡ Status.Done → Does (texts words.now) (I.left input.old) (I.left input.new) (O.held out.old) (O.held out.new)
+    requires fresh { IsFresh bench.old }
+    ensures met { Meets (texts words.now) result bench.old bench.new (I.left input.old) (I.left input.new) (O.held out.old) (O.held out.new)
         (R.given seeds.old) (R.given seeds.new) }
-    ensures item { (error : ItemError) → result ≡ Status.Refused (Refusal.Item error)
-        → RefusesText (texts words.now) (I.left input.old) (I.left input.new) error }
-    ensures form { (error : StringError) → result ≡ Status.Refused (Refusal.Form error)
-        → RefusesForm (texts words.now) (I.left input.old) (I.left input.new) error }
-    ensures script { (error : ScriptError) → result ≡ Status.Refused (Refusal.Script error)
-        → RefusesScript (texts words.now) (I.left input.old) (I.left input.new) error }
-    ensures long { result ≡ Status.Refused Refusal.InputLong → GivesPart (I.left input.old) (I.left input.new) (MOST_INPUT + 1) }
-    ensures utf8 { (place : ℕ) → result ≡ Status.Refused (Refusal.InputUtf8 place)
-        → IsInputUtf8 (I.left input.old) (I.left input.new) place }
     ensures silent { IsSilent result → Keeps (O.held out.old) (O.held out.new) }
     ensures read { result ≡ Status.ReadFault → Rose (I.fault_count input.old) (I.fault_count input.new) }
     ensures write { result ≡ Status.WriteFault → Rose (O.fault_count out.old) (O.fault_count out.new) }
@@ -96,7 +96,7 @@ fn answer<I: Source, O: Sink, R: Seeds>(
         Ok(Command::Seal(item, params)) => seal_input(alloc, &item, &params, input, out, seeds),
         Ok(Command::Open(item)) => open_input(alloc, &item, input, out),
         Ok(Command::Show) => show_input(alloc, input, out),
-        Ok(Command::Replay) => replay_input(alloc, input, out),
+        Ok(Command::Replay) => replay_input(alloc, bench, input, out),
         Ok(Command::Help(text)) => answer_help(alloc, &text, out),
         Ok(Command::Version(text)) => answer_help(alloc, &text, out),
     }

@@ -1,55 +1,44 @@
-// `show`: the parts of a 003 string.
-ghost use Rattle.std.specs.Prelude.{◌≡◌, ◌+◌, ◌≢◌, ℕ, List, IfOk, length, string_bytes};
+// `show`.
+ghost use Rattle.std.specs.Prelude.{◌≡◌, ◌+◌, ℕ, List, IfOk, length, string_bytes};
 ghost use Rattle.std.specs.Io.KnownBytes.{Keeps};
 ghost use Rattle.sn_io.specs.Causes.{Rose};
-ghost use Rattle.sn_io.specs.Streams.{GivesPart};
-ghost use Rattle.sn_items.specs.declared.error.ItemError.{ItemError};
-ghost use Rattle.sn_script.specs.declared.script.ScriptError.{ScriptError};
 ghost use Rattle.sn_string.specs.Base64.{IsBase64};
 ghost use Rattle.sn_string.specs.Grammar.{IsCiphertext};
 ghost use Rattle.sn_string.specs.Parts.{reading_of};
-ghost use Rattle.sn_string.specs.declared.reader.StringError.{StringError};
-ghost use Rattle.sn_cli.specs.CommandLine.{IsShowLine};
-ghost use Rattle.sn_cli.specs.Lines.{IsSilent};
-ghost use Rattle.sn_cli.specs.Runs.{MOST_INPUT, ShowsText, RefusesForm, IsInputUtf8};
-ghost use Rattle.sn_cli.specs.Shown.{json_text, salt_json, parts_lines, params_lines, shown_lines};
+ghost use Rattle.sn_cli.specs.Calls.{ShowRefuses};
+ghost use Rattle.sn_cli.specs.Runs.{IsSilent, RunsOver};
+ghost use Rattle.sn_cli.specs.Shown.{IsShown, json_text, salt_json, parts_lines, params_lines, shown_lines};
 
-use crate::commands::{status_of, write_out};
 use crate::input::input_text;
-use crate::status::{Refusal, Status};
+use crate::output::write_out;
+use crate::refusal::{Refusal, form_refusal};
+use crate::status::Status;
 use serde_json::Value;
 use sn_io::{Sink, Source};
 use sn_keys::salt_text;
-use sn_string::{Params, Parts, StringError, base64_bytes, read};
+use sn_string::{Params, Parts, base64_bytes, read};
 use std::alloc::{AllocError, Global};
 
-/// `show`: the parts of the input's one 003 string, a line each.
+/// Writes the parts of the input's one 003 string, a line each.
 pub fn show_input<I: Source, O: Sink>(alloc: Global, input: &mut I, out: &mut O) -> Status
-    ensures done { result ≡ Status.Done → (words : List (List ℕ)) → IsShowLine words
-        → ShowsText words (I.left input.old) (I.left input.new) (O.held out.old) (O.held out.new) }
-    ensures form { (error : StringError) → result ≡ Status.Refused (Refusal.Form error) → (words : List (List ℕ))
-        → IsShowLine words → RefusesForm words (I.left input.old) (I.left input.new) error }
-    ensures item { (error : ItemError) → result ≢ Status.Refused (Refusal.Item error) }
-    ensures script { (error : ScriptError) → result ≢ Status.Refused (Refusal.Script error) }
-    ensures usage { result ≢ Status.Usage }
-    ensures long { result ≡ Status.Refused Refusal.InputLong → GivesPart (I.left input.old) (I.left input.new) (MOST_INPUT + 1) }
-    ensures utf8 { (place : ℕ) → result ≡ Status.Refused (Refusal.InputUtf8 place)
-        → IsInputUtf8 (I.left input.old) (I.left input.new) place }
+    ensures ran { RunsOver IsShown ShowRefuses result (I.left input.old) (I.left input.new) (O.held out.old) (O.held out.new) }
     ensures silent { IsSilent result → Keeps (O.held out.old) (O.held out.new) }
     ensures read { result ≡ Status.ReadFault → Rose (I.fault_count input.old) (I.fault_count input.new) }
     ensures write { result ≡ Status.WriteFault → Rose (O.fault_count out.old) (O.fault_count out.new) }
 {
     let text = match input_text(alloc, input) {
         Ok(text) => text,
-        Err(error) => return status_of(error),
+        Err(status) => return status,
     };
     match read(alloc, &text) {
         Ok(parts) => match lines(alloc, &parts) {
             Ok(lines) => write_out(out, lines.as_bytes()),
             Err(AllocError) => Status::Memory,
         },
-        Err(StringError::Memory) => Status::Memory,
-        Err(error) => Status::Refused(Refusal::Form(error)),
+        Err(error) => match form_refusal(error) {
+            Some(refusal) => Status::Refused(Refusal::Form(refusal)),
+            None => Status::Memory,
+        },
     }
 }
 

@@ -1,24 +1,7 @@
 // What a run answers.
 ghost use Rattle.std.specs.Prelude.{◌≡◌};
 
-use sn_items::ItemError;
-use sn_script::ScriptError;
-use sn_string::StringError;
-
-/// Why a command was refused.
-#[derive(Debug, Drop)]
-pub enum Refusal {
-    /// The input has more than 16,777,216 bytes.
-    InputLong,
-    /// The input isn't UTF-8; the length of its longest prefix that is.
-    InputUtf8 { place: usize },
-    /// The input is no 003 string.
-    Form(StringError),
-    /// The string doesn't open.
-    Item(ItemError),
-    /// The input is no script.
-    Script(ScriptError),
-}
+use crate::refusal::Refusal;
 
 /// The outcome of a run. Each but the first has a line on standard error.
 #[derive(Debug, Drop)]

@@ -41,15 +41,17 @@ const NONCE: &str = "The account's nonce, 1 to 256 bytes";
 pub fn sn<'a>(alloc: Global) -> Result<Command<'a>, AllocError>
     ensures { IfOk result (λ command. app_of command ≡ sn_app) }
 {
-    let command = with_command(top(alloc), seal(alloc)?)?;
+    let command = top(alloc)?;
+    let command = with_command(command, seal(alloc)?)?;
     let command = with_command(command, open_one(alloc)?)?;
     let command = with_command(command, show(alloc))?;
     with_command(command, replay(alloc))
 }
 
+// The name is also that in the usage lines of the commands, since no word names the program.
 #[tactic(auto, unfolding(crate::specs::Syntax::sn_top))]
-fn top<'a>(alloc: Global) -> Command<'a>
-    ensures { app_of result ≡ sn_top }
+fn top<'a>(alloc: Global) -> Result<Command<'a>, AllocError>
+    ensures { IfOk result (λ command. app_of command ≡ sn_top) }
 {
     Command::new(alloc, "sn")
         .version("0.1.0")
@@ -58,6 +60,7 @@ fn top<'a>(alloc: Global) -> Command<'a>
         .no_binary_name(true)
         .subcommand_required(true)
         .disable_help_subcommand(true)
+        .bin_name("sn")
 }
 
 #[tactic(auto, unfolding(crate::specs::Syntax::seal_shape))]

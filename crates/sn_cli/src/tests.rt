@@ -4,6 +4,7 @@
 use crate::program::run;
 use crate::status::Status;
 use sn_io::{MemSeeds, MemSink, MemSource};
+use sn_replay::PlainBench;
 use std::alloc::Global;
 use std::test::Fail;
 
@@ -38,6 +39,8 @@ const OPEN_OTHER: &[&str] = &[
 ];
 
 const NONE: &[&str] = &[];
+
+const VERSION: &[&str] = &["--version"];
 
 const SHORT: &[&str] = &[
     "seal",
@@ -123,7 +126,27 @@ struct Case {
     err: &'static [u8],
 }
 
-static CASES: [Case; 35] = [
+static CASES: [Case; 37] = [
+    Case {
+        name: "the version",
+        words: VERSION,
+        input: b"x",
+        failing_reads: &[0],
+        failing_writes: &[],
+        status: 0,
+        out: b"sn 0.1.0\n",
+        err: b"",
+    },
+    Case {
+        name: "the version: the first write fails",
+        words: VERSION,
+        input: b"x",
+        failing_reads: &[],
+        failing_writes: &[0],
+        status: 7,
+        out: b"",
+        err: b"sn: write fault\n",
+    },
     Case {
         name: "the empty text",
         words: SEAL,
@@ -573,7 +596,10 @@ fn outcome_of(alloc: Global, case: &Case) -> Result<Outcome, Fail> {
     let mut out = MemSink::new(alloc, 50, failing_writes);
     let mut err = MemSink::new(alloc, 7, Vec::new(alloc));
     let mut seeds = MemSeeds::new(Vec::new(alloc));
-    let status = run(alloc, &words, &mut input, &mut out, &mut err, &mut seeds);
+    let mut bench = PlainBench::new(alloc);
+    let status = run(
+        alloc, &words, &mut bench, &mut input, &mut out, &mut err, &mut seeds,
+    );
     Ok(Outcome { status, out, err })
 }
 

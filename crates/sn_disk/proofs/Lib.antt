@@ -1,3 +1,3 @@
-pub mod Moments
 pub mod Records
 pub mod Shelves
+pub mod Stops

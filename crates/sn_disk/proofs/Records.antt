@@ -8,7 +8,7 @@ use Rattle.sn_disk.specs.Steps.{Step, write_step, cut_step, sync_step, stop_step
 use Rattle.sn_disk.specs.Images.{left_of, image_of, image_now, image_in}
 use Rattle.sn_disk.specs.declared.images.CrashImage.{CrashImage}
 use Rattle.sn_disk.specs.declared.images.CrashImage.TheVariants.{Old, New, Filled}
-use Rattle.sn_disk.proofs.Moments.{torn_refl}
+use Rattle.sn_disk.specs.Moments.{torn_refl}
 
 -- the newest step stands first
 newest : (steps : List Step) (step : Step) → reverse (steps ++ step ∷ []) ≡ step ∷ reverse steps

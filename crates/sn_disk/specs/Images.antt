@@ -1,12 +1,12 @@
 -- The bytes that a crash leaves by a choice, and when a disk in memory stops.
-use Rattle.std.specs.Prelude.{◌-◌, ◌==◌, ℕ, List, [], ◌∷◌, length, take, replicate, reverse, Some, None, ⊤, if◌then◌else◌}
+use Rattle.std.specs.Prelude.{◌-◌, ◌==◌, ℕ, List, [], ◌∷◌, length, take, replicate, reverse, Some, None, if◌then◌else◌}
 use Rattle.std.specs.declared.option.Option.{Option}
 use Rattle.sn_disk.specs.Disk.{overwritten}
 use Rattle.sn_disk.specs.Steps.{Step, write_step, cut_step, sync_step, stop_step, replayed, Told}
 use Rattle.sn_disk.specs.declared.images.CrashImage.{CrashImage}
 use Rattle.sn_disk.specs.declared.images.CrashImage.TheVariants.{Old, New, Filled}
 use Rattle.sn_disk.specs.declared.images.Stop.{Stop}
-use Rattle.sn_disk.specs.declared.images.Stop.TheVariants.{Never, After, Reached}
+use Rattle.sn_disk.specs.declared.images.Stop.TheVariants.{Never, After}
 
 -- what an unsynced step leaves of these bytes: nothing of it, all of it, or all of it with another byte in each
 -- place that it wrote
@@ -36,20 +36,12 @@ image_now image told = image_of image told.start (reverse told.steps)
 abbrev pub image_in : CrashImage → Told → Step → List ℕ
 image_in image told step = left_of image (image_now image told) step
 
--- it hasn't stopped
-abbrev pub IsAwake : Stop → Type 0
-IsAwake Never = ⊤
-IsAwake (After calls image) = ⊤
-IsAwake Reached = ⊥
-
 -- the image that is left if the next changing call is the one to stop in
 abbrev pub due : Stop → Option CrashImage
 due Never = None
 due (After calls image) = if calls == 0 then Some image else None
-due Reached = None
 
 -- one changing call nearer
 abbrev pub nearer : Stop → Stop
 nearer Never = Never
 nearer (After calls image) = After (calls - 1) image
-nearer Reached = Reached

@@ -1,10 +1,10 @@
 -- The laws of a disk in memory.
-use Rattle.std.specs.Prelude.{◌≡◌, ◌⊎◌, ◌<◌, ◌≤◌, ◌+◌, ◌-◌, ℕ, List, [], ◌∷◌, ◌++◌, length, take, drop, reverse}
+use Rattle.std.specs.Prelude.{◌≡◌, ◌⊎◌, ◌<◌, ◌≤◌, ◌+◌, ◌-◌, ℕ, List, [], ◌∷◌, ◌++◌, length, take, drop, reverse, IsTrue}
 use Rattle.std.proofs.Common.{inl, inr, refl, sym, ◌∙◌, ap, subst, arith, length-append, length-take, length-drop, append_assoc}
 use Rattle.std.proofs.lemmas.List.{take_all, take_min, take_at, drop_at, drop_all, drop-take}
 use Rattle.std.proofs.lemmas.Bool.{cases_lt}
-use Rattle.sn_disk.specs.Disk.{overwritten, Torn, Cut}
-use Rattle.sn_disk.specs.Steps.{Step, write_step, cut_step, sync_step, stop_step, replayed, Reaches, Told, IsKept, Leaves, LeftSince}
+use Rattle.sn_disk.specs.Disk.{overwritten, Torn, Cut, Only}
+use Rattle.sn_disk.specs.Steps.{Step, write_step, cut_step, sync_step, stop_step, replayed, Reaches, Told, IsKept, Leaves, LeftSince, ends_in_stop}
 
 rest_whole : (n : ℕ) (front rest old : List ℕ) → rest ≡ drop n old → (n ≤ length old → length front ≡ n) → (length old < n) ⊎ (n ≤ length old) → drop n (take (length old) (front ++ rest)) ≡ drop n old
 rest_whole n front rest old is long (inr le) =
@@ -46,3 +46,14 @@ now_counts told t c le here = (length told.steps, le, omega arith, subst (λ (l 
 
 pub now_only : (told : Told) (c : List ℕ) → LeftSince told (length told.steps) c → Leaves told c
 now_only told c left = subst (λ (l : List Step). Reaches told.start (reverse l) c) (take_all left.0 told.steps left.1) left.3
+
+-- a disk that stopped last leaves what reads give
+pub stop_leaves : (start : List ℕ) (steps : List Step) (c : List ℕ) → IsTrue (ends_in_stop steps) → Reaches start steps c → c ≡ replayed start steps
+stop_leaves start [] c ends left = absurd cc
+stop_leaves start (write_step at bytes ∷ earlier) c ends left = absurd cc
+stop_leaves start (cut_step len ∷ earlier) c ends left = absurd cc
+stop_leaves start (sync_step ∷ earlier) c ends left = left
+stop_leaves start (stop_step bytes ∷ earlier) c ends left = left
+
+pub stopped_leaves : (told : Told) → IsKept told → IsTrue (ends_in_stop (reverse told.steps)) → Only told.bytes (Leaves told)
+stopped_leaves told kept ends = λ c left. stop_leaves told.start (reverse told.steps) c ends left ∙ sym kept

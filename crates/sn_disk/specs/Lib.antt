@@ -1,8 +1,10 @@
+pub mod Courses
 pub mod Disk
+pub mod Growth
 pub mod Images
 pub mod Laws
 pub mod MemDisk
 pub mod MemShelf
-pub mod Names
+pub mod Moments
 pub mod Shelf
 pub mod Steps

@@ -1,5 +1,5 @@
 -- The record of a disk in memory, as contracts see it.
-use Rattle.std.specs.Prelude.{◌≡◌, ◌≤◌, ℕ, List, [], ◌∷◌, ◌++◌, length, take, reverse, ⊤}
+use Rattle.std.specs.Prelude.{◌≡◌, ◌≤◌, ℕ, List, [], ◌∷◌, ◌++◌, length, take, reverse, Bool, true, false, ⊤}
 use Rattle.sn_disk.specs.Disk.{overwritten, Torn, Cut}
 use Rattle.sn_disk.specs.declared.calls.Call.{Call}
 use Rattle.sn_disk.specs.declared.calls.Call.TheVariants.{Wrote, WasCut, Synced, Stopped}
@@ -65,9 +65,21 @@ Leaves told c = Reaches told.start (reverse told.steps) c
 abbrev pub LeftSince : Told → ℕ → List ℕ → Type 0
 LeftSince told t c = (k : ℕ) × (t ≤ k) × (k ≤ length told.steps) × Reaches told.start (reverse (take k told.steps)) c
 
+-- what a crash at this moment might have left
+abbrev pub LeftAt : Told → ℕ → List ℕ → Type 0
+LeftAt told t c = Reaches told.start (reverse (take t told.steps)) c
+
 -- one step more
 abbrev pub with_step : Told → Step → Told
 with_step told step = record { start = told.start; bytes = after_step told.bytes step; steps = told.steps ++ step ∷ [] }
+
+-- the newest of these steps is a stop
+abbrev pub ends_in_stop : List Step → Bool
+ends_in_stop [] = false
+ends_in_stop (write_step at bytes ∷ earlier) = false
+ends_in_stop (cut_step len ∷ earlier) = false
+ends_in_stop (sync_step ∷ earlier) = false
+ends_in_stop (stop_step left ∷ earlier) = true
 
 -- its bytes are those that its steps give
 abbrev pub IsKept : Told → Type 0

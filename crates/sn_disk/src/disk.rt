@@ -1,10 +1,11 @@
 // What is asked of a disk.
 ghost use Rattle.std.specs.Prelude.{◌≡◌, ◌+◌, ◌≤◌, ◌<◌, ◌^◌, List, ℕ, length, take, drop, IfOk, OnOk};
-ghost use Rattle.sn_disk.specs.Disk.{overwritten, Only, Follows, Torn, Cut, Elapses};
+ghost use Rattle.sn_disk.specs.Disk.{overwritten, Only, Follows, Torn, Cut, Elapses, Counts, Growing};
 ghost use Rattle.sn_io.specs.Causes.{HasCause};
 
 use sn_io::Failed;
 
+/// A disk. Its changing calls are `write_at`, `cut` and `sync`.
 pub trait Disk {
     /// Whether it tells its bytes, as one in memory does. Of one that doesn't, only faults are said.
     ghost told: { Type 0 };
@@ -15,7 +16,7 @@ pub trait Disk {
     /// What a crash at this moment may leave.
     ghost may_leave: { Self → List ℕ → Type 0 };
 
-    /// The moment, as a number that doesn't fall.
+    /// The moment, as the number of changing calls that were made or stopped in.
     ghost moment: { Self → ℕ };
 
     /// What a crash at some moment from that one on might have left, during a call or between two.
@@ -23,6 +24,9 @@ pub trait Disk {
 
     /// How often it has failed.
     ghost fault_count: { Self → ℕ };
+
+    /// It is the same disk, and between its two states it was only called.
+    ghost grows: { Self → Self → Type 0 };
 
     fn faults(&self) -> u64
         ensures { result ≡ fault_count self.now };
@@ -32,7 +36,10 @@ pub trait Disk {
         ensures seen { told → seen self.new ≡ seen self.old }
         ensures crash { told → (c : List ℕ) → may_leave self.new c → may_leave self.old c }
         ensures time { told → Elapses (moment self.old) (moment self.new) (left_since self.old) (left_since self.new) (may_leave self.new) }
-        ensures cause { HasCause (fault_count self.old) (fault_count self.new) result };
+        ensures still { told → moment self.new ≡ moment self.old }
+        ensures grows { grows self.old self.new }
+        ensures cause { HasCause (fault_count self.old) (fault_count self.new) result }
+        ensures quiet { OnOk result (fault_count self.new ≡ fault_count self.old) };
 
     fn read(&mut self, at: u64, into: &mut [u8]) -> Result<(), Failed>
         requires { told → at + length into.old ≤ length (seen self.old) }
@@ -40,7 +47,10 @@ pub trait Disk {
         ensures seen { told → seen self.new ≡ seen self.old }
         ensures crash { told → (c : List ℕ) → may_leave self.new c → may_leave self.old c }
         ensures time { told → Elapses (moment self.old) (moment self.new) (left_since self.old) (left_since self.new) (may_leave self.new) }
-        ensures cause { HasCause (fault_count self.old) (fault_count self.new) result };
+        ensures still { told → moment self.new ≡ moment self.old }
+        ensures grows { grows self.old self.new }
+        ensures cause { HasCause (fault_count self.old) (fault_count self.new) result }
+        ensures quiet { OnOk result (fault_count self.new ≡ fault_count self.old) };
 
     /// Writes over what is there, and past the end. Until a sync, a crash may leave any bytes in the range.
     fn write_at(&mut self, at: u64, bytes: &[u8]) -> Result<(), Failed>
@@ -48,14 +58,20 @@ pub trait Disk {
         ensures written { told → OnOk result (seen self.new ≡ overwritten (seen self.old) at bytes.now) }
         ensures crash { told → Follows (Torn at (length bytes.now)) (may_leave self.old) (may_leave self.new) }
         ensures time { told → Elapses (moment self.old) (moment self.new) (left_since self.old) (left_since self.new) (may_leave self.new) }
-        ensures cause { HasCause (fault_count self.old) (fault_count self.new) result };
+        ensures one { told → Counts 1 (moment self.old) (moment self.new) result }
+        ensures grows { grows self.old self.new }
+        ensures cause { HasCause (fault_count self.old) (fault_count self.new) result }
+        ensures quiet { OnOk result (fault_count self.new ≡ fault_count self.old) };
 
     fn cut(&mut self, len: u64) -> Result<(), Failed>
         requires { told → len ≤ length (seen self.old) }
         ensures cut { told → OnOk result (seen self.new ≡ take len (seen self.old)) }
         ensures crash { told → Follows (Cut len) (may_leave self.old) (may_leave self.new) }
         ensures time { told → Elapses (moment self.old) (moment self.new) (left_since self.old) (left_since self.new) (may_leave self.new) }
-        ensures cause { HasCause (fault_count self.old) (fault_count self.new) result };
+        ensures one { told → Counts 1 (moment self.old) (moment self.new) result }
+        ensures grows { grows self.old self.new }
+        ensures cause { HasCause (fault_count self.old) (fault_count self.new) result }
+        ensures quiet { OnOk result (fault_count self.new ≡ fault_count self.old) };
 
     /// After it, a crash leaves what reads give.
     fn sync(&mut self) -> Result<(), Failed>
@@ -63,7 +79,13 @@ pub trait Disk {
         ensures seen { told → OnOk result (seen self.new ≡ seen self.old) }
         ensures crash { told → (c : List ℕ) → may_leave self.new c → may_leave self.old c }
         ensures time { told → Elapses (moment self.old) (moment self.new) (left_since self.old) (left_since self.new) (may_leave self.new) }
-        ensures cause { HasCause (fault_count self.old) (fault_count self.new) result };
+        ensures one { told → Counts 1 (moment self.old) (moment self.new) result }
+        ensures grows { grows self.old self.new }
+        ensures cause { HasCause (fault_count self.old) (fault_count self.new) result }
+        ensures quiet { OnOk result (fault_count self.new ≡ fault_count self.old) };
+
+    /// A run of calls goes on as another one.
+    ghost growing: { Growing Self grows };
 
     /// A length ends below 2^63.
     ghost is_short: { told → (disk : Self) → length (seen disk) < 2 ^ 63 };

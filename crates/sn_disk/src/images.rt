@@ -24,8 +24,6 @@ pub enum Stop {
     Never,
     /// In the changing call after so many more that were done. This image is left.
     After { calls: u64, image: CrashImage },
-    /// It has stopped.
-    Reached,
 }
 
 /// Does to these bytes what a crash leaves of the call. Where memory is wanting they stay as they were.

@@ -19,7 +19,7 @@ pub use calls::Call;
 pub use disk::Disk;
 pub use durable::write_durably;
 pub use images::{CrashImage, Stop};
-pub use laws::read_after_any_moment;
+pub use laws::{past_stays, read_after_any_moment, stops_in_its_call};
 pub use mem_shelf::MemShelf;
 pub use memory::MemDisk;
 pub use shelf::Shelf;

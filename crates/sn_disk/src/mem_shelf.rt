@@ -1,39 +1,38 @@
 // A shelf of disks in memory.
-ghost use Rattle.std.specs.Prelude.{◌≡◌, ◌≢◌, List, ℕ, length, map, string_bytes, IfSome, OnSome, IfNone, IfOk, OnOk, OnErr};
+ghost use Rattle.std.specs.Prelude.{◌≡◌, ◌≢◌, List, ℕ, map, string_bytes, IfSome, OnSome, IfNone, IfOk, OnOk, OnErr};
 ghost use Rattle.sn_io.specs.Causes.{HasCause};
 ghost use Rattle.sn_io.specs.FaultPlan.{fresh};
 ghost use Rattle.sn_disk.specs.Shelf.{unknown, out, holds, HoldsNone};
-ghost use Rattle.sn_disk.specs.Names.{place_in};
 
 use crate::{MemDisk, Shelf};
 use sn_io::{Failed, FaultPlan};
 use std::alloc::{AllocError, Global};
+use std::collections::BTreeMap;
 
 /// Disks in memory by name. Taking fails just where the call is listed, and where no disk stands under the name.
 #[derive(Debug, Drop)]
 pub struct MemShelf {
-    names: Vec<String>,
-    disks: Vec<Option<MemDisk>>,
+    disks: BTreeMap<String, Option<MemDisk>>,
     plan: FaultPlan,
-    ghost paired: { length names.items ≡ length disks.items },
 }
 
 impl MemShelf {
-    ghost use Rattle.sn_disk.specs.MemShelf.{shelf_slot, shelf_plan};
+    ghost use Rattle.sn_disk.specs.MemShelf.{shelf_slot, shelf_plan, AreNames};
 
     /// A shelf without disks. The calls of `take` of the numbers in `failing`, from 0, fail.
+    #[tactic(auto, unfolding(crate::specs::MemShelf::shelf_slot))]
     pub fn new(alloc: Global, failing: Vec<u64>) -> MemShelf
         ensures slots { (name : List ℕ) → shelf_slot result name ≡ unknown }
         ensures plan { shelf_plan result ≡ fresh failing.items }
     {
         MemShelf {
-            names: Vec::new(alloc),
-            disks: Vec::new(alloc),
+            disks: BTreeMap::new(alloc),
             plan: FaultPlan::new(failing),
         }
     }
 
     /// Puts a disk under a name that is new.
+    #[tactic(auto, unfolding(crate::specs::MemShelf::shelf_slot))]
     pub fn put(&mut self, name: String, disk: MemDisk) -> Result<(), AllocError>
         requires { shelf_slot self.old (string_bytes name) ≡ unknown }
         ensures put { OnOk result (shelf_slot self.new (string_bytes name) ≡ holds disk) }
@@ -41,14 +40,25 @@ impl MemShelf {
         ensures stays { OnErr result (shelf_slot self.new (string_bytes name) ≡ unknown) }
         ensures plan { shelf_plan self.new ≡ shelf_plan self.old }
     {
-        self.names.reserve(1)?;
-        self.disks.reserve(1)?;
-        self.names.push_reserved(name);
-        self.disks.push_reserved(Some(disk));
-        Ok(())
+        match self.disks.insert(name, Some(disk)) {
+            Ok(_) => Ok(()),
+            Err(_) => Err(AllocError),
+        }
+    }
+
+    /// The names under which disks were put, in the order of their bytes.
+    pub fn names(&self, alloc: Global) -> Result<Vec<String>, AllocError>
+        ensures { IfOk result (λ names. AreNames self.now (map string_bytes names.items)) }
+    {
+        let mut names = Vec::with_capacity(alloc, self.disks.len())?;
+        'names: for name in self.disks.keys() {
+            names.push(name.as_str().to_string(alloc)?)?;
+        }
+        Ok(names)
     }
 
     // Takes the disk of this name out, where one stands there.
+    #[tactic(auto, unfolding(crate::specs::MemShelf::shelf_slot))]
     fn take_out(&mut self, name: &str) -> Option<MemDisk>
         ensures taken { IfSome result (λ disk. shelf_slot self.old name.now ≡ holds disk) }
         ensures out { OnSome result (shelf_slot self.new name.now ≡ out) }
@@ -57,11 +67,9 @@ impl MemShelf {
         ensures others { (other : List ℕ) → other ≢ name.now → shelf_slot self.new other ≡ shelf_slot self.old other }
         ensures plan { shelf_plan self.new ≡ shelf_plan self.old }
     {
-        let at = place_of(&self.names, name);
-        if at < self.disks.len() {
-            self.disks[at].take()
-        } else {
-            None
+        match self.disks.get_mut(name) {
+            Some(place) => place.take(),
+            None => None,
         }
     }
 }
@@ -83,6 +91,7 @@ impl Shelf for MemShelf {
         self.plan.faults()
     }
 
+    #[tactic(auto, unfolding(crate::specs::MemShelf::shelf_slot))]
     fn take(&mut self, name: &str) -> Result<MemDisk, Failed>
         ensures taken { Unit {0} → IfOk result (λ disk. shelf_slot self.old name.now ≡ holds disk) }
         ensures out { Unit {0} → OnOk result (shelf_slot self.new name.now ≡ out) }
@@ -98,21 +107,10 @@ impl Shelf for MemShelf {
         }
     }
 
+    #[tactic(auto, unfolding(crate::specs::MemShelf::shelf_slot))]
     fn give(&mut self, name: &str, disk: MemDisk) {
-        let at = place_of(&self.names, name);
-        if at < self.disks.len() {
-            self.disks[at] = Some(disk);
+        if let Some(place) = self.disks.get_mut(name) {
+            *place = Some(disk);
         }
     }
-}
-
-// Where the name stands, or how many names there are.
-fn place_of(names: &[String], name: &str) -> usize
-    ensures { result ≡ place_in (map string_bytes names.now) name.now }
-{
-    let mut at = 0;
-    'names: while at < names.len() && names[at].as_str() != name {
-        at += 1;
-    }
-    at
 }

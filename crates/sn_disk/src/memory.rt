@@ -1,10 +1,11 @@
 // A disk in memory.
-ghost use Rattle.std.specs.Prelude.{◌≡◌, ◌⊎◌, ◌+◌, ◌<◌, ◌≤◌, ◌^◌, [], List, ℕ, length, map, take, drop, IfOk, OnOk, OnErr, Some};
+ghost use Rattle.std.specs.Prelude.{◌≡◌, ◌⊎◌, ◌↔◌, ◌+◌, ◌<◌, ◌≤◌, ◌^◌, [], List, ℕ, length, map, reverse, take, drop, IfOk, OnOk, OnErr, IsTrue, Some, false};
 ghost use Rattle.sn_io.specs.Causes.{HasCause, IsRise};
-ghost use Rattle.sn_io.specs.FaultPlan.{fresh};
-ghost use Rattle.sn_disk.specs.Disk.{overwritten, Torn, Cut, Follows, Elapses, Only};
-ghost use Rattle.sn_disk.specs.Steps.{step_of, write_step, cut_step, sync_step, StepLeaves, Leaves, LeftSince, IsKept, IsCall};
+ghost use Rattle.sn_io.specs.FaultPlan.{fresh, began, failed, wanted};
+ghost use Rattle.sn_disk.specs.Disk.{overwritten, Torn, Cut, Follows, Elapses, Counts, Only};
+ghost use Rattle.sn_disk.specs.Steps.{step_of, write_step, cut_step, sync_step, StepLeaves, Leaves, LeftSince, IsKept, IsCall, ends_in_stop};
 ghost use Rattle.sn_disk.specs.Images.{image_now, due};
+ghost use Rattle.sn_disk.specs.Courses.{Does, StopsIn};
 
 use crate::history::History;
 use crate::images::{image_due, one_call_nearer};
@@ -21,55 +22,65 @@ pub struct MemDisk {
     history: History,
     plan: FaultPlan,
     stop: Stop,
+    stopped: bool,
     ghost kept: { IsKept history },
     ghost short: { length history.bytes < 2 ^ 63 },
+    ghost left: { IsTrue stopped → IsTrue (ends_in_stop (reverse history.steps)) },
+    ghost small: { (plan.calls < 2 ^ 64) × (plan.wants < 2 ^ 64) },
 }
 
 impl MemDisk {
-    ghost use Rattle.sn_disk.specs.MemDisk.{disk_told, disk_plan, disk_stop, Runs, Refuses, IsDone, IsWanting, IsStopping};
+    ghost use Rattle.sn_disk.specs.MemDisk.{disk_told, disk_plan, disk_stop, disk_stopped, disk_course, HasStopSet, Begins, Refuses, IsWanting, IsStopping, Grows};
 
     /// A disk of these bytes. The calls of the numbers in `failing`, from 0, fail.
     pub fn new(alloc: Global, bytes: Vec<u8>, failing: Vec<u64>) -> Result<MemDisk, AllocError>
-        ensures told { IfOk result (λ disk. disk_told disk ≡ record { start = bytes.items; bytes = bytes.items; steps = [] }) }
+        ensures course { IfOk result (λ disk. disk_course disk ≡ record { told = record { start = bytes.items; bytes = bytes.items; steps = [] }; stop = Stop.Never; stopped = false }) }
         ensures plan { IfOk result (λ disk. disk_plan disk ≡ fresh failing.items) }
-        ensures stop { IfOk result (λ disk. disk_stop disk ≡ Stop.Never) }
     {
         Ok(MemDisk {
             alloc,
             history: History::new(alloc, bytes)?,
             plan: FaultPlan::new(failing),
             stop: Stop::Never,
+            stopped: false,
         })
     }
 
     /// A disk that goes on as this one does.
     pub fn copy(&self, alloc: Global) -> Result<MemDisk, AllocError>
-        ensures told { IfOk result (λ disk. disk_told disk ≡ disk_told self.now) }
+        ensures course { IfOk result (λ disk. disk_course disk ≡ disk_course self.now) }
         ensures plan { IfOk result (λ disk. disk_plan disk ≡ disk_plan self.now) }
-        ensures stop { IfOk result (λ disk. disk_stop disk ≡ disk_stop self.now) }
     {
         Ok(MemDisk {
             alloc,
             history: self.history.copy(alloc)?,
             plan: self.plan.copy(alloc)?,
             stop: self.stop,
+            stopped: self.stopped,
         })
     }
 
-    /// Sets whether and how it is to stop. A disk that has stopped goes on with what was left.
+    /// Sets whether and when it is to stop. A disk that has stopped goes on with what was left.
     pub fn set_stop(&mut self, stop: Stop)
-        ensures told { disk_told self.new ≡ disk_told self.old }
-        ensures plan { disk_plan self.new ≡ disk_plan self.old }
-        ensures stop { disk_stop self.new ≡ stop }
+        ensures { HasStopSet stop self.old self.new }
     {
         self.stop = stop;
+        self.stopped = false;
     }
 
-    /// Whether and how it is to stop.
+    /// Whether and when it is to stop.
     pub fn stop(&self) -> Stop
         ensures { result ≡ disk_stop self.now }
     {
         self.stop
+    }
+
+    /// Whether it has stopped. Then a crash leaves what reads would give, and nothing else.
+    pub fn has_stopped(&self) -> bool
+        ensures value { result ≡ disk_stopped self.now }
+        ensures one { IsTrue result → Only (disk_told self.now).bytes (Leaves (disk_told self.now)) }
+    {
+        self.stopped
     }
 
     /// The bytes that reads give.
@@ -104,25 +115,29 @@ impl MemDisk {
     // Counts a call, which fails if it is listed or the disk has stopped.
     fn begin(&mut self) -> Result<(), Failed>
         ensures cause { HasCause self.old.plan.faults self.new.plan.faults result }
-        ensures history { self.new.history ≡ self.old.history }
-        ensures stop { self.new.stop ≡ self.old.stop }
-        ensures runs { OnOk result (Runs self.old self.new) }
+        ensures course { disk_course self.new ≡ disk_course self.old }
+        ensures grows { Grows self.old self.new }
+        ensures begins { OnOk result (Begins self.old self.new) }
+        ensures quiet { OnOk result (self.new.plan.faults ≡ self.old.plan.faults) }
         ensures refuses { OnErr result (Refuses self.old self.new) }
     {
         self.plan.begin()?;
-        if self.stop == Stop::Reached {
+        if self.stopped {
             return Err(self.plan.fail());
         }
         Ok(())
     }
 
-    // Does a changing call, or stops in it.
+    // Does a changing call of a disk that hasn't stopped, or stops in it.
     fn change(&mut self, call: Call) -> Result<(), Failed>
-        requires { IsCall (step_of call) }
+        requires call { IsCall (step_of call) }
+        requires awake { disk_stopped self.old ≡ false }
         ensures crash { Follows (StepLeaves (step_of call)) (Leaves self.old.history) (Leaves self.new.history) }
         ensures time { Elapses (length self.old.history.steps) (length self.new.history.steps) (LeftSince self.old.history) (LeftSince self.new.history) (Leaves self.new.history) }
+        ensures one { Counts 1 (length self.old.history.steps) (length self.new.history.steps) result }
+        ensures grows { Grows self.old self.new }
         ensures cause { HasCause self.old.plan.faults self.new.plan.faults result }
-        ensures done { OnOk result (IsDone (step_of call) self.old self.new) }
+        ensures done { OnOk result (Does (disk_course self.old) (step_of call) (disk_course self.new) × (disk_plan self.new ≡ disk_plan self.old)) }
         ensures fails { OnErr result (IsWanting self.old self.new ⊎ IsStopping (step_of call) self.old self.new) }
     {
         if let Some(image) = image_due(self.stop) {
@@ -140,9 +155,12 @@ impl MemDisk {
     // Stops in a changing call.
     fn stop_in(&mut self, call: &Call, image: CrashImage) -> Failed
         requires call { IsCall (step_of call.now) }
+        requires awake { disk_stopped self.old ≡ false }
         requires due { due self.old.stop ≡ Some image }
         ensures crash { Follows (StepLeaves (step_of call.now)) (Leaves self.old.history) (Leaves self.new.history) }
         ensures time { Elapses (length self.old.history.steps) (length self.new.history.steps) (LeftSince self.old.history) (LeftSince self.new.history) (Leaves self.new.history) }
+        ensures most { length self.new.history.steps ≤ length self.old.history.steps + 1 }
+        ensures grows { Grows self.old self.new }
         ensures cause { IsRise self.old.plan.faults self.new.plan.faults }
         ensures fails { IsWanting self.old self.new ⊎ IsStopping (step_of call.now) self.old self.new }
     {
@@ -151,7 +169,8 @@ impl MemDisk {
         };
         match self.history.make(self.alloc, Call::Stopped { left }) {
             Ok(()) => {
-                self.stop = Stop::Reached;
+                self.stop = Stop::Never;
+                self.stopped = true;
                 self.plan.fail()
             }
             Err(_) => self.plan.want(),
@@ -161,7 +180,8 @@ impl MemDisk {
 
 impl Disk for MemDisk {
     ghost use Rattle.sn_disk.specs.Laws.{kept_stays, now_counts, now_only};
-    ghost use Rattle.sn_disk.specs.MemDisk.{ReadEnds, ChangeEnds};
+    ghost use Rattle.sn_disk.specs.Growth.{grows_same, grows_on};
+    ghost use Rattle.sn_disk.specs.MemDisk.{ReadEnds, ChangeEnds, Grows};
 
     ghost told = { Unit {0} };
 
@@ -174,6 +194,10 @@ impl Disk for MemDisk {
     ghost left_since = { λ d. LeftSince d.history };
 
     ghost fault_count = { λ d. d.plan.faults };
+
+    ghost grows = { Grows };
+
+    ghost growing = { record { same = grows_same; on = grows_on } };
 
     ghost is_short = { λ _ d. d.short };
 
@@ -192,7 +216,10 @@ impl Disk for MemDisk {
         ensures seen { Unit {0} → self.new.history.bytes ≡ self.old.history.bytes }
         ensures crash { Unit {0} → (c : List ℕ) → Leaves self.new.history c → Leaves self.old.history c }
         ensures time { Unit {0} → Elapses (length self.old.history.steps) (length self.new.history.steps) (LeftSince self.old.history) (LeftSince self.new.history) (Leaves self.new.history) }
+        ensures still { Unit {0} → length self.new.history.steps ≡ length self.old.history.steps }
+        ensures grows { Grows self.old self.new }
         ensures cause { HasCause self.old.plan.faults self.new.plan.faults result }
+        ensures quiet { OnOk result (self.new.plan.faults ≡ self.old.plan.faults) }
         ensures ends { ReadEnds self.old self.new result }
     {
         self.begin()?;
@@ -205,7 +232,10 @@ impl Disk for MemDisk {
         ensures seen { Unit {0} → self.new.history.bytes ≡ self.old.history.bytes }
         ensures crash { Unit {0} → (c : List ℕ) → Leaves self.new.history c → Leaves self.old.history c }
         ensures time { Unit {0} → Elapses (length self.old.history.steps) (length self.new.history.steps) (LeftSince self.old.history) (LeftSince self.new.history) (Leaves self.new.history) }
+        ensures still { Unit {0} → length self.new.history.steps ≡ length self.old.history.steps }
+        ensures grows { Grows self.old self.new }
         ensures cause { HasCause self.old.plan.faults self.new.plan.faults result }
+        ensures quiet { OnOk result (self.new.plan.faults ≡ self.old.plan.faults) }
         ensures ends { ReadEnds self.old self.new result }
     {
         self.begin()?;
@@ -219,7 +249,10 @@ impl Disk for MemDisk {
         ensures written { Unit {0} → OnOk result (self.new.history.bytes ≡ overwritten self.old.history.bytes at bytes.now) }
         ensures crash { Unit {0} → Follows (Torn at (length bytes.now)) (Leaves self.old.history) (Leaves self.new.history) }
         ensures time { Unit {0} → Elapses (length self.old.history.steps) (length self.new.history.steps) (LeftSince self.old.history) (LeftSince self.new.history) (Leaves self.new.history) }
+        ensures one { Unit {0} → Counts 1 (length self.old.history.steps) (length self.new.history.steps) result }
+        ensures grows { Grows self.old self.new }
         ensures cause { HasCause self.old.plan.faults self.new.plan.faults result }
+        ensures quiet { OnOk result (self.new.plan.faults ≡ self.old.plan.faults) }
         ensures ends { ChangeEnds (write_step at bytes.now) self.old self.new result }
     {
         self.begin()?;
@@ -234,7 +267,10 @@ impl Disk for MemDisk {
         ensures cut { Unit {0} → OnOk result (self.new.history.bytes ≡ take len self.old.history.bytes) }
         ensures crash { Unit {0} → Follows (Cut len) (Leaves self.old.history) (Leaves self.new.history) }
         ensures time { Unit {0} → Elapses (length self.old.history.steps) (length self.new.history.steps) (LeftSince self.old.history) (LeftSince self.new.history) (Leaves self.new.history) }
+        ensures one { Unit {0} → Counts 1 (length self.old.history.steps) (length self.new.history.steps) result }
+        ensures grows { Grows self.old self.new }
         ensures cause { HasCause self.old.plan.faults self.new.plan.faults result }
+        ensures quiet { OnOk result (self.new.plan.faults ≡ self.old.plan.faults) }
         ensures ends { ChangeEnds (cut_step len) self.old self.new result }
     {
         self.begin()?;
@@ -246,7 +282,10 @@ impl Disk for MemDisk {
         ensures seen { Unit {0} → OnOk result (self.new.history.bytes ≡ self.old.history.bytes) }
         ensures crash { Unit {0} → (c : List ℕ) → Leaves self.new.history c → Leaves self.old.history c }
         ensures time { Unit {0} → Elapses (length self.old.history.steps) (length self.new.history.steps) (LeftSince self.old.history) (LeftSince self.new.history) (Leaves self.new.history) }
+        ensures one { Unit {0} → Counts 1 (length self.old.history.steps) (length self.new.history.steps) result }
+        ensures grows { Grows self.old self.new }
         ensures cause { HasCause self.old.plan.faults self.new.plan.faults result }
+        ensures quiet { OnOk result (self.new.plan.faults ≡ self.old.plan.faults) }
         ensures ends { ChangeEnds sync_step self.old self.new result }
     {
         self.begin()?;

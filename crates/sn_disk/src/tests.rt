@@ -75,11 +75,12 @@ fn every_stop(rt: HostRuntime) -> Result<(), Fail> {
             let mut disk = disk_of(rt.alloc(), b"abcd", &[])?;
             disk.set_stop(Stop::After { calls, image });
             assert_eq!(rt; four_calls(&mut disk), Err(Failed), "{calls}");
-            assert_eq!(rt; disk.stop(), Stop::Reached);
+            assert!(rt; disk.has_stopped());
             assert_eq!(rt; disk.bytes(), left, "{calls} {image:?}");
             assert_eq!(rt; disk.sync(), Err(Failed));
             assert_eq!(rt; (disk.faults(), disk.wants()), (2, 0));
             disk.set_stop(Stop::Never);
+            assert_eq!(rt; (disk.stop(), disk.has_stopped()), (Stop::Never, false));
             put(&mut disk, 0, b"!")?;
             assert_eq!(rt; disk.image(rt.alloc(), CrashImage::Old)?.as_slice(), left);
         }
@@ -116,9 +117,11 @@ fn every_listed_call(rt: HostRuntime) -> Result<(), Fail> {
 fn takes_and_gives(rt: HostRuntime) -> Result<(), Fail> {
     let mut shelf = MemShelf::new(rt.alloc(), [1].to_vec(rt.alloc())?);
     let disk = disk_of(rt.alloc(), b"abcd", &[])?;
+    shelf.put("b".to_string(rt.alloc())?, disk)?;
+    let disk = disk_of(rt.alloc(), b"abcd", &[])?;
     shelf.put("a".to_string(rt.alloc())?, disk)?;
     // Call 0 is of no disk, call 1 is listed, and from call 2 to 4 the disk stands there, is out, and stands there.
-    assert_eq!(rt; shelf.take("b").is_err(), true);
+    assert_eq!(rt; shelf.take("c").is_err(), true);
     assert_eq!(rt; shelf.take("a").is_err(), true);
     let mut disk = shelf.take("a")?;
     assert_eq!(rt; shelf.take("a").is_err(), true);
@@ -126,5 +129,8 @@ fn takes_and_gives(rt: HostRuntime) -> Result<(), Fail> {
     shelf.give("a", disk);
     assert_eq!(rt; shelf.take("a")?.bytes(), b"!bcd".as_slice());
     assert_eq!(rt; shelf.faults(), 3);
+    let names = shelf.names(rt.alloc())?;
+    assert_eq!(rt; names.len(), 2);
+    assert_eq!(rt; (names[0].as_str(), names[1].as_str()), ("a", "b"));
     Ok(())
 }

@@ -1,8 +1,7 @@
 -- What the batches of an exchange leave of the rows.
 use Rattle.std.proofs.Common.{◌≡◌, ◌≢◌, ◌⊎◌, ◌<◌, ◌≤◌, ℕ, suc, List, [], ◌∷◌, ◌++◌, Option, Some, None, Bool, true, false, refl, sym, ap, ◌∙◌, subst, inl, inr, arith, append-nil}
-use Rattle.sn_laws.proofs.EachLemmas.{is_false}
-use Rattle.sn_rows.specs.Facts.{batch_follows, keys_compare, row_after-append, spared_stays}
-use Rattle.sn_rows.specs.Table.{Puts, Rows, Spares, key_of, rows_after, rows_of_batches, same_key}
+use Rattle.sn_rows.specs.Facts.{apart_keys, batch_follows, put_elsewhere, put_here, row_after-append, spared_stays}
+use Rattle.sn_rows.specs.Table.{Puts, Rows, Spares, rows_after, rows_of_batches, same_key}
 use Rattle.sn_rows.specs.declared.body.RowBody.{RowBody}
 use Rattle.sn_rows.specs.declared.change.Change.{Change}
 use Rattle.sn_rows.specs.declared.device_rows.LocalItem.{LocalItem}
@@ -81,7 +80,7 @@ spares_append at (c ∷ cs) second h k = (h.0, spares_append at cs second h.1 k)
 post_spares : (at : Key) (number : ℕ) (item : LocalItem) (posted : Option RowBody) (changes : List Change) → key.Local number ≢ at
     → PostsItem number item posted changes → Spares at changes
 post_spares at number item None changes apart p =
-    subst (Spares at) (sym p.1) (key_apart p.0 (key.Local number) at p.2.puts.key_is apart, tt)
+    subst (Spares at) (sym p.1) (ap (λ (k : Key). same_key k at) p.2.puts.key_is ∙ apart_keys (key.Local number) at apart, tt)
 post_spares at number item (Some b) changes apart p = subst (Spares at) (sym p) tt
 
 pub posts_spare : (at : Key) (number : ℕ) (items : List LocalItem) (changes : List Change) → ((k : ℕ) → number ≤ k → key.Local k ≢ at)

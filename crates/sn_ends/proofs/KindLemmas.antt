@@ -11,7 +11,7 @@ use Rattle.sn_rows.specs.declared.key.Key.TheVariants as key
 use Rattle.sn_rows.specs.declared.server_rows.StoreRow.{StoreRow}
 use Rattle.sn_rows.specs.declared.value.Value.{Value}
 use Rattle.sn_rows.specs.declared.value.Value.TheVariants as value
-use Rattle.sn_rows.specs.Facts.{put_apart, put_here}
+use Rattle.sn_rows.specs.Facts.{keys_compare, put_apart, put_here}
 use Rattle.sn_ends.specs.Rows.{store_in}
 
 -- the value, where there is one, is of the key's kind

@@ -118,9 +118,9 @@ impl PlainServer {
         let secret = self.start(alloc, words)?;
         let store = store_change(&secret, last, number);
         let changes = account_changes(alloc, number, set, store)?;
-        let identifier = set.params.identifier.twin(alloc)?;
+        let identifier = set.params.identifier.as_str().to_string(alloc)?;
         self.store.commit(alloc, changes)?;
-        self.numbers.insert(identifier.into_string(), number)?;
+        self.numbers.insert(identifier, number)?;
         Ok(number)
     }
 }

@@ -18,7 +18,7 @@ pub use laws::{one_content, one_text, sealed_item_opens, sealed_opens};
 pub use objects::is_object;
 pub use opening::open_text;
 pub use sealed::{Sealed, Which};
-pub use sealing::seal_text;
+pub use sealing::{seal_owned_text, seal_text};
 pub use utf8::utf8_text;
 pub use words::Words;
 

@@ -1,14 +1,16 @@
 // Sealing a text.
 ghost use Rattle.std.specs.Prelude.{◌≡◌, ℕ, List, IfOk, string_bytes};
+ghost use Rattle.std.specs.Str.{IsUtf8};
+ghost use Rattle.sn_cbc.specs.Cbc.{IsCbc};
 ghost use Rattle.sn_items.specs.Draws.{drawn};
 ghost use Rattle.sn_items.specs.Items.{CarriesParams};
 ghost use Rattle.sn_items.specs.Opens.{Opens};
 ghost use Rattle.sn_items.specs.Seals.{IsSealed};
 
-use crate::hash::hash_of_parts;
 use crate::words::Words;
-use sn_cbc::seal;
-use sn_string::{Params, base64_text, hex_text, uuid_text, write};
+use sn_cbc::{seal, seal_owned};
+use sn_hmac::hmac_sha256;
+use sn_string::{Params, authenticated_text, hex_text, params_text, uuid_text, with_hash};
 use std::alloc::{AllocError, Global};
 use uuid::Uuid;
 
@@ -39,6 +41,27 @@ pub fn seal_text(
     )
 }
 
+/// As `seal_text`, of a plain text that is given up. Memory is taken for the string alone, where the plain text has
+/// room for 16 bytes more.
+pub fn seal_owned_text(
+    alloc: Global,
+    words: &mut Words,
+    plain: String,
+    uuid: Uuid,
+    encryption_key: &[u8; 32],
+    authentication_key: &[u8; 32],
+    params: &Params,
+) -> Result<String, AllocError>
+    ensures sealed { (iv : List ℕ) × ((iv, words.new) ≡ drawn 16 words.old) × IfOk result (λ text.
+        IsSealed (string_bytes plain) uuid iv encryption_key.now authentication_key.now params.now (string_bytes text)) }
+    ensures opens { IfOk result (λ text. Opens (string_bytes text) uuid encryption_key.now authentication_key.now (string_bytes plain)) }
+    ensures carries { IfOk result (λ text. CarriesParams (string_bytes text) params.now) }
+{
+    let iv = words.iv();
+    let bytes = seal_owned(encryption_key, &iv, plain.into_bytes())?;
+    string_of(alloc, &iv, &bytes, uuid, authentication_key, params)
+}
+
 /// The 003 string of a plain text under this initialization vector.
 pub fn sealed_text(
     alloc: Global,
@@ -55,10 +78,30 @@ pub fn sealed_text(
     ensures carries { IfOk result (λ text. CarriesParams (string_bytes text) params.now) }
 {
     let bytes = seal(alloc, encryption_key, iv, plain.as_bytes())?;
-    let ciphertext = base64_text(alloc, &bytes)?;
+    string_of(alloc, iv, &bytes, uuid, authentication_key, params)
+}
+
+// The 003 string of a ciphertext.
+fn string_of(
+    alloc: Global,
+    iv: &[u8; 16],
+    bytes: &[u8],
+    uuid: Uuid,
+    authentication_key: &[u8; 32],
+    params: &Params,
+) -> Result<String, AllocError>
+    ensures sealed { (encryption_key plain : List ℕ) → IsCbc encryption_key iv.now plain bytes.now → IfOk result (λ text.
+        IsSealed plain uuid iv.now encryption_key authentication_key.now params.now (string_bytes text)) }
+    ensures opens { (encryption_key plain : List ℕ) → IsCbc encryption_key iv.now plain bytes.now → IsUtf8 plain
+        → IfOk result (λ text. Opens (string_bytes text) uuid encryption_key authentication_key.now plain) }
+    ensures carries { (encryption_key plain : List ℕ) → IsCbc encryption_key iv.now plain bytes.now
+        → IfOk result (λ text. CarriesParams (string_bytes text) params.now) }
+{
+    let last = params_text(alloc, params)?;
     let uuid = uuid_text(alloc, uuid)?;
     let iv = hex_text(alloc, iv)?;
-    let hash = hash_of_parts(authentication_key, &uuid, &iv, &ciphertext);
+    let text = authenticated_text(alloc, &uuid, &iv, bytes, &last)?;
+    let hash = hmac_sha256(authentication_key, text.as_bytes());
     let hash = hex_text(alloc, &hash)?;
-    write(alloc, &hash, &uuid, &iv, &ciphertext, params)
+    with_hash(alloc, text, &hash, &last)
 }

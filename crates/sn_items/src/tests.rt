@@ -1,6 +1,6 @@
 //! Draws and sealed strings of an independent implementation in Python: ChaCha20, `hmac` and AES from `cryptography`.
 
-use crate::{ItemError, Words, open_text, seal_text};
+use crate::{ItemError, Words, open_text, seal_owned_text, seal_text};
 use sn_string::{Params, StringError, Text, hash_bytes, iv_bytes, key_bytes, uuid_of, with_params};
 use std::test::Fail;
 
@@ -239,6 +239,23 @@ fn counting(first: u8) -> [u8; 32] {
         bytes[i as usize] = first.wrapping_add(i);
     }
     bytes
+}
+
+#[test]
+fn sealed_in_place(rt: HostRuntime) -> Result<(), Fail> {
+    let uuid = uuid_of(UUID).ok_or("uuid")?;
+    let params = Params::new(Text::fixed("alice"), 1, Text::fixed("6e")).ok_or("params")?;
+    let text = seal_owned_text(
+        rt.alloc(),
+        &mut Words::from_seed([0; 32]),
+        "0123456789abcdef".to_string(rt.alloc())?,
+        uuid,
+        &counting(0),
+        &counting(32),
+        &params,
+    )?;
+    assert_eq!(rt; text.as_str(), STRING);
+    Ok(())
 }
 
 #[test]

@@ -8,6 +8,7 @@ use Rattle.std.proofs.lemmas.Bool.{cases_eq}
 use Rattle.std.specs.Int.{w32, to_be_bytes}
 use Rattle.sn_disk.specs.Disk.{overwritten, Torn}
 use Rattle.sn_journal.specs.Image.{header_of, counted, batch, front, IsClosed, IsBounded, IsChain, IsBeforeOrAfter}
+use Rattle.sn_journal.specs.Facts.{length-counted, front_more, length-front_more}
 use Rattle.sn_journal.specs.declared.owner.Owner.{Owner}
 
 -- bytes with a known front
@@ -19,10 +20,6 @@ before_torn : (at n : ℕ) (old c : List ℕ) → at ≤ length old → Torn at 
 before_torn at n old c le torn =
     let same : length (take at old) ≡ at = omega (arith, length-take at old) in
     subst (λ (k : ℕ). take k c ≡ take at old) same torn.before
-
-length-counted : (payload : List ℕ) → length (counted payload) ≡ length payload + 4
-unfolding counted
-length-counted payload = omega (arith, length-append (to_be_bytes w32 (length payload)) payload)
 
 module _ (F tail : List ℕ) (gate : ℕ) where
   -- the gate stands in each outcome of a write behind it
@@ -71,17 +68,6 @@ module _ (F tail : List ℕ) (gate : ℕ) where
       let begins : take E (F ++ gate ∷ tail) ≡ F = take_at F (gate ∷ tail) E refl in
       let ends : drop (E + 1) (F ++ gate ∷ tail) ≡ tail = ap (λ (l : List ℕ). drop (E + 1) l) split ∙ drop_at (F ++ gate ∷ []) tail (E + 1) size in
       ap (λ (l : List ℕ). l ++ (other ∷ []) ++ drop (E + 1) (F ++ gate ∷ tail)) begins ∙ append_assoc F (other ∷ []) (drop (E + 1) (F ++ gate ∷ tail)) ∙ ap (λ (l : List ℕ). F ++ other ∷ l) ends
-
--- the front with one batch more
-pub front_more : (owner : Owner) (payloads : List (List ℕ)) (payload rest : List ℕ) → front owner payloads ++ 1 ∷ (counted payload ++ rest) ≡ front owner (payloads ++ payload ∷ []) ++ rest
-front_more owner payloads payload rest =
-    let H = header_of owner in
-    let more : flat_map batch (payloads ++ payload ∷ []) ≡ flat_map batch payloads ++ batch payload = flat_map-append batch payloads (payload ∷ []) ∙ ap (λ (l : List ℕ). flat_map batch payloads ++ l) (append-nil (batch payload)) in
-    sym (
-    ap (λ (l : List ℕ). (H ++ l) ++ rest) more
-    ∙ ap (λ (l : List ℕ). l ++ rest) (sym (append_assoc H (flat_map batch payloads) (batch payload)))
-    ∙ append_assoc (front owner payloads) (batch payload) rest
-    )
 
 -- a batch behind a gate that isn't open
 pub record Staged (owner : Owner) (payloads : List (List ℕ)) (payload file : List ℕ) : Type 0 where
@@ -155,12 +141,6 @@ staged_opened owner payloads payload file new at staged place short is =
     opened owner payloads payload staged.tail new staged.bounded short (
     is ∙ ap (λ (f : List ℕ). overwritten f at (1 ∷ [])) staged.split ∙ ap (λ (k : ℕ). overwritten (F ++ staged.gate ∷ behind) k (1 ∷ [])) place ∙ gate_written F behind staged.gate 1
     )
-
--- the place of the next gate
-pub length-front_more : (owner : Owner) (payloads : List (List ℕ)) (payload : List ℕ) → length (front owner (payloads ++ payload ∷ [])) ≡ length (front owner payloads) + (length payload + 5)
-length-front_more owner payloads payload =
-    let more : front owner payloads ++ 1 ∷ (counted payload ++ []) ≡ front owner (payloads ++ payload ∷ []) ++ [] = front_more owner payloads payload [] in
-    omega (arith, ap length more, length-append (front owner payloads) (1 ∷ (counted payload ++ [])), length-append (front owner (payloads ++ payload ∷ [])) [], length-append (counted payload) [], length-counted payload)
 
 length-overwritten : (old : List ℕ) (at : ℕ) (bytes : List ℕ) → at ≤ length old → (at + length bytes ≤ length (overwritten old at bytes)) × (length old ≤ length (overwritten old at bytes))
 length-overwritten old at bytes le =

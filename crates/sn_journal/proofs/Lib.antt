@@ -1,6 +1,6 @@
 pub mod Gates
 pub mod Starts
-pub mod Batches
+pub mod Wholes
 pub mod Loads
-pub mod Unique
-pub mod Findings
+pub mod Passing
+pub mod Settling

@@ -4,22 +4,13 @@ use Rattle.std.proofs.lemmas.List.{drop_all, take_all}
 use Rattle.std.proofs.lemmas.Bool.{cases_eq}
 use Rattle.sn_disk.specs.Disk.{overwritten, Torn}
 use Rattle.sn_journal.specs.Image.{header_of, IsImage}
+use Rattle.sn_journal.specs.Facts.{header_split, length-header}
 use Rattle.sn_journal.specs.declared.owner.Owner.{Owner}
 use Rattle.sn_journal.specs.declared.owner.Owner.TheVariants.{Server, Device}
 
 pub on_ok_then : {T E : Type 0} (r : Result T E) (P Q : Type 0) → (P → Q) → OnOk r P → OnOk r Q
 on_ok_then (Ok x) P Q f p = f p
 on_ok_then (Err e) P Q f p = p
-
-pub header_split : (owner : Owner) → header_of owner ≡ 83 ∷ drop 1 (header_of owner)
-unfolding header_of
-header_split Server = refl
-header_split Device = refl
-
-pub length-header : (owner : Owner) → length (header_of owner) ≡ 16
-unfolding header_of
-length-header Server = refl
-length-header Device = refl
 
 pub letter_made : (owner : Owner) (old new : List ℕ) → drop 1 old ≡ drop 1 (header_of owner) ++ 0 ∷ [] → new ≡ overwritten old 0 (83 ∷ []) → new ≡ header_of owner ++ 0 ∷ []
 letter_made owner old new tail is =

@@ -1,6 +1,5 @@
 -- What the bytes of a journal stand for. This is the format, and no step of the code.
-use Rattle.std.specs.Prelude.{◌≡◌, ◌≢◌, ◌⊎◌, ◌≤◌, ◌^◌, ℕ, List, Vec, [], ◌∷◌, ◌++◌, length, drop, slice_index, codes, map, All}
-use Rattle.std.specs.declared.alloc.Global.{Global}
+use Rattle.std.specs.Prelude.{◌≡◌, ◌≢◌, ◌⊎◌, ◌≤◌, ◌^◌, ℕ, List, [], ◌∷◌, ◌++◌, length, drop, slice_index, codes, All, ◌==◌, if◌then◌else◌}
 use Rattle.std.specs.List.{flat_map}
 use Rattle.std.specs.Int.{w32, to_be_bytes}
 use Rattle.sn_journal.specs.declared.owner.Owner.{Owner}
@@ -56,6 +55,12 @@ IsStart owner file =
     ⊎ ((length file ≤ 17) × (slice_index file 0 ≡ 0))
     ⊎ LacksFirstByte owner file
 
+-- how many of the three writes of a start are missing, by the length and the first byte
+abbrev pub missing_writes : List ℕ → ℕ
+missing_writes [] = 3
+missing_writes (first ∷ []) = 3
+missing_writes (first ∷ second ∷ rest) = if first == 0 then 2 else (if first == 83 then 0 else 1)
+
 -- The file stands for these batches. A fresh or unfinished one stands for none.
 abbrev pub IsImage : Owner → List ℕ → List (List ℕ) → Type 0
 IsImage owner file payloads = IsChain owner file payloads ⊎ (IsStart owner file × (payloads ≡ []))
@@ -67,7 +72,3 @@ IsBeforeOrAfter owner payloads payload file = IsImage owner file payloads ⊎ Is
 -- both stand for the same batches
 abbrev pub SameBatches : Owner → List ℕ → List ℕ → Type 0
 SameBatches owner file other = (payloads : List (List ℕ)) × IsImage owner file payloads × IsImage owner other payloads
-
--- payloads as lists
-abbrev pub contents : List (Vec ℕ Global) → List (List ℕ)
-contents payloads = map (λ v. v.items) payloads

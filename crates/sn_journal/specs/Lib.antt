@@ -1,6 +1,10 @@
 pub mod Append
+pub mod Facts
+pub mod Findings
 pub mod Image
 pub mod Laws
 pub mod Loading
+pub mod Opening
 pub mod Reading
 pub mod Settled
+pub mod Unique

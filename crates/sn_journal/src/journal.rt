@@ -1,20 +1,21 @@
 // The journal and its one change.
-ghost use Rattle.std.specs.Prelude.{◌≡◌, ◌+◌, ◌<◌, ◌≤◌, ◌^◌, ◌++◌, [], ◌∷◌, List, ℕ, length, IfOk, IfErr};
+ghost use Rattle.std.specs.Prelude.{◌≡◌, ◌+◌, ◌<◌, ◌≤◌, ◌^◌, ◌++◌, [], ◌∷◌, List, ℕ, length, IfOk, IfErr, OnOk};
 ghost use Rattle.sn_journal.specs.Image.{counted};
 
 use crate::Owner;
-use sn_disk::{Disk, write_durably};
+use sn_disk::{Disk, MemDisk, Stop, write_durably};
 use std::alloc::{AllocError, Global};
 
 const MOST_PAYLOAD: usize = 1 << 30;
 
-/// An open journal: its disk, and the place of its closed gate.
+/// An open journal: its disk, the place of its closed gate, and how many batches stand before it.
 #[derive(Drop)]
 pub struct Journal<D: Disk> {
     alloc: Global,
     disk: D,
     owner: Owner,
     gate: u64,
+    count: u64,
     ghost within: { D.told → gate < length (D.seen disk) },
 }
 
@@ -30,7 +31,7 @@ pub enum AppendError<D: Disk> {
 }
 
 impl<D: Disk> Journal<D> {
-    ghost use Rattle.sn_disk.specs.Disk.{LeavesOnly};
+    ghost use Rattle.sn_disk.specs.Disk.{LeavesOnly, Counts};
     ghost use Rattle.sn_journal.specs.Image.{IsBeforeOrAfter};
     ghost use Rattle.sn_journal.specs.Settled.{IsSettled, disk_of, owner_of, disk_after};
     ghost use Rattle.sn_journal.specs.Append.{IsRefusal};
@@ -49,17 +50,26 @@ impl<D: Disk> Journal<D> {
         self.disk
     }
 
-    pub(crate) fn opened(alloc: Global, disk: D, owner: Owner, gate: u64) -> Journal<D>
+    /// How many batches it has.
+    pub fn count(&self) -> u64
+        ensures { (payloads : List (List ℕ)) → IsSettled self.now payloads → result ≡ length payloads }
+    {
+        self.count
+    }
+
+    pub(crate) fn opened(alloc: Global, disk: D, owner: Owner, gate: u64, count: u64) -> Journal<D>
         requires { D.told → gate < length (D.seen disk) }
         ensures disk { result.disk ≡ disk }
         ensures owner { result.owner ≡ owner }
         ensures gate { result.gate ≡ gate }
+        ensures count { result.count ≡ count }
     {
         Journal {
             alloc,
             disk,
             owner,
             gate,
+            count,
         }
     }
 
@@ -76,7 +86,12 @@ impl<D: Disk> Journal<D> {
 
         ensures refused { IfErr result (IsRefusal self (length payload.now)) }
         ensures large { 2 ^ 30 < length payload.now → result ≡ Err (AppendError.TooLarge self (length payload.now)) }
+        // Four changing calls: the batch behind its gate, a sync, the gate, a sync.
+        ensures calls { D.told → Counts 4 (D.moment (disk_of self)) (D.moment (disk_after result)) result }
+
+        ensures grows { D.grows (disk_of self) (disk_after result) }
         ensures later { D.fault_count (disk_of self) ≤ D.fault_count (disk_after result) }
+        ensures quiet { OnOk result (D.fault_count (disk_after result) ≡ D.fault_count (disk_of self)) }
     {
         if payload.len() > MOST_PAYLOAD {
             let size = payload.len() as u64;
@@ -90,6 +105,7 @@ impl<D: Disk> Journal<D> {
             mut disk,
             owner,
             gate,
+            count,
         } = self;
         if write_durably(&mut disk, gate.saturating_add(1), &behind).is_err() {
             return Err(AppendError::DiskFault(disk));
@@ -102,7 +118,22 @@ impl<D: Disk> Journal<D> {
             disk,
             owner,
             gate: gate.saturating_add(payload.len() as u64 + 5),
+            count: count.saturating_add(1),
         })
+    }
+}
+
+impl Journal<MemDisk> {
+    ghost use Rattle.sn_disk.specs.MemDisk.{HasStopSet};
+    ghost use Rattle.sn_journal.specs.Settled.{IsSettled, disk_of, owner_of};
+
+    /// Sets whether and when its disk is to stop. Bytes, record and batches stay as they are.
+    pub fn set_stop(&mut self, stop: Stop)
+        ensures set { HasStopSet stop (disk_of self.old) (disk_of self.new) }
+        ensures owner { owner_of self.new ≡ owner_of self.old }
+        ensures settled { (payloads : List (List ℕ)) → IsSettled self.old payloads → IsSettled self.new payloads }
+    {
+        self.disk.set_stop(stop);
     }
 }
 

@@ -2,7 +2,10 @@
 //! batches from before or those with the new one.
 #![tactic(auto)]
 
+mod batches;
 mod beginning;
+mod error;
+mod finding;
 mod journal;
 mod laws;
 mod loading;
@@ -12,7 +15,11 @@ mod reading;
 #[cfg(test)]
 mod tests;
 
+pub use batches::Batches;
+pub use error::JournalError;
+pub use finding::batches_in;
 pub use journal::{AppendError, Journal};
 pub use laws::{one_finding, same_after_crashed_loads};
-pub use loading::{JournalError, load};
+pub use loading::load;
 pub use owner::Owner;
+pub use reading::Payloads;

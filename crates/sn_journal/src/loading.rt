@@ -1,63 +1,28 @@
 // Loading what a crash may have left.
-ghost use Rattle.std.specs.Prelude.{◌≡◌, ◌⊎◌, ◌≤◌, ◌++◌, [], ◌∷◌, List, ℕ, length, IfOk, IfErr, OnOk};
+ghost use Rattle.std.specs.Prelude.{◌≡◌, ◌⊎◌, ◌≤◌, ◌+◌, ◌*◌, ◌++◌, [], ◌∷◌, List, ℕ, length, IfOk, IfErr, OnOk};
 ghost use Rattle.sn_io.specs.Causes.{Rose};
-ghost use Rattle.sn_disk.specs.Disk.{Only, LeavesOnly};
-ghost use Rattle.sn_journal.specs.Image.{front, contents, IsChain, IsImage, IsBeforeOrAfter, SameBatches};
+ghost use Rattle.sn_disk.specs.Disk.{Only, LeavesOnly, Counts};
+ghost use Rattle.sn_journal.specs.Image.{IsImage, IsBeforeOrAfter, SameBatches, missing_writes};
 ghost use Rattle.sn_journal.specs.Loading.{IsLoadError};
-ghost use Rattle.sn_journal.specs.Settled.{IsSettled, owner_of, loaded_disk};
-ghost use Rattle.sn_journal.specs.declared.loading.JournalError.TheVariants.{Memory, DiskFault};
+ghost use Rattle.sn_journal.specs.Opening.{IsOpened};
+ghost use Rattle.sn_journal.specs.Settled.{IsRead, IsLoaded, owner_of, loaded_disk};
 
-use crate::beginning::{Beginning, beginning_of};
+use crate::finding::{Found, found_in};
 use crate::making::make_from;
-use crate::reading::{BatchError, read_batches};
-use crate::{Journal, Owner};
+use crate::{Batches, Journal, JournalError, Owner};
 use sn_disk::Disk;
-use sn_io::Failed;
-use std::alloc::{AllocError, Global};
-use thiserror::Error;
+use std::alloc::Global;
 
-/// Why a journal wasn't loaded.
-#[derive(Clone, Copy, Debug, PartialEq, Eq, Error)]
-pub enum JournalError {
-    /// The disk holds no journal of this owner. The place is the first that differs from the header.
-    #[error("not a journal of this owner from byte {place} on")]
-    Foreign { place: u64 },
-    /// The gate at this place is missing, or is open before no whole batch.
-    #[error("a batch at byte {place} is damaged")]
-    Damaged { place: u64 },
-    #[error("the disk failed")]
-    DiskFault,
-    #[error("out of memory")]
-    Memory,
-}
-
-impl From<AllocError> for JournalError {
-    ghost from_gives = { λ _ e. e ≡ Memory };
-
-    fn from(_: AllocError) -> JournalError {
-        JournalError::Memory
-    }
-}
-
-impl From<Failed> for JournalError {
-    ghost from_gives = { λ _ e. e ≡ DiskFault };
-
-    fn from(_: Failed) -> JournalError {
-        JournalError::DiskFault
-    }
-}
-
-/// Loads the journal of a disk with the payloads of its batches, or makes it where it was never begun or finished.
+/// Loads the journal of a disk with its batches, or makes it where it was never begun or finished.
 ///
 /// After an error the disk may be loaded again.
 pub fn load<D: Disk>(
     alloc: Global,
     disk: D,
     owner: Owner,
-) -> Result<(Journal<D>, Vec<Vec<u8>>), (D, JournalError)>
+) -> Result<(Journal<D>, Batches), (D, JournalError)>
     // The batches are those that the disk's bytes stand for, and each crash leaves them.
-    ensures loaded { D.told → IfOk result (λ found. IsSettled found.0 (contents found.1.items)
-        × IsImage owner (D.seen disk) (contents found.1.items)) }
+    ensures loaded { D.told → IfOk result (λ found. IsLoaded owner (D.seen disk) found.0 found.1) }
     ensures owner { IfOk result (λ found. owner_of found.0 ≡ owner) }
 
     // A crash at any moment leaves what it might have left before, or the same batches.
@@ -66,54 +31,67 @@ pub fn load<D: Disk>(
 
     // Where each outcome of a crash stands for the same batches, these are given, and each further one does too.
     ensures same { D.told → (payloads : List (List ℕ)) → ((c : List ℕ) → D.may_leave disk c → IsImage owner c payloads) →
-        IfOk result (λ found. contents found.1.items ≡ payloads)
+        IfOk result (λ found. IsRead found.0 found.1 payloads)
         × LeavesOnly D.moment D.left_since disk (loaded_disk result) (λ c. IsImage owner c payloads) }
 
     // Where each outcome stands for some batches or for these with one more, either are given.
     ensures either { D.told → (payloads : List (List ℕ)) (payload : List ℕ) → ((c : List ℕ) → D.may_leave disk c → IsBeforeOrAfter owner payloads payload c) →
-        IfOk result (λ found. (contents found.1.items ≡ payloads) ⊎ (contents found.1.items ≡ payloads ++ payload ∷ []))
+        IfOk result (λ found. IsRead found.0 found.1 payloads ⊎ IsRead found.0 found.1 (payloads ++ payload ∷ []))
         × LeavesOnly D.moment D.left_since disk (loaded_disk result) (IsBeforeOrAfter owner payloads payload) }
 
+    // A sync, and two calls for each write that is missing.
+    ensures calls { D.told → Counts (1 + 2 * missing_writes (D.seen disk)) (D.moment disk) (D.moment (loaded_disk result)) result }
+
     ensures refused { IfErr result (λ refusal. IsLoadError owner D.told (D.seen disk) (D.fault_count disk) (D.fault_count refusal.0) refusal.1) }
+    ensures grows { D.grows disk (loaded_disk result) }
     ensures later { D.fault_count disk ≤ D.fault_count (loaded_disk result) }
+    ensures quiet { OnOk result (D.fault_count (loaded_disk result) ≡ D.fault_count disk) }
 {
     let mut disk = disk;
     match open(alloc, &mut disk, owner) {
-        Ok((gate, payloads)) => Ok((Journal::opened(alloc, disk, owner, gate), payloads)),
+        Ok(opened) => {
+            let journal = Journal::opened(alloc, disk, owner, opened.gate, opened.count);
+            Ok((journal, opened.batches))
+        }
         Err(error) => Err((disk, error)),
     }
 }
 
-// Opens a journal, or makes it. Answers the place of its closed gate and its batches.
-fn open<D: Disk>(
-    alloc: Global,
-    disk: &mut D,
-    owner: Owner,
-) -> Result<(u64, Vec<Vec<u8>>), JournalError>
-    ensures opened { D.told → IfOk result (λ found. IsChain owner (D.seen disk.new) (contents found.1.items)
-        × (found.0 ≡ length (front owner (contents found.1.items)))
-        × Only (D.seen disk.new) (D.may_leave disk.new)
-        × IsImage owner (D.seen disk.old) (contents found.1.items)) }
+// The place of the closed gate, and the batches before it.
+#[derive(Drop)]
+pub(crate) struct Opened {
+    gate: u64,
+    count: u64,
+    batches: Batches,
+}
+
+// Opens a journal, or makes it.
+fn open<D: Disk>(alloc: Global, disk: &mut D, owner: Owner) -> Result<Opened, JournalError>
+    ensures opened { D.told → IfOk result (IsOpened D.seen D.may_leave owner disk.old disk.new) }
     ensures any_moment { D.told → LeavesOnly D.moment D.left_since disk.old disk.new
         (λ c. D.may_leave disk.old c ⊎ SameBatches owner (D.seen disk.old) c) }
+    ensures calls { D.told → Counts (1 + 2 * missing_writes (D.seen disk.old)) (D.moment disk.old) (D.moment disk.new) result }
     ensures refused { IfErr result (IsLoadError owner D.told (D.seen disk.old) (D.fault_count disk.old) (D.fault_count disk.new)) }
+    ensures grows { D.grows disk.old disk.new }
     ensures later { D.fault_count disk.old ≤ D.fault_count disk.new }
+    ensures quiet { OnOk result (D.fault_count disk.new ≡ D.fault_count disk.old) }
 {
     let bytes = read_synced(alloc, disk)?;
-    match beginning_of(&bytes, owner) {
-        Beginning::Header => match read_batches(alloc, &bytes[16..]) {
-            Ok((payloads, end)) => Ok((16 + end as u64, payloads)),
-            Err(BatchError::Memory) => Err(JournalError::Memory),
-            Err(BatchError::Broken { place }) => Err(JournalError::Damaged {
-                place: 16 + place as u64,
-            }),
-        },
-        Beginning::Foreign { place } => Err(JournalError::Foreign {
-            place: place as u64,
+    match found_in(&bytes, owner) {
+        Found::Batches { count, gate } => Ok(Opened {
+            gate,
+            count,
+            batches: Batches::behind_header(bytes),
         }),
-        Beginning::Unfinished(start) => {
+        Found::Foreign { place } => Err(JournalError::Foreign { place }),
+        Found::Damaged { place } => Err(JournalError::Damaged { place }),
+        Found::Unfinished(start) => {
             make_from(disk, owner, start)?;
-            Ok((16, Vec::new(alloc)))
+            Ok(Opened {
+                gate: 16,
+                count: 0,
+                batches: Batches::none(alloc),
+            })
         }
     }
 }
@@ -124,7 +102,10 @@ fn read_synced<D: Disk>(alloc: Global, disk: &mut D) -> Result<Vec<u8>, JournalE
     ensures seen { D.told → OnOk result (D.seen disk.new ≡ D.seen disk.old) }
     ensures durable { D.told → OnOk result (Only (D.seen disk.new) (D.may_leave disk.new)) }
     ensures any_moment { D.told → LeavesOnly D.moment D.left_since disk.old disk.new (D.may_leave disk.old) }
+    ensures one { D.told → Counts 1 (D.moment disk.old) (D.moment disk.new) result }
+    ensures grows { D.grows disk.old disk.new }
     ensures later { D.fault_count disk.old ≤ D.fault_count disk.new }
+    ensures quiet { OnOk result (D.fault_count disk.new ≡ D.fault_count disk.old) }
     ensures refused { IfErr result (λ e. (e ≡ JournalError.Memory) ⊎ ((e ≡ JournalError.DiskFault) × Rose (D.fault_count disk.old) (D.fault_count disk.new))) }
 {
     disk.sync()?;
@@ -137,7 +118,10 @@ fn read_whole<D: Disk>(alloc: Global, disk: &mut D) -> Result<Vec<u8>, JournalEr
     ensures seen { D.told → D.seen disk.new ≡ D.seen disk.old }
     ensures crash { D.told → (c : List ℕ) → D.may_leave disk.new c → D.may_leave disk.old c }
     ensures any_moment { D.told → LeavesOnly D.moment D.left_since disk.old disk.new (D.may_leave disk.old) }
+    ensures still { D.told → D.moment disk.new ≡ D.moment disk.old }
+    ensures grows { D.grows disk.old disk.new }
     ensures later { D.fault_count disk.old ≤ D.fault_count disk.new }
+    ensures quiet { OnOk result (D.fault_count disk.new ≡ D.fault_count disk.old) }
     ensures refused { IfErr result (λ e. (e ≡ JournalError.Memory) ⊎ ((e ≡ JournalError.DiskFault) × Rose (D.fault_count disk.old) (D.fault_count disk.new))) }
 {
     let len = disk.len()?;

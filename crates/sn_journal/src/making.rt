@@ -1,8 +1,8 @@
 // The three writes of a start, from the one that is missing on.
-ghost use Rattle.std.specs.Prelude.{◌≡◌, ◌≤◌, ◌<◌, ◌⊎◌, ◌++◌, ◌∷◌, [], List, ℕ, length, drop, slice_index, OnOk};
-ghost use Rattle.sn_disk.specs.Disk.{Only, LeavesOnly};
+ghost use Rattle.std.specs.Prelude.{◌≡◌, ◌≤◌, ◌<◌, ◌⊎◌, ◌++◌, ◌∷◌, ◌*◌, [], List, ℕ, length, drop, slice_index, OnOk};
+ghost use Rattle.sn_disk.specs.Disk.{Only, LeavesOnly, Counts};
 ghost use Rattle.sn_io.specs.Causes.{HasCause};
-ghost use Rattle.sn_journal.specs.Loading.{IsStartAt};
+ghost use Rattle.sn_journal.specs.Loading.{IsStartAt, writes_of};
 ghost use Rattle.sn_journal.specs.Image.{header_of, IsImage};
 
 use crate::Owner;
@@ -17,7 +17,10 @@ pub(crate) fn make_from<D: Disk>(disk: &mut D, owner: Owner, start: Start) -> Re
     ensures durable { D.told → OnOk result (Only (D.seen disk.new) (D.may_leave disk.new)) }
     ensures any_moment { D.told → Only (D.seen disk.old) (D.may_leave disk.old) →
         LeavesOnly D.moment D.left_since disk.old disk.new (λ c. IsImage owner c []) }
+    ensures calls { D.told → Counts (2 * writes_of start) (D.moment disk.old) (D.moment disk.new) result }
+    ensures grows { D.grows disk.old disk.new }
     ensures cause { HasCause (D.fault_count disk.old) (D.fault_count disk.new) result }
+    ensures quiet { OnOk result (D.fault_count disk.new ≡ D.fault_count disk.old) }
 {
     match start {
         Start::Fresh => make(disk, owner),
@@ -33,7 +36,10 @@ fn make<D: Disk>(disk: &mut D, owner: Owner) -> Result<(), Failed>
     ensures durable { D.told → OnOk result (Only (D.seen disk.new) (D.may_leave disk.new)) }
     ensures any_moment { D.told → Only (D.seen disk.old) (D.may_leave disk.old) →
         LeavesOnly D.moment D.left_since disk.old disk.new (λ c. IsImage owner c []) }
+    ensures calls { D.told → Counts 6 (D.moment disk.old) (D.moment disk.new) result }
+    ensures grows { D.grows disk.old disk.new }
     ensures cause { HasCause (D.fault_count disk.old) (D.fault_count disk.new) result }
+    ensures quiet { OnOk result (D.fault_count disk.new ≡ D.fault_count disk.old) }
 {
     write_durably(disk, 0, &[0])?;
     make_header(disk, owner)
@@ -46,7 +52,10 @@ fn make_header<D: Disk>(disk: &mut D, owner: Owner) -> Result<(), Failed>
     ensures durable { D.told → OnOk result (Only (D.seen disk.new) (D.may_leave disk.new)) }
     ensures any_moment { D.told → Only (D.seen disk.old) (D.may_leave disk.old) →
         LeavesOnly D.moment D.left_since disk.old disk.new (λ c. IsImage owner c []) }
+    ensures calls { D.told → Counts 4 (D.moment disk.old) (D.moment disk.new) result }
+    ensures grows { D.grows disk.old disk.new }
     ensures cause { HasCause (D.fault_count disk.old) (D.fault_count disk.new) result }
+    ensures quiet { OnOk result (D.fault_count disk.new ≡ D.fault_count disk.old) }
 {
     write_durably(disk, 1, &after_first_byte(owner))?;
     make_first_byte(disk, owner)
@@ -60,7 +69,10 @@ fn make_first_byte<D: Disk>(disk: &mut D, _owner: Owner) -> Result<(), Failed>
     ensures durable { D.told → OnOk result (Only (D.seen disk.new) (D.may_leave disk.new)) }
     ensures any_moment { D.told → Only (D.seen disk.old) (D.may_leave disk.old) →
         LeavesOnly D.moment D.left_since disk.old disk.new (λ c. IsImage _owner c []) }
+    ensures calls { D.told → Counts 2 (D.moment disk.old) (D.moment disk.new) result }
+    ensures grows { D.grows disk.old disk.new }
     ensures cause { HasCause (D.fault_count disk.old) (D.fault_count disk.new) result }
+    ensures quiet { OnOk result (D.fault_count disk.new ≡ D.fault_count disk.old) }
 {
     write_durably(disk, 0, b"S")
 }

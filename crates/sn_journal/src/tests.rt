@@ -1,5 +1,5 @@
 // The format's bytes, every unfinished start, and every stop with every image.
-use crate::{AppendError, Journal, JournalError, Owner, load};
+use crate::{AppendError, Batches, Journal, JournalError, Owner, batches_in, load};
 use sn_disk::{CrashImage, Disk, MemDisk, Stop};
 use sn_io::Failed;
 use std::alloc::Global;
@@ -48,7 +48,7 @@ fn run(alloc: Global, disk: MemDisk) -> (MemDisk, usize) {
     }
 }
 
-fn loaded(alloc: Global, disk: MemDisk) -> Result<(Journal<MemDisk>, Vec<Vec<u8>>), Fail> {
+fn loaded(alloc: Global, disk: MemDisk) -> Result<(Journal<MemDisk>, Batches), Fail> {
     match load(alloc, disk, Owner::Device) {
         Ok(found) => Ok(found),
         Err((_, error)) => Err(error.into()),
@@ -57,15 +57,19 @@ fn loaded(alloc: Global, disk: MemDisk) -> Result<(Journal<MemDisk>, Vec<Vec<u8>
 
 // How many of the batches `one` and `two` a disk has.
 fn found(alloc: Global, disk: MemDisk) -> Result<usize, Fail> {
-    let (_, payloads) = loaded(alloc, disk)?;
+    let (journal, batches) = loaded(alloc, disk)?;
     let expected: [&[u8]; 2] = [b"one", b"two"];
+    let mut payloads = batches.payloads();
     let mut count = 0;
-    for payload in &payloads {
-        if count < 2 && payload.as_slice() == expected[count] {
+    'payloads: while let Some(payload) = payloads.next() {
+        if count < 2 && payload == expected[count] {
             count += 1;
         } else {
             return Ok(99);
         }
+    }
+    if journal.count() != count as u64 {
+        return Ok(98);
     }
     Ok(count)
 }
@@ -85,8 +89,12 @@ fn every_stop_with_every_image(rt: HostRuntime) -> Result<(), Fail> {
                 14..16 => 1 + opens as usize,
                 _ => 2,
             };
-            assert_eq!(rt; disk.stop() == Stop::Reached, calls < 16);
+            assert_eq!(rt; disk.has_stopped(), calls < 16);
             assert_eq!(rt; disk.faults(), (calls < 16) as u64);
+            assert_eq!(rt;
+                batches_in(disk.bytes(), Owner::Device),
+                Ok(expected as u64)
+            );
             disk.set_stop(Stop::Never);
             let count = found(rt.alloc(), disk.copy(rt.alloc())?)?;
             assert_eq!(rt; count, expected, "{calls} {image:?}");
@@ -118,7 +126,7 @@ fn finds_again(alloc: Global, disk: &MemDisk, expected: usize) -> Result<bool, F
 
 fn reloaded(alloc: Global, disk: MemDisk) -> MemDisk {
     match load(alloc, disk, Owner::Device) {
-        Ok((journal, _payloads)) => journal.close(),
+        Ok((journal, _batches)) => journal.close(),
         Err((disk, _error)) => disk,
     }
 }
@@ -128,8 +136,8 @@ const EMPTY: &[u8; 17] = b"SNSYNC-JOURNALD1\0";
 #[test]
 fn bytes_of_a_journal(rt: HostRuntime) -> Result<(), Fail> {
     let fresh = disk_of(rt.alloc(), b"", Stop::Never)?;
-    let (journal, payloads) = loaded(rt.alloc(), fresh)?;
-    assert_eq!(rt; payloads.len(), 0);
+    let (journal, batches) = loaded(rt.alloc(), fresh)?;
+    assert_eq!(rt; (journal.count(), batches.payloads().next()), (0, None));
     assert_eq!(rt; journal.disk().bytes(), EMPTY.as_slice());
     assert_eq!(rt; journal.disk().calls().len(), 7);
     let Ok(journal) = appended(journal, b"\x00\x11\x00\x00\x00\x00") else {
@@ -140,9 +148,23 @@ fn bytes_of_a_journal(rt: HostRuntime) -> Result<(), Fail> {
         b"SNSYNC-JOURNALD1\x01\x00\x00\x00\x06\x00\x11\x00\x00\x00\x00\x00".as_slice()
     );
     assert_eq!(rt; journal.disk().calls().len(), 11);
-    let (journal, payloads) = loaded(rt.alloc(), journal.close())?;
-    assert_eq!(rt; payloads.len(), 1);
+    let (mut journal, batches) = loaded(rt.alloc(), journal.close())?;
+    let mut payloads = batches.payloads();
+    assert_eq!(rt;
+        payloads.next(),
+        Some(b"\x00\x11\x00\x00\x00\x00".as_slice())
+    );
+    assert_eq!(rt; (journal.count(), payloads.next()), (1, None));
     assert_eq!(rt; journal.disk().calls().len(), 12);
+    let stop = Stop::After {
+        calls: 1,
+        image: CrashImage::Old,
+    };
+    journal.set_stop(stop);
+    assert_eq!(rt;
+        (journal.disk().stop(), journal.disk().calls().len()),
+        (stop, 12)
+    );
     assert_eq!(rt; journal.close().wants(), 0);
     Ok(())
 }
@@ -165,8 +187,13 @@ fn unfinished_starts(rt: HostRuntime) -> Result<(), Fail> {
     ];
     for start in starts {
         let disk = disk_of(rt.alloc(), start, Stop::Never)?;
-        let (journal, payloads) = loaded(rt.alloc(), disk)?;
-        assert_eq!(rt; payloads.len(), 0, "{start:?}");
+        assert_eq!(rt; batches_in(start, Owner::Device), Ok(0), "{start:?}");
+        let (journal, batches) = loaded(rt.alloc(), disk)?;
+        assert_eq!(rt;
+            (journal.count(), batches.payloads().next()),
+            (0, None),
+            "{start:?}"
+        );
         assert_eq!(rt; journal.close().bytes(), EMPTY.as_slice(), "{start:?}");
     }
     Ok(())
@@ -216,6 +243,7 @@ fn refused_files(rt: HostRuntime) -> Result<(), Fail> {
             return Err(Failed.into());
         };
         assert_eq!(rt; refused, error, "{file:?}");
+        assert_eq!(rt; batches_in(file, Owner::Device), Err(error), "{file:?}");
         assert_eq!(rt; disk.bytes(), file);
         assert_eq!(rt; disk.faults(), 0);
     }

@@ -28,11 +28,9 @@ pub(crate) fn begin(
     if bench.devices.contains_key(device.as_str()) {
         return Ok(());
     }
-    let key = device.twin(alloc)?;
+    let key = device.as_str().to_string(alloc)?;
     let name = device.twin(alloc)?;
-    bench
-        .devices
-        .insert(key.into_string(), PlainDevice::new(alloc))?;
+    bench.devices.insert(key, PlainDevice::new(alloc))?;
     known.names.push(name)?;
     Ok(())
 }

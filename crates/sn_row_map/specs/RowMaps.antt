@@ -1,7 +1,8 @@
 -- A map of rows in memory.
-use Rattle.std.specs.Prelude.{◌≡◌, Option, IsSome}
+use Rattle.std.specs.Prelude.{◌≡◌, List, Option, IsSome}
 use Rattle.std.specs.Option.{option_and_then}
 use Rattle.std.specs.BTreeMap.{get}
+use Rattle.sn_rows.specs.Table.{Spares}
 use Rattle.sn_rows.specs.declared.change.Change.{Change}
 use Rattle.sn_rows.specs.declared.change.Change.TheVariants.{Put, Remove}
 use Rattle.sn_rows.specs.declared.key.Key.{Key}
@@ -33,3 +34,15 @@ KeepsRoom old new = (key : Key) → HasRoom old key → HasRoom new key
 -- the key has room only if it has a row
 abbrev pub IsSwept : RowMap → Key → Type 0
 IsSwept map key = HasRoom map key → IsSome (row_in map key)
+
+-- no key has room without a row
+abbrev pub IsTidy : RowMap → Type 0
+IsTidy map = (key : Key) → IsSwept map key
+
+-- only the keys of these changes may have room without a row
+abbrev pub IsTidyBut : List Change → RowMap → Type 0
+IsTidyBut changes map = (key : Key) → Spares key changes → IsSwept map key
+
+-- a key that has no room without a row gets none
+abbrev pub StaysSwept : RowMap → RowMap → Key → Type 0
+StaysSwept old new key = IsSwept old key → IsSwept new key

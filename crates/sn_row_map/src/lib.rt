@@ -4,3 +4,6 @@
 mod row_map;
 
 pub use row_map::{RowMap, keys_of};
+
+#[cfg(test)]
+mod tests;

@@ -1,23 +1,25 @@
 //! Rows in memory, by key.
 
-ghost use Rattle.std.specs.Prelude.{◌≡◌, ◌↔◌, ◌++◌, ◌==◌, None, List, All, OnOk, OnErr, IfOk, IsOk, IsTrue, length, map, if◌then◌else◌};
+ghost use Rattle.std.specs.Prelude.{◌≡◌, ◌↔◌, ◌++◌, ◌==◌, false, None, List, All, OnOk, OnErr, IfOk, IsOk, IsTrue, length, map, if◌then◌else◌};
 ghost use Rattle.std.specs.BTreeMap.{IsOrdered};
 ghost use Rattle.std.specs.BTreeMap.Range.{IsInRange, IsLeBy, IsLtBy, entries_between};
 ghost use Rattle.std.specs.List.{flat_map};
 ghost use Rattle.std.specs.Option.{option_copied, option_map, option_to_list};
 ghost use Rattle.std.specs.Range.Bound.{IsForward};
-ghost use Rattle.sn_rows.specs.Table.{same_key, key_of, changed, row_after};
+ghost use Rattle.sn_rows.specs.Table.{Spares, same_key, key_of, changed, row_after};
+ghost use Rattle.sn_rows.specs.declared.change.Change.{Change};
 ghost use Rattle.sn_rows.specs.declared.key.Key.{Key};
 ghost use Rattle.sn_rows.specs.Kinds.{key_kind, kind_number};
 ghost use Rattle.sn_row_map.specs.Keys.{key_cmp};
 ghost use Rattle.sn_row_map.specs.Ranges.{row_of_kind, rows_of, rows_behind, AreRowsOf};
 ghost use Rattle.sn_row_map.specs.Steps.{BeginsWith, GoesOn, IsFirst, IsNext, lent};
-ghost use Rattle.sn_row_map.specs.RowMaps.{FitsIn, HasRoom, IsSwept, KeepsRoom, SameRows, row_in};
+ghost use Rattle.sn_row_map.specs.RowMaps.{FitsIn, HasRoom, IsSwept, IsTidy, IsTidyBut, KeepsRoom, SameRows, StaysSwept, row_in};
 
 use sn_rows::{Change, Key, RowKind, Slot, Value};
 use sn_string::{Many, Twin};
 use std::alloc::{AllocError, Global};
 use std::collections::BTreeMap;
+use std::mem;
 use std::ops::Bound;
 use std::ops::Bound::{Excluded, Included, Unbounded};
 use uuid::Uuid;
@@ -32,7 +34,8 @@ impl RowMap {
     /// The map without rows. Takes no memory.
     #[tactic(auto, unfolding(crate::specs::RowMaps::row_in))]
     pub fn new(alloc: Global) -> RowMap
-        ensures { (key : Key) → row_in result key ≡ None }
+        ensures empty { (key : Key) → row_in result key ≡ None }
+        ensures tidy { IsTidy result }
     {
         RowMap {
             entries: BTreeMap::new(alloc),
@@ -106,7 +109,8 @@ impl RowMap {
         ensures rows { OnOk result ((other : Key) → row_in self.new other ≡ (if same_key key other then value else row_in self.old other)) }
         ensures room { OnOk result (HasRoom self.new key) }
         ensures kept { KeepsRoom self.old self.new }
-        ensures refused { OnErr result (SameRows self.old self.new) }
+        ensures others { (other : Key) → same_key key other ≡ false → StaysSwept self.old self.new other }
+        ensures refused { OnErr result (SameRows self.old self.new × KeepsRoom self.new self.old) }
         ensures fits { HasRoom self.old key → IsOk result }
     {
         match self.entries.insert(key, value) {
@@ -125,6 +129,7 @@ impl RowMap {
     fn make_room(&mut self, key: Key) -> Result<(), AllocError>
         ensures rows { SameRows self.old self.new }
         ensures kept { KeepsRoom self.old self.new }
+        ensures others { (other : Key) → same_key key other ≡ false → StaysSwept self.old self.new other }
         ensures room { OnOk result (HasRoom self.new key) }
     {
         if self.has_room(&key) {
@@ -138,6 +143,7 @@ impl RowMap {
     fn make_room_of(&mut self, change: &Change) -> Result<(), AllocError>
         ensures rows { SameRows self.old self.new }
         ensures kept { KeepsRoom self.old self.new }
+        ensures others { (other : Key) → same_key (key_of change.now) other ≡ false → StaysSwept self.old self.new other }
         ensures room { OnOk result (FitsIn self.new change.now) }
     {
         match change {
@@ -149,6 +155,7 @@ impl RowMap {
     /// Makes room for all rows that the changes put.
     pub fn make_room_for(&mut self, changes: &[Change]) -> Result<(), AllocError>
         ensures rows { SameRows self.old self.new }
+        ensures others { (key : Key) → Spares key changes.now → StaysSwept self.old self.new key }
         ensures room { OnOk result (All (FitsIn self.new) changes.now) }
     {
         'changes: for change in changes {
@@ -162,6 +169,7 @@ impl RowMap {
         requires { FitsIn self.old change }
         ensures rows { (key : Key) → row_in self.new key ≡ changed (row_in self.old key) key change }
         ensures kept { KeepsRoom self.old self.new }
+        ensures others { (other : Key) → same_key (key_of change) other ≡ false → StaysSwept self.old self.new other }
     {
         match change {
             Change::Put(row) => self.fill(row.key, Some(row.value)),
@@ -173,6 +181,7 @@ impl RowMap {
     fn empty(&mut self, key: Key)
         ensures rows { (other : Key) → row_in self.new other ≡ (if same_key key other then None else row_in self.old other) }
         ensures kept { KeepsRoom self.old self.new }
+        ensures others { (other : Key) → same_key key other ≡ false → StaysSwept self.old self.new other }
     {
         if self.has_room(&key) {
             return self.fill(key, None);
@@ -184,6 +193,7 @@ impl RowMap {
         requires { HasRoom self.old key }
         ensures rows { (other : Key) → row_in self.new other ≡ (if same_key key other then value else row_in self.old other) }
         ensures kept { KeepsRoom self.old self.new }
+        ensures others { (other : Key) → same_key key other ≡ false → StaysSwept self.old self.new other }
     {
         match self.put(key, value) {
             Ok(()) => {}
@@ -191,19 +201,34 @@ impl RowMap {
         }
     }
 
-    /// Changes rows, one after the other. Takes no memory.
-    pub fn set_all(&mut self, changes: Vec<Change>)
+    /// Changes rows, one after the other, and gives up the rooms that are left without a row. Takes no memory.
+    pub fn set_all(&mut self, mut changes: Vec<Change>)
         requires { All (FitsIn self.old) changes.items }
-        ensures { (key : Key) → row_in self.new key ≡ row_after (row_in self.old key) key changes.items }
+        ensures rows { (key : Key) → row_in self.new key ≡ row_after (row_in self.old key) key changes.items }
+        ensures tidy { IsTidyBut changes.items self.old → IsTidy self.new }
     {
-        'changes: for change in changes {
-            self.set(change);
+        self.set_each(&mut changes);
+        self.sweep_for(&changes);
+    }
+
+    // Makes each change, and leaves in its place the removal of its key.
+    fn set_each(&mut self, changes: &mut [Change])
+        requires { All (FitsIn self.old) changes.old }
+        ensures rows { (key : Key) → row_in self.new key ≡ row_after (row_in self.old key) key changes.old }
+        ensures others { (key : Key) → Spares key changes.old → StaysSwept self.old self.new key }
+        ensures keys { map key_of changes.new ≡ map key_of changes.old }
+    {
+        'changes: for change in changes.iter_mut() {
+            let left = Change::Remove(change.key());
+            let made = mem::replace(change, left);
+            self.set(made);
         }
     }
 
     // Changes one row. Makes no room for a row that goes.
     fn add(&mut self, change: Change) -> Result<(), AllocError>
-        ensures { OnOk result ((key : Key) → row_in self.new key ≡ changed (row_in self.old key) key change) }
+        ensures rows { OnOk result ((key : Key) → row_in self.new key ≡ changed (row_in self.old key) key change) }
+        ensures swept { (key : Key) → StaysSwept self.old self.new key }
     {
         match change {
             Change::Put(row) => self.put(row.key, Some(row.value)),
@@ -218,14 +243,15 @@ impl RowMap {
     fn remove(&mut self, key: &Key)
         ensures rows { (other : Key) → row_in self.new other ≡ (if same_key key.now other then None else row_in self.old other) }
         ensures gone { HasRoom self.new key.now → ⊥ }
-        ensures less { KeepsRoom self.new self.old }
+        ensures swept { (other : Key) → StaysSwept self.old self.new other }
     {
         self.entries.remove(key);
     }
 
     /// Changes rows, one after the other. After an error some may be changed.
     pub fn add_all(&mut self, changes: Vec<Change>) -> Result<(), AllocError>
-        ensures { OnOk result ((key : Key) → row_in self.new key ≡ row_after (row_in self.old key) key changes.items) }
+        ensures rows { OnOk result ((key : Key) → row_in self.new key ≡ row_after (row_in self.old key) key changes.items) }
+        ensures tidy { IsTidy self.old → IsTidy self.new }
     {
         'changes: for change in changes {
             self.add(change)?;
@@ -233,20 +259,32 @@ impl RowMap {
         Ok(())
     }
 
-    /// Gives up the room of those of these keys that have no row.
+    /// Gives up the room of those of these keys that have no row. Takes no memory.
     pub fn sweep(&mut self, keys: &[Key])
         ensures rows { SameRows self.old self.new }
         ensures swept { All (IsSwept self.new) keys.now }
+        // Where only changes of these keys made room, no room is left over.
+        ensures tidy { (changes : List Change) → keys.now ≡ map key_of changes → IsTidyBut changes self.old → IsTidy self.new }
     {
         'swept: for key in keys {
             self.sweep_one(key);
         }
     }
 
+    /// Gives up the room that was made for changes that aren't made. Takes no memory.
+    pub fn sweep_for(&mut self, changes: &[Change])
+        ensures rows { SameRows self.old self.new }
+        ensures tidy { IsTidyBut changes.now self.old → IsTidy self.new }
+    {
+        'swept: for change in changes {
+            self.sweep_one(&change.key());
+        }
+    }
+
     fn sweep_one(&mut self, key: &Key)
         ensures rows { SameRows self.old self.new }
         ensures swept { IsSwept self.new key.now }
-        ensures less { KeepsRoom self.new self.old }
+        ensures still { (other : Key) → StaysSwept self.old self.new other }
     {
         if self.get(key).is_some() {
             return;

@@ -2,6 +2,7 @@ pub mod Base64Facts
 pub mod Cases
 pub mod Colons
 pub mod Cuts
+pub mod Facts
 pub mod HexFacts
 pub mod ParamsFacts
 pub mod Written

@@ -10,6 +10,7 @@ use Rattle.sn_string.specs.Laws.{IsOutcome}
 use Rattle.sn_string.specs.Parameters.{HasParams, IsParamsJson, IsParamsPart}
 use Rattle.sn_string.specs.Parts.{reading_of}
 use Rattle.sn_string.specs.Refusals.{IsRefusal, Refuses, IsLeftmost}
+use Rattle.sn_string.specs.declared.params.KeySet.{KeySet}
 use Rattle.sn_string.specs.declared.params.Params.{Params}
 use Rattle.sn_string.specs.declared.reader.Parts.{Parts}
 use Rattle.sn_string.specs.declared.reader.StringError.{StringError}
@@ -27,6 +28,13 @@ same_params p q i c n =
       cost_fits = is_prop→PathP (λ j. IsCost (c j)) (λ j. hlevel props) p.cost_fits q.cost_fits k;
       nonce_fits = is_prop→PathP (λ j. IsNonce (n j)) (λ j. hlevel props) p.nonce_fits q.nonce_fits k;
     }
+
+-- key sets are equal where their parameters' values and their keys are
+pub same_keys : (a b : KeySet) → a.params.identifier ≡ b.params.identifier → a.params.pw_cost ≡ b.params.pw_cost
+    → a.params.pw_nonce ≡ b.params.pw_nonce → a.pw ≡ b.pw → a.mk ≡ b.mk → a.ak ≡ b.ak → a ≡ b
+same_keys a b i c n pw mk ak =
+    let params : a.params ≡ b.params = same_params a.params b.params i c n in
+    λ k. record { params = params k; pw = pw k; mk = mk k; ak = ak k }
 
 one_value : (value : Data) (p q : Params) → HasParams value p → HasParams value q → p ≡ q
 one_value value p q h k =

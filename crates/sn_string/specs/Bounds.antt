@@ -1,4 +1,4 @@
--- The bounds of auth parameters.
+-- The bounds of auth parameters, and of stamps.
 use Rattle.std.specs.Prelude.{ℕ, ◌≤◌, List, length}
 
 -- an identifier has 1 to 254 bytes
@@ -12,3 +12,7 @@ IsCost cost = (1 ≤ cost) × (cost ≤ 4294967295)
 -- a nonce has 1 to 256 bytes
 abbrev pub IsNonce : List ℕ → Type 0
 IsNonce text = (1 ≤ length text) × (length text ≤ 256)
+
+-- the last stamp: the last microsecond of the year 9999, counted from the first of 1970
+abbrev pub last_stamp : ℕ
+last_stamp = 253402300799999999

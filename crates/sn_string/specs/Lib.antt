@@ -6,4 +6,5 @@ pub mod Laws
 pub mod Parameters
 pub mod Parts
 pub mod Refusals
+pub mod Texts
 pub mod Uuids

@@ -3,6 +3,7 @@
 #![tactic(auto)]
 
 pub mod base64_texts;
+pub mod bounds;
 pub mod bytes;
 pub mod ciphertexts;
 pub mod forms;
@@ -18,6 +19,7 @@ pub mod uuid_texts;
 pub mod writer;
 
 pub use base64_texts::{base64_bytes, base64_text};
+pub use bounds::LAST_STAMP;
 pub use bytes::Bytes;
 pub use ciphertexts::is_ciphertext;
 pub use forms::{is_hash, is_iv, is_uuid};
@@ -29,7 +31,7 @@ pub use reader::{Parts, StringError, read};
 pub use text::Text;
 pub use twin::Twin;
 pub use uuid_texts::{uuid_of, uuid_text};
-pub use writer::{authenticated, with_params, write};
+pub use writer::{authenticated, authenticated_text, with_hash, with_params, write};
 
 #[cfg(test)]
 mod tests;

@@ -53,7 +53,7 @@ impl Twin for Uuid {
 
 impl Twin for Text {
     fn twin(&self, alloc: Global) -> Result<Text, AllocError> {
-        Text::of(alloc, self.as_str())
+        self.copied(alloc)
     }
 }
 

@@ -5,7 +5,7 @@ use Rattle.std.proofs.lemmas.List.Elements.{All-head, All-tail}
 use Rattle.serde_json.specs.Data.{Data, Items, item, no_items, string}
 use Rattle.serde_json.specs.Find.{get}
 use Rattle.sn_sync.specs.Answers.{AreConflicts, HasNoNumber, HasNoUuid, IsAccount, IsAnswer, IsConflict, IsParams, IsSynced, SaysError, SaysMore, SaysOn, SaysRefused}
-use Rattle.sn_sync.specs.Laws.{FitsAnswer, FitsConflict, FitsMore}
+use Rattle.sn_sync.specs.Fits.{FitsAnswer, FitsConflict, FitsMore}
 use Rattle.sn_sync.specs.Members.{Bytes, IsObject}
 use Rattle.sn_sync.specs.Written.{AreConflictsData, IsAnswerData, IsConflictData, WritesAnswer, error_data}
 use Rattle.sn_sync.specs.declared.answer.Answer.{Answer}

@@ -1,6 +1,7 @@
 -- A stamp's text is a date and a time of day.
-use Rattle.std.proofs.Common.{arith, ◌≡◌, ◌∙◌, sym, ap, refl, subst, ℕ, ◌+◌, ◌*◌, ◌/◌, ◌%◌, List, [], ◌∷◌, ◌++◌}
-use Rattle.std.proofs.lemmas.List.{append_assoc}
+use borrow.Rule.Slice.PartMut.{put_mid}
+use Rattle.std.proofs.Common.{arith, ◌≡◌, ◌∙◌, sym, ap, refl, subst, ℕ, ◌+◌, ◌*◌, ◌/◌, ◌%◌, List, [], ◌∷◌, ◌++◌, length, drop}
+use Rattle.std.proofs.lemmas.List.{append-nil, append_assoc, drop_all, drop_at, take_at}
 use Rattle.sn_sync.specs.Stamps.{IsStampText, Moment, moment_text, padded}
 use Rattle.sn_sync.specs.StampParts.{BeginsWithDate, IsTimeOfDay}
 use Rattle.sn_sync.proofs.Padded.{behind}
@@ -60,10 +61,16 @@ pub rest_is : (text r s : List ℕ) (days other : ℕ) → BeginsWithDate text d
 rest_is text r s days other a b =
     behind 2 84 a.day b.day _ r s refl (day_behind text _ (padded 2 a.day ++ 84 ∷ r) s a.year a.month other a.spelled refl b)
 
-pub joined : (text date time : List ℕ) (stamp : ℕ) → text ≡ date ++ 84 ∷ (time ++ 90 ∷ [])
-    → ((rest : List ℕ) → BeginsWithDate (date ++ 84 ∷ rest) (stamp / 86400000000) rest) → IsTimeOfDay (time ++ 90 ∷ []) (stamp % 86400000000) → IsStampText text stamp
+-- what is written into the back of a front of its length
+pub in_back : (front zeros back : List ℕ) (a k : ℕ) → length front ≡ a → length zeros ≡ k → put_mid a k (front ++ zeros) back ≡ front ++ back
+in_back front zeros back a k long rest =
+    let behind : drop k (drop a (front ++ zeros)) ≡ [] = ap (drop k) (drop_at front zeros a long) ∙ drop_all k zeros (omega (arith, rest)) in
+    ap (λ t. t ++ (back ++ drop k (drop a (front ++ zeros)))) (take_at front zeros a long) ∙ ap (λ t. front ++ (back ++ t)) behind ∙ ap (λ t. front ++ t) (append-nil back)
+
+-- a date and a time of day one after the other
+pub joined : (text date time : List ℕ) (stamp : ℕ) → text ≡ date ++ time → ((rest : List ℕ) → BeginsWithDate (date ++ rest) (stamp / 86400000000) rest)
+    → IsTimeOfDay time (stamp % 86400000000) → IsStampText text stamp
 joined text date time stamp e begins is =
-    let front : BeginsWithDate text (stamp / 86400000000) (time ++ 90 ∷ []) =
-    subst (λ t. BeginsWithDate t (stamp / 86400000000) (time ++ 90 ∷ [])) (sym e) (begins (time ++ 90 ∷ [])) in
+    let front : BeginsWithDate text (stamp / 86400000000) time = subst (λ t. BeginsWithDate t (stamp / 86400000000) time) (sym e) (begins time) in
     let number : stamp / 86400000000 * 86400000000 + stamp % 86400000000 ≡ stamp = omega arith in
     subst (IsStampText text) number (whole text _ _ _ front is)

@@ -7,7 +7,7 @@ use Rattle.serde_json.specs.Data.{Data, Items, item, no_items}
 use Rattle.serde_json.specs.Find.{get}
 use Rattle.sn_string.specs.Uuids.{uuid_text}
 use Rattle.sn_sync.specs.Items.{AreItems, IsItem, SaysCreated, SaysUpdated, SaysVersion, sent, stored}
-use Rattle.sn_sync.specs.Laws.{AreBytes, FitsKind, FitsSent, FitsStored}
+use Rattle.sn_sync.specs.Fits.{AreBytes, FitsKind, FitsSent, FitsStored}
 use Rattle.sn_sync.specs.Members.{Bytes, IsObject, SaysHash, SaysNullable, SaysOptional, SaysUuid}
 use Rattle.sn_sync.specs.Stamps.{IsStampText}
 use Rattle.sn_sync.specs.Written.{AreItemsData, IsCreatedData, IsItemData, hash_data, item_data, optional_data, uuid_data}

@@ -60,7 +60,7 @@ has_type d (conflict.Sync server) (kind, _) = inl kind
 has_type d (conflict.Uuid unsaved) (kind, _) = inr (inl kind)
 has_type d (conflict.Content unsaved) (kind, _) = inr (inr kind)
 
-no_conflict : (d : Data) (c : Conflict) (e : SyncError) → IsConflict d c → RefusesConflict d e → ⊥
+pub no_conflict : (d : Data) (c : Conflict) (e : SyncError) → IsConflict d c → RefusesConflict d e → ⊥
 no_conflict d c e (object, says) (inl (none, _)) = none object
 no_conflict d c e (object, says) (inr (inl (_, other, _))) = other (has_type d c says)
 no_conflict d c e (object, says) (inr (inr (_, wrong))) = no_typed d c e says wrong
@@ -71,7 +71,7 @@ no_conflicts_wrong (item d ds) [] e are wrong = are
 no_conflicts_wrong (item d ds) (c ∷ cs) e are (inl wrong) = no_conflict d c e are.0 wrong
 no_conflicts_wrong (item d ds) (c ∷ cs) e are (inr (_, wrong)) = no_conflicts_wrong ds cs e are.1 wrong
 
-no_conflict_list : (m : Option Data) (cs : List Conflict) (e : SyncError) → SaysConflicts m cs → RefusesConflictList m e → ⊥
+pub no_conflict_list : (m : Option Data) (cs : List Conflict) (e : SyncError) → SaysConflicts m cs → RefusesConflictList m e → ⊥
 no_conflict_list m cs e (ds, at, are) (inl (never, _)) = never ds at
 no_conflict_list m cs e (ds, at, are) (inr (es, there, wrong)) =
     let P : Items → Type 0 = λ x. AreConflicts x cs in

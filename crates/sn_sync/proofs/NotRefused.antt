@@ -91,7 +91,7 @@ change_fits d current pw cost nonce e h (inl x) = x.0 current h.current_password
 change_fits d current pw cost nonce e h (inr (now, inl x)) = x.0 pw h.new_password
 change_fits d current pw cost nonce e h (inr (now, inr (next, x))) = cost_fits d cost nonce e h.pw_cost h.pw_nonce h.version x
 
-limit_fits : (m : Option Data) (n : ℕ) (e : SyncError) → SaysLimit m n → ¬ (RefusesLimit m e)
+pub limit_fits : (m : Option Data) (n : ℕ) (e : SyncError) → SaysLimit m n → ¬ (RefusesLimit m e)
 limit_fits m n error.NotJson h x = x
 limit_fits m n error.Memory h x = x
 limit_fits m n (error.Member name) (inl h) x = x.2 n h.0

@@ -1,7 +1,8 @@
 -- The text of a request that is within its bounds says that request.
 use Rattle.std.proofs.Common.{rules, ◌∙◌, ap, sym, subst, codes, inl, refl}
 use Rattle.serde_json.specs.Data.{Data}
-use Rattle.sn_sync.specs.Laws.{FitsRequest, token_of}
+use Rattle.sn_sync.specs.Laws.{token_of}
+use Rattle.sn_sync.specs.Fits.{FitsRequest}
 use Rattle.sn_sync.specs.Members.{Bytes, IsObject}
 use Rattle.sn_sync.specs.Query.{first_value}
 use Rattle.sn_sync.specs.Requests.{HasBody, IsRequest, Says, route_of}

@@ -1,36 +1,41 @@
--- What a stamp's formats write.
-use Rattle.std.proofs.Common.{arith, ◌≡◌, ◌∙◌, sym, ap, ℕ, false, ◌-◌, ◌/◌, ◌%◌, ◌^◌, ◌<◌, List, [], ◌∷◌, ◌++◌, length, replicate}
-use Rattle.std.proofs.lemmas.List.{append-nil, append_assoc}
-use Rattle.std.specs.Fmt.{decimal, format_spec, padded_integral, styled_decimal, char_count}
+-- A stamp's text, two digits at a time.
+use Rattle.std.proofs.Common.{arith, ◌≡◌, ◌∙◌, ap, refl, ℕ, suc, ◌+◌, ◌/◌, ◌%◌, ◌<◌, List, [], ◌∷◌, ◌++◌}
+use Rattle.std.proofs.lemmas.List.{append_assoc}
 use Rattle.sn_sync.specs.Stamps.{padded}
 use Rattle.sn_sync.specs.StampParts.{BeginsWithDate, IsDayNumber, IsTimeOfDay}
-use Rattle.sn_sync.proofs.Padded.{padded-decimal}
 
--- a hole of so many digits, with zeros in front
-zeros_padded : (width n : ℕ) → 0 < width → n < 10 ^ width → n < 2 ^ 64 → padded_integral (format_spec 32 0 4 width 18446744073709551615) false [] (decimal n) ≡ padded width n
-unfolding padded_integral char_count
-zeros_padded width n some fits small =
-    let zeros : width - length (decimal n) - 0 - 0 ≡ width - length (decimal n) = omega arith in
-    rw zeros (ap (λ text. replicate (width - length (decimal n)) 48 ++ text) (append-nil (decimal n)) ∙ sym (padded-decimal width n some fits small))
+-- two digits, and what stands in front of them
+split : (width n : ℕ) → padded (suc (suc width)) n ≡ padded width (n / 100) ++ padded 2 (n % 100)
+unfolding padded
+split width n =
+    let front : n / 10 / 10 ≡ n / 100 = omega arith in
+    let tens : n % 100 / 10 % 10 ≡ n / 10 % 10 = omega arith in
+    let ones : n % 100 % 10 ≡ n % 10 = omega arith in
+    rw (front, tens, ones) (append_assoc (padded width (n / 100)) ((48 + n / 10 % 10) ∷ []) ((48 + n % 10) ∷ []))
 
-pub hole_2 : (n : ℕ) → n < 100 → styled_decimal (format_spec 32 0 4 2 18446744073709551615) n ≡ padded 2 n
-hole_2 n h = zeros_padded 2 n (omega arith) h (omega arith)
+pub padded_2 : (n : ℕ) → n < 100 → padded 2 n ≡ (48 + n / 10) ∷ (48 + n % 10) ∷ []
+unfolding padded
+padded_2 n h = let tens : n / 10 % 10 ≡ n / 10 = omega arith in rw tens refl
 
-pub hole_4 : (n : ℕ) → n < 10000 → styled_decimal (format_spec 32 0 4 4 18446744073709551615) n ≡ padded 4 n
-hole_4 n h = zeros_padded 4 n (omega arith) h (omega arith)
+pub padded_4 : (n : ℕ) → padded 4 n ≡ padded 2 (n / 100) ++ padded 2 (n % 100)
+padded_4 n = split 2 n
 
-pub hole_6 : (n : ℕ) → n < 1000000 → styled_decimal (format_spec 32 0 4 6 18446744073709551615) n ≡ padded 6 n
-hole_6 n h = zeros_padded 6 n (omega arith) h (omega arith)
+pub padded_6 : (n : ℕ) → padded 6 n ≡ padded 2 (n / 10000) ++ (padded 2 (n / 100 % 100) ++ padded 2 (n % 100))
+padded_6 n =
+    let front : n / 100 / 100 ≡ n / 10000 = omega arith in
+    split 4 n ∙ ap (λ text. text ++ padded 2 (n % 100)) (split 2 (n / 100)) ∙ rw front (append_assoc (padded 2 (n / 10000)) (padded 2 (n / 100 % 100)) (padded 2 (n % 100)))
 
-pub date_written : (text a b c : List ℕ) (year month day days : ℕ) → text ≡ a ++ 45 ∷ (b ++ 45 ∷ c) → a ≡ padded 4 year → b ≡ padded 2 month → c ≡ padded 2 day
-    → IsDayNumber year month day days → (rest : List ℕ) → BeginsWithDate (text ++ 84 ∷ rest) days rest
-date_written text a b c year month day days e f g h is rest =
-    record { year = year; month = month; day = day; is = is; spelled = rw (e, f, g, h) (simp append_assoc) }
+pub date_written : (a b c d e f g h year month day days : ℕ) → padded 2 (year / 100) ≡ a ∷ b ∷ [] → padded 2 (year % 100) ≡ c ∷ d ∷ []
+    → padded 2 month ≡ e ∷ f ∷ [] → padded 2 day ≡ g ∷ h ∷ [] → IsDayNumber year month day days
+    → (rest : List ℕ) → BeginsWithDate ((a ∷ b ∷ c ∷ d ∷ 45 ∷ e ∷ f ∷ 45 ∷ g ∷ h ∷ 84 ∷ []) ++ rest) days rest
+date_written a b c d e f g h year month day days century decade m n is rest =
+    record { year = year; month = month; day = day; is = is; spelled = rw (padded_4 year, century, decade, m, n) refl }
 
-pub time_written : (text a b c d : List ℕ) (since : ℕ) → since < 86400000000 → text ≡ a ++ 58 ∷ (b ++ 58 ∷ (c ++ 46 ∷ d))
-    → a ≡ padded 2 (since / 1000000 / 60 / 60) → b ≡ padded 2 (since / 1000000 / 60 % 60) → c ≡ padded 2 (since / 1000000 % 60) → d ≡ padded 6 (since % 1000000)
-    → IsTimeOfDay (text ++ 90 ∷ []) since
-time_written text a b c d since bound e f g h k = record {
+pub time_written : (a b c d e f g h i j k l since : ℕ) → since < 86400000000
+    → padded 2 (since / 1000000 / 60 / 60) ≡ a ∷ b ∷ [] → padded 2 (since / 1000000 / 60 % 60) ≡ c ∷ d ∷ [] → padded 2 (since / 1000000 % 60) ≡ e ∷ f ∷ []
+    → padded 2 (since % 1000000 / 10000) ≡ g ∷ h ∷ [] → padded 2 (since % 1000000 / 100 % 100) ≡ i ∷ j ∷ [] → padded 2 (since % 1000000 % 100) ≡ k ∷ l ∷ []
+    → IsTimeOfDay (a ∷ b ∷ 58 ∷ c ∷ d ∷ 58 ∷ e ∷ f ∷ 46 ∷ g ∷ h ∷ i ∷ j ∷ k ∷ l ∷ 90 ∷ []) since
+time_written a b c d e f g h i j k l since bound hours minutes seconds first second third = record {
   hour = since / 1000000 / 60 / 60;
   minute = since / 1000000 / 60 % 60;
   second = since / 1000000 % 60;
@@ -40,5 +45,5 @@ time_written text a b c d since bound e f g h k = record {
   second_in = omega arith;
   micros_in = omega arith;
   is = omega arith;
-  spelled = rw (e, f, g, h, k) (simp append_assoc);
+  spelled = rw (hours, minutes, seconds, padded_6 (since % 1000000), first, second, third) refl;
 }

@@ -1,27 +1,17 @@
 -- What holds of every message, by the definitions alone.
-use Rattle.std.specs.Prelude.{◌≡◌, ◌≢◌, ◌<◌, ◌≤◌, ℕ, length, [], Some, None, All}
-use Rattle.std.specs.Str.{IsUtf8}
-use Rattle.sn_string.specs.Bounds.{IsCost, IsIdentifier, IsNonce}
+use Rattle.std.specs.Prelude.{◌≡◌, ℕ, []}
 use Rattle.sn_sync.specs.Answers.{IsAnswer, RefusesAnswer}
-use Rattle.sn_sync.specs.Members.{Bytes, IsSessionToken}
+pub use Rattle.sn_sync.specs.Fits.{AreBytes, FitsAnswer, FitsConflict, FitsKind, FitsMore, FitsRequest, FitsSent, FitsStored}
+use Rattle.sn_sync.specs.Members.{Bytes}
 use Rattle.sn_sync.specs.Requests.{IsRequest, RefusesRequest, route_of}
 use Rattle.sn_sync.specs.Stamps.{IsStampText}
 use Rattle.sn_sync.specs.Tokens.{IsToken}
 use Rattle.sn_sync.specs.Written.{WritesAnswer, WritesRequest}
 use Rattle.sn_sync.specs.declared.answer.Answer.{Answer}
-use Rattle.sn_sync.specs.declared.answer.Answer.TheVariants as answer
-use Rattle.sn_sync.specs.declared.answer.Conflict.{Conflict}
-use Rattle.sn_sync.specs.declared.answer.Conflict.TheVariants as conflict
-use Rattle.sn_sync.specs.declared.answer.More.{More}
-use Rattle.sn_sync.specs.declared.answer.More.TheVariants as more
 use Rattle.sn_sync.specs.declared.error.SyncError.{SyncError}
-use Rattle.sn_sync.specs.declared.item.Body.{Body}
-use Rattle.sn_sync.specs.declared.item.Body.TheVariants as body
-use Rattle.sn_sync.specs.declared.item.Item.{Item}
 use Rattle.sn_sync.specs.declared.request.Request.{Request}
 use Rattle.sn_sync.specs.declared.request.Request.TheVariants as request
 use Rattle.sn_sync.specs.declared.request.Route.{Route}
-use Rattle.sn_sync.specs.declared.request.Route.TheVariants as route
 
 -- ---- stamps and tokens
 
@@ -47,6 +37,10 @@ HasOneRequest = (on : Route) (token text : Bytes) (a b : Request) → IsRequest 
 abbrev pub RefusesNoRequest : Type 0
 RefusesNoRequest = (on : Route) (token text : Bytes) (r : Request) (e : SyncError) → IsRequest on token text r → ¬ (RefusesRequest on text e)
 
+-- a text that is no request has one refusal, if it isn't want of memory
+abbrev pub HasOneRequestRefusal : Type 0
+HasOneRequestRefusal = (on : Route) (text : Bytes) (e f : SyncError) → RefusesRequest on text e → RefusesRequest on text f → e ≡ f
+
 -- a text says one answer at most
 abbrev pub HasOneAnswer : Type 0
 HasOneAnswer = (on : Route) (status : ℕ) (text : Bytes) (a b : Answer) → IsAnswer on status text a → IsAnswer on status text b → a ≡ b
@@ -55,40 +49,12 @@ HasOneAnswer = (on : Route) (status : ℕ) (text : Bytes) (a b : Answer) → IsA
 abbrev pub RefusesNoAnswer : Type 0
 RefusesNoAnswer = (on : Route) (status : ℕ) (text : Bytes) (a : Answer) (e : SyncError) → IsAnswer on status text a → ¬ (RefusesAnswer on status text e)
 
+-- a text that is no answer has one refusal, if it isn't want of memory
+abbrev pub HasOneAnswerRefusal : Type 0
+HasOneAnswerRefusal = (on : Route) (status : ℕ) (text : Bytes) (e f : SyncError)
+    → RefusesAnswer on status text e → RefusesAnswer on status text f → e ≡ f
+
 -- ---- what is written is read back
-
--- so many bytes
-abbrev pub AreBytes : ℕ → Bytes → Type 0
-AreBytes n bytes = (length bytes ≡ n) × All (λ b. b < 256) bytes
-
-abbrev pub FitsKind : Body → Bytes → Type 0
-FitsKind body.Deleted kind = length kind ≤ 255
-FitsKind (body.Strings content enc) kind = (1 ≤ length kind) × (length kind ≤ 255)
-
--- an item of a request, or one that is given back unsaved
-pub record FitsSent (i : Item) : Type 0 where
-  pub uuid : AreBytes 16 i.uuid
-  pub kind : FitsKind i.body i.kind
-  pub created : i.created ≡ None
-
--- an item that the account has: it was accepted first at one stamp and last at another
-pub record FitsStored (i : Item) : Type 0 where
-  pub uuid : AreBytes 16 i.uuid
-  pub kind : FitsKind i.body i.kind
-  pub first : ℕ
-  pub created : i.created ≡ Some first
-  pub text : Bytes
-  pub updated_at : i.updated_at ≡ Some text
-  pub last : ℕ
-  pub stamped : IsStampText text last
-
--- within its bounds
-abbrev pub FitsRequest : Request → Type 0
-FitsRequest (request.Register params pw) = AreBytes 32 pw
-FitsRequest (request.Params identifier) = IsIdentifier identifier × IsUtf8 identifier
-FitsRequest (request.SignIn identifier pw) = IsIdentifier identifier × AreBytes 32 pw
-FitsRequest (request.ChangePw token current pw cost nonce) = AreBytes 32 current × AreBytes 32 pw × IsCost cost × IsNonce nonce
-FitsRequest (request.Sync token items limit sync_token cursor_token) = All FitsSent items × (1 ≤ limit) × (limit ≤ 500)
 
 -- the session token that goes with a request, empty where none does
 abbrev pub token_of : Request → Bytes
@@ -98,29 +64,20 @@ token_of (request.SignIn identifier pw) = []
 token_of (request.ChangePw token current pw cost nonce) = token
 token_of (request.Sync token items limit sync_token cursor_token) = token
 
+-- a request that is within its bounds
 abbrev pub RequestsReadBack : Type 0
 RequestsReadBack = (r : Request) (text : Bytes) → FitsRequest r → WritesRequest r text → IsRequest (route_of r) (token_of r) text r
 
-abbrev pub FitsConflict : Conflict → Type 0
-FitsConflict (conflict.Sync server) = FitsStored server
-FitsConflict (conflict.Uuid unsaved) = FitsSent unsaved
-FitsConflict (conflict.Content unsaved) = FitsSent unsaved
+-- a request that was read: what is written for it, by whoever wants to, says it again
+abbrev pub RequestsReadAgain : Type 0
+RequestsReadAgain = (on : Route) (token text written : Bytes) (r : Request)
+    → IsRequest on token text r → WritesRequest r written → IsRequest on token written r
 
-abbrev pub FitsMore : More → Type 0
-FitsMore more.Nothing = Unit {0}
-FitsMore (more.Name name) = Unit {0}
-FitsMore (more.Number n) = Unit {0}
-FitsMore (more.Uuid uuid) = AreBytes 16 uuid
-FitsMore (more.Both n uuid) = AreBytes 16 uuid
-
--- within its bounds, and an answer of this status on this route
-abbrev pub FitsAnswer : Route → ℕ → Answer → Type 0
-FitsAnswer on status (answer.Account token identifier uuid) =
-    (on ≢ route.Params) × (on ≢ route.Sync) × (status ≡ 200) × IsSessionToken token × IsIdentifier identifier × AreBytes 16 uuid
-FitsAnswer on status (answer.Params params) = (on ≡ route.Params) × (status ≡ 200)
-FitsAnswer on status (answer.Sync conflicts cursor_token retrieved saved sync_token) =
-    (on ≡ route.Sync) × (status ≡ 200) × All FitsConflict conflicts × All FitsStored retrieved × All FitsStored saved
-FitsAnswer on status (answer.Refused s tag further) = (s ≡ status) × (status ≢ 200) × FitsMore further
-
+-- an answer that is within its bounds
 abbrev pub AnswersReadBack : Type 0
 AnswersReadBack = (on : Route) (status : ℕ) (a : Answer) (text : Bytes) → FitsAnswer on status a → WritesAnswer a text → IsAnswer on status text a
+
+-- an answer that was read
+abbrev pub AnswersReadAgain : Type 0
+AnswersReadAgain = (on : Route) (status : ℕ) (text written : Bytes) (a : Answer)
+    → IsAnswer on status text a → WritesAnswer a written → IsAnswer on status written a

@@ -10,4 +10,5 @@ pub mod Query
 pub mod Requests
 pub mod Answers
 pub mod Written
+pub mod Fits
 pub mod Laws

@@ -1,11 +1,8 @@
 -- Stamps: whole microseconds since 1970-01-01T00:00:00Z, and their one spelling (RFC 3339, 5.6: in UTC, with six digits of a
 -- second's fraction).
 use Rattle.std.specs.Prelude.{◌≡◌, ℕ, zero, suc, ◌+◌, ◌*◌, ◌/◌, ◌%◌, ◌<◌, ◌≤◌, List, [], ◌∷◌, ◌++◌, Option, Some, codes, pos}
+pub use Rattle.sn_string.specs.Bounds.{last_stamp}
 use Rattle.jiff_core.specs.Calendar.{IsCivilDate, days_from_civil}
-
--- the last microsecond of the year 9999
-abbrev pub last_stamp : ℕ
-last_stamp = 253402300799999999
 
 -- a stamp, or none
 abbrev pub IsStampOrNone : Option ℕ → Type 0

@@ -5,6 +5,7 @@ ghost use Rattle.serde_json.specs.Data.{Data};
 ghost use Rattle.serde_json.specs.Find.{get};
 ghost use Rattle.serde_json.specs.View.{items_view, view};
 ghost use Rattle.sn_sync.specs.Answers.{AreConflicts, HasNoNumber, HasNoUuid, IsAnswer, IsConflict, IsUser, RefusesAnswer, RefusesConflict, RefusesConflictList, RefusesConflicts, RefusesMember, RefusesOn, RefusesRefused, RefusesUser, RefusesUserOf, SaysConflicts, SaysItem, SaysMore, SaysOn, SaysRefused, SaysUser};
+ghost use Rattle.sn_sync.specs.Fits.{FitsAnswer};
 ghost use Rattle.sn_sync.specs.Items.{sent, stored};
 ghost use Rattle.sn_sync.specs.Members.{IsObject, SaysNumber, SaysText, SaysUuid};
 ghost use Rattle.sn_sync.specs.Refusals.{Caused};
@@ -33,6 +34,7 @@ pub fn read_answer(
     text: &[u8],
 ) -> Result<Answer, SyncError>
     ensures ok { IfOk result (IsAnswer route status text.now) }
+    ensures fits { IfOk result (FitsAnswer route status) }
     ensures err { IfErr result (Caused (RefusesAnswer route status text.now)) }
 {
     let body = body_of(alloc, text)?;
@@ -82,7 +84,7 @@ fn user_in(alloc: Global, body: &Value) -> Result<User, SyncError>
 {
     match object_in(body, "user") {
         Some(value) => user_of(alloc, value),
-        None => Err(lacks(alloc, "user")),
+        None => Err(lacks("user")),
     }
 }
 
@@ -92,7 +94,7 @@ fn user_of(alloc: Global, value: &Value) -> Result<User, SyncError>
     ensures err { IfErr result (Caused (RefusesUserOf (view value.now))) }
 {
     let identifier = identifier_in(alloc, value, "email")?;
-    let uuid = uuid_in(alloc, value, "uuid")?;
+    let uuid = uuid_in(value, "uuid")?;
     Ok(User { identifier, uuid })
 }
 
@@ -113,9 +115,9 @@ fn params(alloc: Global, body: &Value) -> Result<Answer, SyncError>
     ensures err { IfErr result (Caused (RefusesOn route.Params (view body.now))) }
 {
     let identifier = identifier_in(alloc, body, "identifier")?;
-    let pw_cost = cost_in(alloc, body, "pw_cost")?;
+    let pw_cost = cost_in(body, "pw_cost")?;
     let pw_nonce = nonce_in(alloc, body, "pw_nonce")?;
-    word_in(alloc, body, "version", "003")?;
+    word_in(body, "version", "003")?;
     Ok(Answer::Params(Params {
         identifier,
         pw_cost,
@@ -149,7 +151,7 @@ fn conflicts(alloc: Global, body: &Value) -> Result<Many<Conflict>, SyncError>
 {
     match values_in(body, "conflicts") {
         Some(values) => conflicts_of(alloc, values),
-        None => Err(lacks(alloc, "conflicts")),
+        None => Err(lacks("conflicts")),
     }
 }
 
@@ -169,7 +171,7 @@ fn conflict(alloc: Global, value: &Value) -> Result<Conflict, SyncError>
     ensures err { IfErr result (Caused (RefusesConflict (view value.now))) }
 {
     if !value.is_object() {
-        return Err(lacks(alloc, "conflicts"));
+        return Err(lacks("conflicts"));
     }
     match text_of(value, "type") {
         Some("sync_conflict") => Ok(Conflict::Sync {
@@ -181,7 +183,7 @@ fn conflict(alloc: Global, value: &Value) -> Result<Conflict, SyncError>
         Some("content_error") => Ok(Conflict::Content {
             unsaved: unsaved_item(alloc, value)?,
         }),
-        _ => Err(lacks(alloc, "type")),
+        _ => Err(lacks("type")),
     }
 }
 
@@ -191,7 +193,7 @@ fn server_item(alloc: Global, value: &Value) -> Result<Item, SyncError>
 {
     match value.get("server_item") {
         Some(item) => stored_item(alloc, "server_item", item),
-        None => Err(lacks(alloc, "server_item")),
+        None => Err(lacks("server_item")),
     }
 }
 
@@ -201,7 +203,7 @@ fn unsaved_item(alloc: Global, value: &Value) -> Result<Item, SyncError>
 {
     match value.get("unsaved_item") {
         Some(item) => sent_item(alloc, "unsaved_item", item),
-        None => Err(lacks(alloc, "unsaved_item")),
+        None => Err(lacks("unsaved_item")),
     }
 }
 
@@ -212,10 +214,10 @@ fn refused(alloc: Global, status: u16, body: &Value) -> Result<Answer, SyncError
     ensures err { IfErr result (Caused (RefusesRefused (view body.now))) }
 {
     let Some(error) = body.get("error") else {
-        return Err(lacks(alloc, "error"));
+        return Err(lacks("error"));
     };
     let Some(tag) = text_of(error, "tag") else {
-        return Err(lacks(alloc, "error"));
+        return Err(lacks("error"));
     };
     let tag = Text::of(alloc, tag)?;
     let more = more_of(alloc, error)?;

@@ -27,7 +27,11 @@ enum Standing {
 }
 
 /// An item of a request, or one that an answer gives back unsaved. `outer` is the member in which it stands.
-pub(crate) fn sent_item(alloc: Global, outer: &str, value: &Value) -> Result<Item, SyncError>
+pub(crate) fn sent_item(
+    alloc: Global,
+    outer: &'static str,
+    value: &Value,
+) -> Result<Item, SyncError>
     ensures ok { IfOk result (IsItem sent (view value.now)) }
     ensures err { IfErr result (Caused (RefusesItem sent outer.now (view value.now))) }
 {
@@ -35,7 +39,11 @@ pub(crate) fn sent_item(alloc: Global, outer: &str, value: &Value) -> Result<Ite
 }
 
 /// An item that the account has.
-pub(crate) fn stored_item(alloc: Global, outer: &str, value: &Value) -> Result<Item, SyncError>
+pub(crate) fn stored_item(
+    alloc: Global,
+    outer: &'static str,
+    value: &Value,
+) -> Result<Item, SyncError>
     ensures ok { IfOk result (IsItem stored (view value.now)) }
     ensures err { IfErr result (Caused (RefusesItem stored outer.now (view value.now))) }
 {
@@ -43,7 +51,11 @@ pub(crate) fn stored_item(alloc: Global, outer: &str, value: &Value) -> Result<I
 }
 
 /// The items in the member of this name.
-pub(crate) fn sent_items(alloc: Global, body: &Value, name: &str) -> Result<Many<Item>, SyncError>
+pub(crate) fn sent_items(
+    alloc: Global,
+    body: &Value,
+    name: &'static str,
+) -> Result<Many<Item>, SyncError>
     ensures ok { IfOk result (SaysItems sent (get name.now (view body.now))) }
     ensures err { IfErr result (Caused (RefusesList sent name.now (get name.now (view body.now)))) }
 {
@@ -51,7 +63,11 @@ pub(crate) fn sent_items(alloc: Global, body: &Value, name: &str) -> Result<Many
 }
 
 /// The account's items in the member of this name.
-pub(crate) fn stored_items(alloc: Global, body: &Value, name: &str) -> Result<Many<Item>, SyncError>
+pub(crate) fn stored_items(
+    alloc: Global,
+    body: &Value,
+    name: &'static str,
+) -> Result<Many<Item>, SyncError>
     ensures ok { IfOk result (SaysItems stored (get name.now (view body.now))) }
     ensures err { IfErr result (Caused (RefusesList stored name.now (get name.now (view body.now)))) }
 {
@@ -62,21 +78,21 @@ fn list(
     alloc: Global,
     standing: Standing,
     body: &Value,
-    name: &str,
+    name: &'static str,
 ) -> Result<Many<Item>, SyncError>
     ensures ok { IfOk result (SaysItems (standing_of standing) (get name.now (view body.now))) }
     ensures err { IfErr result (Caused (RefusesList (standing_of standing) name.now (get name.now (view body.now)))) }
 {
     match values_in(body, name) {
         Some(values) => items(alloc, standing, name, values),
-        None => Err(lacks(alloc, name)),
+        None => Err(lacks(name)),
     }
 }
 
 fn items(
     alloc: Global,
     standing: Standing,
-    outer: &str,
+    outer: &'static str,
     values: &[Value],
 ) -> Result<Many<Item>, SyncError>
     ensures ok { IfOk result (AreItems (standing_of standing) (items_view values.now)) }
@@ -89,12 +105,17 @@ fn items(
     Ok(items)
 }
 
-fn item(alloc: Global, standing: Standing, outer: &str, value: &Value) -> Result<Item, SyncError>
+fn item(
+    alloc: Global,
+    standing: Standing,
+    outer: &'static str,
+    value: &Value,
+) -> Result<Item, SyncError>
     ensures ok { IfOk result (IsItem (standing_of standing) (view value.now)) }
     ensures err { IfErr result (Caused (RefusesItem (standing_of standing) outer.now (view value.now))) }
 {
     if !value.is_object() {
-        return Err(lacks(alloc, outer));
+        return Err(lacks(outer));
     }
     if is_deleted(value) {
         deleted_item(alloc, standing, value)
@@ -112,7 +133,7 @@ fn deleted_item(alloc: Global, standing: Standing, value: &Value) -> Result<Item
     let kind = kind_in(alloc, value, 0)?;
     let created = created_in(alloc, standing, value)?;
     let updated_at = updated_in(alloc, standing, value)?;
-    let uuid = uuid_in(alloc, value, "uuid")?;
+    let uuid = uuid_in(value, "uuid")?;
     Ok(Item {
         uuid,
         kind,
@@ -132,10 +153,10 @@ fn kept_item(alloc: Global, standing: Standing, value: &Value) -> Result<Item, S
     let kind = kind_in(alloc, value, 1)?;
     let created = created_in(alloc, standing, value)?;
     // It is known not to be true, and still may be no flag.
-    flag_in(alloc, value, "deleted")?;
+    flag_in(value, "deleted")?;
     let enc = text_or_empty_in(alloc, value, "enc_item_key")?;
     let updated_at = updated_in(alloc, standing, value)?;
-    let uuid = uuid_in(alloc, value, "uuid")?;
+    let uuid = uuid_in(value, "uuid")?;
     Ok(Item {
         uuid,
         kind,
@@ -154,7 +175,7 @@ fn created_in(alloc: Global, standing: Standing, value: &Value) -> Result<Option
 {
     match standing {
         Standing::Sent => Ok(None),
-        Standing::Stored => Ok(Some(stamp_in(alloc, value, "created_at")?)),
+        Standing::Stored => Ok(Some(stamp_in(value, "created_at")?)),
     }
 }
 

@@ -7,7 +7,7 @@ ghost use Rattle.serde_json.specs.View.{view};
 ghost use Rattle.sn_sync.specs.Items.{SaysKind};
 ghost use Rattle.sn_sync.specs.Members.{Bytes, IsLeftOut, IsSessionToken, SaysCost, SaysFlag, SaysHash, SaysIdentifier, SaysNonce, SaysNullable, SaysNumber, SaysOptional, SaysSessionToken, SaysStamp, SaysStampText, SaysText, SaysTextOrEmpty, SaysUuid, SaysWord};
 ghost use Rattle.sn_sync.specs.Refusals.{Caused, Lacks};
-ghost use Rattle.sn_sync.specs.Stamps.{last_stamp};
+ghost use Rattle.sn_string.specs.Bounds.{last_stamp};
 ghost use Rattle.sn_sync.specs.declared.error.SyncError.TheVariants as error;
 
 use crate::error::SyncError;
@@ -18,18 +18,22 @@ use std::alloc::Global;
 use uuid::Uuid;
 
 /// A text.
-pub(crate) fn text_in(alloc: Global, body: &Value, name: &str) -> Result<Text, SyncError>
+pub(crate) fn text_in(alloc: Global, body: &Value, name: &'static str) -> Result<Text, SyncError>
     ensures ok { IfOk result (SaysText (get name.now (view body.now))) }
     ensures err { IfErr result (Caused (Lacks (SaysText (get name.now (view body.now))) name.now)) }
 {
     match text_of(body, name) {
         Some(text) => Ok(Text::of(alloc, text)?),
-        None => Err(lacks(alloc, name)),
+        None => Err(lacks(name)),
     }
 }
 
 /// An identifier, 1 to 254 bytes.
-pub(crate) fn identifier_in(alloc: Global, body: &Value, name: &str) -> Result<Text, SyncError>
+pub(crate) fn identifier_in(
+    alloc: Global,
+    body: &Value,
+    name: &'static str,
+) -> Result<Text, SyncError>
     ensures ok { IfOk result (SaysIdentifier (get name.now (view body.now))) }
     ensures err { IfErr result (Caused (Lacks (SaysIdentifier (get name.now (view body.now))) name.now)) }
 {
@@ -37,7 +41,7 @@ pub(crate) fn identifier_in(alloc: Global, body: &Value, name: &str) -> Result<T
 }
 
 /// A nonce, 1 to 256 bytes.
-pub(crate) fn nonce_in(alloc: Global, body: &Value, name: &str) -> Result<Text, SyncError>
+pub(crate) fn nonce_in(alloc: Global, body: &Value, name: &'static str) -> Result<Text, SyncError>
     ensures ok { IfOk result (SaysNonce (get name.now (view body.now))) }
     ensures err { IfErr result (Caused (Lacks (SaysNonce (get name.now (view body.now))) name.now)) }
 {
@@ -45,35 +49,35 @@ pub(crate) fn nonce_in(alloc: Global, body: &Value, name: &str) -> Result<Text, 
 }
 
 /// A cost, 1 to 4294967295, without fraction or exponent.
-pub(crate) fn cost_in(alloc: Global, body: &Value, name: &str) -> Result<u32, SyncError>
+pub(crate) fn cost_in(body: &Value, name: &'static str) -> Result<u32, SyncError>
     ensures ok { IfOk result (SaysCost (get name.now (view body.now))) }
     ensures err { IfErr result (Caused (Lacks (SaysCost (get name.now (view body.now))) name.now)) }
 {
     match cost_of(body, name) {
         Some(cost) => Ok(cost),
-        None => Err(lacks(alloc, name)),
+        None => Err(lacks(name)),
     }
 }
 
 /// 32 bytes in lower-case hex.
-pub(crate) fn hash_in(alloc: Global, body: &Value, name: &str) -> Result<[u8; 32], SyncError>
+pub(crate) fn hash_in(body: &Value, name: &'static str) -> Result<[u8; 32], SyncError>
     ensures ok { IfOk result (SaysHash (get name.now (view body.now))) }
     ensures err { IfErr result (Caused (Lacks (SaysHash (get name.now (view body.now))) name.now)) }
 {
     match hash_of(body, name) {
         Some(bytes) => Ok(bytes),
-        None => Err(lacks(alloc, name)),
+        None => Err(lacks(name)),
     }
 }
 
 /// A uuid in lower case with hyphens.
-pub(crate) fn uuid_in(alloc: Global, body: &Value, name: &str) -> Result<Uuid, SyncError>
+pub(crate) fn uuid_in(body: &Value, name: &'static str) -> Result<Uuid, SyncError>
     ensures ok { IfOk result (SaysUuid (get name.now (view body.now))) }
     ensures err { IfErr result (Caused (Lacks (SaysUuid (get name.now (view body.now))) name.now)) }
 {
     match named_uuid(body, name) {
         Some(uuid) => Ok(uuid),
-        None => Err(lacks(alloc, name)),
+        None => Err(lacks(name)),
     }
 }
 
@@ -81,7 +85,7 @@ pub(crate) fn uuid_in(alloc: Global, body: &Value, name: &str) -> Result<Uuid, S
 pub(crate) fn optional_in(
     alloc: Global,
     body: &Value,
-    name: &str,
+    name: &'static str,
 ) -> Result<Option<Text>, SyncError>
     ensures ok { IfOk result (SaysOptional (get name.now (view body.now))) }
     ensures err { IfErr result (Caused (Lacks (SaysOptional (get name.now (view body.now))) name.now)) }
@@ -89,7 +93,7 @@ pub(crate) fn optional_in(
     match text_of(body, name) {
         Some(text) => Ok(Some(Text::of(alloc, text)?)),
         None if is_left_out(body, name) => Ok(None),
-        None => Err(lacks(alloc, name)),
+        None => Err(lacks(name)),
     }
 }
 
@@ -97,7 +101,7 @@ pub(crate) fn optional_in(
 pub(crate) fn nullable_in(
     alloc: Global,
     body: &Value,
-    name: &str,
+    name: &'static str,
 ) -> Result<Option<Text>, SyncError>
     ensures ok { IfOk result (SaysNullable (get name.now (view body.now))) }
     ensures err { IfErr result (Caused (Lacks (SaysNullable (get name.now (view body.now))) name.now)) }
@@ -105,75 +109,87 @@ pub(crate) fn nullable_in(
     match text_of(body, name) {
         Some(text) => Ok(Some(Text::of(alloc, text)?)),
         None if is_null(body, name) => Ok(None),
-        None => Err(lacks(alloc, name)),
+        None => Err(lacks(name)),
     }
 }
 
 /// A text, which is empty where it is null or left out.
-pub(crate) fn text_or_empty_in(alloc: Global, body: &Value, name: &str) -> Result<Text, SyncError>
+pub(crate) fn text_or_empty_in(
+    alloc: Global,
+    body: &Value,
+    name: &'static str,
+) -> Result<Text, SyncError>
     ensures ok { IfOk result (SaysTextOrEmpty (get name.now (view body.now))) }
     ensures err { IfErr result (Caused (Lacks (SaysTextOrEmpty (get name.now (view body.now))) name.now)) }
 {
     match text_or_empty(body, name) {
         Some(text) => Ok(Text::of(alloc, text)?),
-        None => Err(lacks(alloc, name)),
+        None => Err(lacks(name)),
     }
 }
 
 /// True or false, and false where it is null or left out.
-pub(crate) fn flag_in(alloc: Global, body: &Value, name: &str) -> Result<bool, SyncError>
+pub(crate) fn flag_in(body: &Value, name: &'static str) -> Result<bool, SyncError>
     ensures ok { IfOk result (SaysFlag (get name.now (view body.now))) }
     ensures err { IfErr result (Caused (Lacks (SaysFlag (get name.now (view body.now))) name.now)) }
 {
     match flag_of(body, name) {
         Some(flag) => Ok(flag),
         None if is_left_out(body, name) => Ok(false),
-        None => Err(lacks(alloc, name)),
+        None => Err(lacks(name)),
     }
 }
 
 /// A stamp, by its text.
-pub(crate) fn stamp_in(alloc: Global, body: &Value, name: &str) -> Result<u64, SyncError>
+pub(crate) fn stamp_in(body: &Value, name: &'static str) -> Result<u64, SyncError>
     ensures ok { IfOk result (SaysStamp (get name.now (view body.now))) }
     ensures bound { IfOk result (λ stamp. stamp ≤ last_stamp) }
     ensures err { IfErr result (Caused (Lacks (SaysStamp (get name.now (view body.now))) name.now)) }
 {
     match stamp_of(body, name) {
         Some(stamp) => Ok(stamp),
-        None => Err(lacks(alloc, name)),
+        None => Err(lacks(name)),
     }
 }
 
 /// The text of a stamp.
-pub(crate) fn stamp_text_in(alloc: Global, body: &Value, name: &str) -> Result<Text, SyncError>
+pub(crate) fn stamp_text_in(
+    alloc: Global,
+    body: &Value,
+    name: &'static str,
+) -> Result<Text, SyncError>
     ensures ok { IfOk result (SaysStampText (get name.now (view body.now))) }
     ensures err { IfErr result (Caused (Lacks (SaysStampText (get name.now (view body.now))) name.now)) }
 {
     match stamp_text_of(body, name) {
         Some(text) => Ok(Text::of(alloc, text)?),
-        None => Err(lacks(alloc, name)),
+        None => Err(lacks(name)),
     }
 }
 
 /// A session token, 1 to 1,024 letters, digits and signs of ASCII.
-pub(crate) fn session_token_in(alloc: Global, body: &Value, name: &str) -> Result<Text, SyncError>
+pub(crate) fn session_token_in(
+    alloc: Global,
+    body: &Value,
+    name: &'static str,
+) -> Result<Text, SyncError>
     ensures ok { IfOk result (SaysSessionToken (get name.now (view body.now))) }
     ensures err { IfErr result (Caused (Lacks (SaysSessionToken (get name.now (view body.now))) name.now)) }
 {
     match text_of(body, name) {
         Some(text) if is_session_token(text) => Ok(Text::of(alloc, text)?),
-        _ => Err(lacks(alloc, name)),
+        _ => Err(lacks(name)),
     }
 }
 
 /// The one text that is allowed.
-pub(crate) fn word_in(alloc: Global, body: &Value, name: &str, word: &str) -> Result<(), SyncError>
+pub(crate) fn word_in(body: &Value, name: &'static str, word: &str) -> Result<(), SyncError>
     ensures ok { IfOk result (λ _. SaysWord word.now (get name.now (view body.now)) word.now) }
     ensures err { IfErr result (Caused (Lacks (SaysWord word.now (get name.now (view body.now))) name.now)) }
 {
     match text_of(body, name) {
         Some(text) if text == word => Ok(()),
-        _ => Err(lacks(alloc, name)),
+        _ => Err(lacks(name)),
     }
 }
 
@@ -184,18 +200,16 @@ pub(crate) fn kind_in(alloc: Global, body: &Value, least: usize) -> Result<Text,
 {
     match kind_of(body, least) {
         Some(kind) => Ok(Text::of(alloc, kind)?),
-        None => Err(lacks(alloc, "content_type")),
+        None => Err(lacks("content_type")),
     }
 }
 
-/// The refusal of the member of this name, or want of memory.
-pub(crate) fn lacks(alloc: Global, name: &str) -> SyncError
-    ensures either { (result ≡ error.Memory) ⊎ (result ≡ error.Member name.now) }
-    ensures caused { Caused (λ e. e ≡ error.Member name.now) result }
+/// The refusal of the member of this name. Takes no memory.
+pub(crate) fn lacks(name: &'static str) -> SyncError
+    ensures { result ≡ error.Member name.now }
 {
-    match Text::of(alloc, name) {
-        Ok(name) => SyncError::Member { name },
-        Err(_) => SyncError::Memory,
+    SyncError::Member {
+        name: Text::fixed(name),
     }
 }
 
@@ -218,13 +232,13 @@ pub(crate) fn number_of(body: &Value, name: &str) -> Option<u64>
 }
 
 // A text of at least one byte and at most so many.
-fn sized_in(alloc: Global, body: &Value, name: &str, most: usize) -> Result<Text, SyncError>
+fn sized_in(alloc: Global, body: &Value, name: &'static str, most: usize) -> Result<Text, SyncError>
     ensures ok { IfOk result (λ text. SaysText (get name.now (view body.now)) text × ((1 ≤ length text) × (length text ≤ most))) }
     ensures err { IfErr result (Caused (Lacks (λ text. SaysText (get name.now (view body.now)) text × ((1 ≤ length text) × (length text ≤ most))) name.now)) }
 {
     match text_of(body, name) {
         Some(text) if 1 <= text.len() && text.len() <= most => Ok(Text::of(alloc, text)?),
-        _ => Err(lacks(alloc, name)),
+        _ => Err(lacks(name)),
     }
 }
 

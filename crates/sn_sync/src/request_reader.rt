@@ -3,6 +3,7 @@
 ghost use Rattle.std.specs.Prelude.{◌≡◌, IfErr, IfOk, codes, option_map, string_bytes};
 ghost use Rattle.serde_json.specs.Find.{get};
 ghost use Rattle.serde_json.specs.View.{view};
+ghost use Rattle.sn_sync.specs.Fits.{FitsRequest};
 ghost use Rattle.sn_sync.specs.Members.{SaysCost, SaysNonce, SaysWord};
 ghost use Rattle.sn_sync.specs.Query.{first_value};
 ghost use Rattle.sn_sync.specs.Refusals.{Caused};
@@ -31,6 +32,7 @@ pub fn read_request(
     text: &[u8],
 ) -> Result<Request, SyncError>
     ensures ok { IfOk result (IsRequest route token.now text.now) }
+    ensures fits { IfOk result FitsRequest }
     ensures err { IfErr result (Caused (RefusesRequest route text.now)) }
 {
     match route {
@@ -51,7 +53,7 @@ fn question(alloc: Global, query: &[u8]) -> Result<Request, SyncError>
         Some(email) if 1 <= email.len() && email.len() <= 254 => Ok(Request::Params {
             identifier: Text::of_string(email),
         }),
-        _ => Err(lacks(alloc, "email")),
+        _ => Err(lacks("email")),
     }
 }
 
@@ -96,7 +98,7 @@ fn registration(alloc: Global, body: &Value) -> Result<Request, SyncError>
     ensures err { IfErr result (Caused (RefusesRegistration (view body.now))) }
 {
     let identifier = identifier_in(alloc, body, "email")?;
-    let pw = hash_in(alloc, body, "password")?;
+    let pw = hash_in(body, "password")?;
     let (cost, nonce) = cost_on(alloc, body)?;
     let Some(params) = Params::new(identifier, cost, nonce) else {
         unreachable!();
@@ -109,7 +111,7 @@ fn sign_in(alloc: Global, body: &Value) -> Result<Request, SyncError>
     ensures err { IfErr result (Caused (RefusesSignIn (view body.now))) }
 {
     let identifier = identifier_in(alloc, body, "email")?;
-    let pw = hash_in(alloc, body, "password")?;
+    let pw = hash_in(body, "password")?;
     Ok(Request::SignIn { identifier, pw })
 }
 
@@ -117,8 +119,8 @@ fn change(alloc: Global, token: &str, body: &Value) -> Result<Request, SyncError
     ensures ok { IfOk result (λ r. (route_of r ≡ route.ChangePw) × Says (view body.now) r × HasToken token.now r) }
     ensures err { IfErr result (Caused (RefusesChange (view body.now))) }
 {
-    let current = hash_in(alloc, body, "current_password")?;
-    let pw = hash_in(alloc, body, "new_password")?;
+    let current = hash_in(body, "current_password")?;
+    let pw = hash_in(body, "new_password")?;
     let (cost, nonce) = cost_on(alloc, body)?;
     let token = Text::of(alloc, token)?;
     Ok(Request::ChangePw {
@@ -137,9 +139,9 @@ fn cost_on(alloc: Global, body: &Value) -> Result<(u32, Text), SyncError>
         × SaysWord (codes "003") (get (codes "version") (view body.now)) (codes "003")) }
     ensures err { IfErr result (Caused (RefusesCostOn (view body.now))) }
 {
-    let cost = cost_in(alloc, body, "pw_cost")?;
+    let cost = cost_in(body, "pw_cost")?;
     let nonce = nonce_in(alloc, body, "pw_nonce")?;
-    word_in(alloc, body, "version", "003")?;
+    word_in(body, "version", "003")?;
     Ok((cost, nonce))
 }
 
@@ -147,10 +149,10 @@ fn sync(alloc: Global, token: &str, body: &Value) -> Result<Request, SyncError>
     ensures ok { IfOk result (λ r. (route_of r ≡ route.Sync) × Says (view body.now) r × HasToken token.now r) }
     ensures err { IfErr result (Caused (RefusesSync (view body.now))) }
 {
-    word_in(alloc, body, "api", "20190520")?;
+    word_in(body, "api", "20190520")?;
     let cursor_token = optional_in(alloc, body, "cursor_token")?;
     let items = sent_items(alloc, body, "items")?;
-    let limit = limit_in(alloc, body)?;
+    let limit = limit_in(body)?;
     let sync_token = optional_in(alloc, body, "sync_token")?;
     let token = Text::of(alloc, token)?;
     Ok(Request::Sync {
@@ -163,17 +165,17 @@ fn sync(alloc: Global, token: &str, body: &Value) -> Result<Request, SyncError>
 }
 
 // How many items the answer may give.
-fn limit_in(alloc: Global, body: &Value) -> Result<u32, SyncError>
+fn limit_in(body: &Value) -> Result<u32, SyncError>
     ensures ok { IfOk result (SaysLimit (get (codes "limit") (view body.now))) }
     ensures err { IfErr result (Caused (RefusesLimit (get (codes "limit") (view body.now)))) }
 {
     match number_of(body, "limit") {
         Some(number) if 1 <= number && number <= u64::from(MOST_ITEMS) => Ok(number as u32),
         Some(number) => Err(SyncError::Limit {
-            name: Text::of(alloc, "limit")?,
+            name: Text::fixed("limit"),
             number,
         }),
         None if is_left_out(body, "limit") => Ok(MOST_ITEMS),
-        None => Err(lacks(alloc, "limit")),
+        None => Err(lacks("limit")),
     }
 }

@@ -2,15 +2,13 @@
 
 ghost use Rattle.std.specs.Prelude.{◌≡◌, ◌<◌, ◌≤◌, ◌≤ℤ◌, pos, ℕ, List, [], ◌∷◌, ◌++◌, string_bytes, IfErr, IfNone, IfOk, IfSome};
 ghost use Rattle.jiff_core.specs.Date.{epoch_day};
-ghost use Rattle.sn_sync.specs.Stamps.{IsStampText, last_stamp};
+ghost use Rattle.sn_string.specs.Bounds.{last_stamp};
+ghost use Rattle.sn_sync.specs.Stamps.{IsStampText, padded};
 ghost use Rattle.sn_sync.specs.StampParts.{BeginsWithDate, IsDayNumber, IsTimeOfDay};
 
 use crate::digits::field;
 use jiff_core::civil::Date;
 use std::alloc::{AllocError, Global};
-
-/// The last microsecond of the year 9999.
-pub(crate) const LAST_STAMP: u64 = 253_402_300_799_999_999;
 
 const MICROS_OF_DAY: u64 = 86_400_000_000;
 
@@ -28,9 +26,22 @@ impl Stamp {
         requires { stamp ≤ last_stamp }
         ensures { IfOk result (λ text. IsStampText (string_bytes text) stamp) }
     {
-        let date = date_text(alloc, stamp / MICROS_OF_DAY)?;
-        let time = time_text(alloc, stamp % MICROS_OF_DAY)?;
-        format!(in alloc; "{date}T{time}Z")
+        let bytes = Stamp::bytes(stamp);
+        let Ok(text) = str::from_utf8(&bytes) else {
+            unreachable!();
+        };
+        text.to_string(alloc)
+    }
+
+    /// The bytes of a stamp's text. Takes no memory.
+    pub fn bytes(stamp: u64) -> [u8; 27]
+        requires { stamp ≤ last_stamp }
+        ensures { IsStampText result stamp }
+    {
+        let mut text = [0; 27];
+        text[..11].copy_from_slice(&date_bytes(stamp / MICROS_OF_DAY));
+        text[11..].copy_from_slice(&time_bytes(stamp % MICROS_OF_DAY));
+        text
     }
 
     /// The stamp of a text. Takes no memory.
@@ -55,23 +66,41 @@ fn date_of(days: u64) -> Date
     date
 }
 
-fn date_text(alloc: Global, days: u64) -> Result<String, AllocError>
+// The date of a day number, and the T behind it.
+fn date_bytes(days: u64) -> [u8; 11]
     requires { days ≤ 2932896 }
-    ensures { IfOk result (λ text. (rest : List ℕ) → BeginsWithDate (string_bytes text ++ 84 ∷ rest) days rest) }
+    ensures { (rest : List ℕ) → BeginsWithDate (result ++ rest) days rest }
 {
     let date = date_of(days);
-    let year = date.year.unsigned_abs();
-    format!(in alloc; "{year:04}-{:02}-{:02}", date.month, date.day)
+    let year = u64::from(date.year.unsigned_abs());
+    let (a, b) = two_digits(year / 100);
+    let (c, d) = two_digits(year % 100);
+    let (e, f) = two_digits(u64::from(date.month));
+    let (g, h) = two_digits(u64::from(date.day));
+    [a, b, c, d, b'-', e, f, b'-', g, h, b'T']
 }
 
-fn time_text(alloc: Global, since: u64) -> Result<String, AllocError>
+// The time of day after so many microseconds, and the Z behind it.
+fn time_bytes(since: u64) -> [u8; 16]
     requires { since < 86400000000 }
-    ensures { IfOk result (λ text. IsTimeOfDay (string_bytes text ++ 90 ∷ []) since) }
+    ensures { IsTimeOfDay result since }
 {
     let (seconds, micros) = (since / 1_000_000, since % 1_000_000);
     let (minutes, second) = (seconds / 60, seconds % 60);
-    let (hour, minute) = (minutes / 60, minutes % 60);
-    format!(in alloc; "{hour:02}:{minute:02}:{second:02}.{micros:06}")
+    let (a, b) = two_digits(minutes / 60);
+    let (c, d) = two_digits(minutes % 60);
+    let (e, f) = two_digits(second);
+    let (g, h) = two_digits(micros / 10_000);
+    let (i, j) = two_digits(micros / 100 % 100);
+    let (k, l) = two_digits(micros % 100);
+    [a, b, b':', c, d, b':', e, f, b'.', g, h, i, j, k, l, b'Z']
+}
+
+fn two_digits(number: u64) -> (u8, u8)
+    requires { number < 100 }
+    ensures { padded 2 number ≡ result.0 ∷ result.1 ∷ [] }
+{
+    (b'0' + (number / 10) as u8, b'0' + (number % 10) as u8)
 }
 
 fn stamp_in(text: &[u8]) -> Option<u64>

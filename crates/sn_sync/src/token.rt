@@ -2,13 +2,13 @@
 
 ghost use Rattle.std.specs.Prelude.{◌≡◌, ◌≤◌, ◌++◌, ℕ, codes, string_bytes, IfErr, IfNone, IfOk, IfSome};
 ghost use Rattle.std.specs.Fmt.{decimal};
-ghost use Rattle.sn_sync.specs.Stamps.{last_stamp};
+ghost use Rattle.sn_string.specs.Bounds.{last_stamp};
 ghost use Rattle.sn_sync.specs.Tokens.{IsToken};
 
 use crate::digits::decimal;
-use crate::stamp::{BadForm, LAST_STAMP};
+use crate::stamp::BadForm;
 use base64::engine::general_purpose::STANDARD;
-use sn_string::base64_text;
+use sn_string::{LAST_STAMP, base64_text};
 use std::alloc::{AllocError, Global};
 
 // The longest token, that of 18 digits.

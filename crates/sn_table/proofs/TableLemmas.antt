@@ -7,7 +7,7 @@ use Rattle.sn_disk.specs.declared.disk.Disk.{Ghosts}
 use Rattle.sn_journal.specs.Image.{IsImage, IsBeforeOrAfter, SameBatches}
 use Rattle.sn_journal.specs.Settled.{IsSettled}
 use Rattle.sn_journal.specs.declared.owner.Owner.{Owner}
-use Rattle.sn_journal.proofs.Findings.{one_image, same_shown}
+use Rattle.sn_journal.specs.Findings.{one_image, same_shown}
 use Rattle.sn_rows.specs.Spelling.{spelled, AreInForm}
 use Rattle.sn_rows.specs.Table.{row_after}
 use Rattle.sn_rows.specs.declared.change.Change.{Change}

@@ -38,6 +38,7 @@ pub fn load<D: Disk>(alloc: Global, disk: D, owner: Owner) -> Result<Table<D>, (
         × LeavesOnly D.moment D.left_since disk (loaded_disk result) (IsAllOrNothing owner batches changes) }
 
     ensures refused { IfErr result (λ refusal. IsLoadError owner D.told (D.seen disk) (D.fault_count disk) (D.fault_count refusal.0) refusal.1) }
+    ensures grows { D.grows disk (loaded_disk result) }
     ensures later { D.fault_count disk ≤ D.fault_count (loaded_disk result) }
 {
     open_table(alloc, disk, owner)
@@ -49,6 +50,7 @@ fn open_table<D: Disk>(alloc: Global, disk: D, owner: Owner) -> Result<Table<D>,
     ensures any_moment { D.told → LeavesOnly D.moment D.left_since disk (loaded_disk result)
         (λ c. D.may_leave disk c ⊎ SameBatches owner (D.seen disk) c) }
     ensures refused { IfErr result (λ refusal. IsLoadError owner D.told (D.seen disk) (D.fault_count disk) (D.fault_count refusal.0) refusal.1) }
+    ensures grows { D.grows disk (loaded_disk result) }
     ensures later { D.fault_count disk ≤ D.fault_count (loaded_disk result) }
 {
     let (journal, payloads) = match sn_journal::load(alloc, disk, owner) {

@@ -102,6 +102,7 @@ impl<D: Disk> Table<D> {
         ensures large { 2 ^ 30 < length (spelled changes.items) → IsRefused result }
 
         ensures broken { IfBroken result (λ disk. Rose (D.fault_count (table_disk self)) (D.fault_count disk)) }
+        ensures grows { D.grows (table_disk self) (disk_after result) }
         ensures later { D.fault_count (table_disk self) ≤ D.fault_count (disk_after result) }
     {
         let Table {

@@ -1,7 +1,7 @@
 //! Stamps and tokens, and their texts.
 
-use crate::stamp::LAST_STAMP;
 use crate::{BadForm, Stamp, token_read, token_text};
+use sn_string::LAST_STAMP;
 use std::test::Fail;
 
 const STAMPS: [(u64, &str); 4] = [

@@ -1,4 +1,4 @@
-use Rattle.sn_journal.proofs.Findings.{one_finding}
+use Rattle.sn_journal.specs.Findings.{one_finding}
 use Rattle.sn_journal.proofs.laws.one_finding.Goals as goal
 
 pub returns : goal.returns

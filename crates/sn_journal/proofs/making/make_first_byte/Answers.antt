@@ -1,4 +1,4 @@
-use Rattle.sn_disk.proofs.Moments.{weaker}
+use Rattle.sn_disk.specs.Moments.{weaker}
 use Rattle.sn_journal.proofs.Starts.{on_ok_then, letter_made, letter_torn}
 use Rattle.sn_journal.proofs.making.make_first_byte.Goals as goal
 

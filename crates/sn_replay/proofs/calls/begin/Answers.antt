@@ -22,9 +22,9 @@ returns c =
     let known_after : Known = record { labels = c.args.known.now.labels; names = c.push.new.self } in
     let none : is_some (get_by_text c.args.bench.now.devices c.args.device.now) ≡ false =
     subst (λ (n : Bytes). is_some (get_by_text c.args.bench.now.devices n) ≡ false) c.as_str.ensures (sym c.contains_key.ensures ∙ c.if-contains_key.false) in
-    let key : string_bytes c.into_string.result ≡ c.args.device.now = c.into_string.ensures ∙ c.in_ok-key.ensures in
+    let key : string_bytes c.in_ok-key.key ≡ c.args.device.now = c.in_ok-key.ensures.ok ∙ c.as_str-2.ensures in
     λ course at.
     begins c.args.bench.now after c.args.known.now known_after course c.args.device.now c.new.result none c.new.ensures.store c.new.ensures.settled refl
-    (λ other. btree_map_updates_text (string_bytes c.into_string.result) c.args.bench.now.devices c.insert.new.self _ c.in_ok-insert.ensures.updates other
+    (λ other. btree_map_updates_text (string_bytes c.in_ok-key.key) c.args.bench.now.devices c.insert.new.self _ c.in_ok-insert.ensures.updates other
     ∙ ap (λ (n : Bytes). update bytes_eq (get_by_text c.args.bench.now.devices) n (Some c.new.result) other) key)
     refl (c.in_ok-push.ensures.ok ∙ ap (λ (n : Bytes). c.args.known.now.names ++ n ∷ []) c.in_ok-name.ensures) at

@@ -1,5 +1,5 @@
 use Rattle.std.proofs.Common.{⊎_elim}
-use Rattle.sn_disk.proofs.Moments.{weaker}
+use Rattle.sn_disk.specs.Moments.{weaker}
 use Rattle.sn_table.specs.Batches.{IsStore, IsAllOrNothing}
 use Rattle.sn_table.proofs.TableLemmas.{same_store, same_either, same_loaded, either_loaded}
 use Rattle.sn_table.proofs.loading.load.Goals as goal

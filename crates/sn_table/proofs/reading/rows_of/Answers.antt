@@ -4,7 +4,7 @@ use Rattle.sn_table.proofs.ReadLemmas.{read_none, read_next, gate_none, gate_nex
 use Rattle.sn_table.proofs.reading.rows_of.Goals as goal
 
 pub payloads-init : goal.payloads-init
-payloads-init c = record { read = read_none c.args.owner c.new-rows.result c.new-rows.ensures; gate = λ fits. gate_none c.args.owner }
+payloads-init c = record { read = read_none c.args.owner c.new-rows.result c.new-rows.ensures.empty; gate = λ fits. gate_none c.args.owner }
 
 pub returns-in_err-add_batch-clause-refused : goal.returns-in_err-add_batch-clause-refused
 returns-in_err-add_batch-clause-refused c = λ fits.

@@ -17,9 +17,9 @@ returns-clause-begins c =
 pub returns-clause-index : goal.returns-clause-index
 returns-clause-index c =
     let next : c.count-number.result + 1 ≡ suc (count_in (rows_of_batches c.args.self.now.store key.Store)) = omega (arith, c.count-number.ensures) in
-    let bytes : string_bytes c.into_string.result ≡ c.args.set.now.params.identifier = c.into_string.ensures ∙ c.in_ok-identifier.ensures in
+    let bytes : string_bytes c.in_ok-identifier.identifier ≡ c.args.set.now.params.identifier = c.in_ok-identifier.ensures.ok ∙ c.as_str.ensures in
     index_after c.args.self.now.numbers c.start.new.self.numbers c.insert.new.self c.args.self.now.store c.commit.new.self
-    c.args.set.now.params.identifier (string_bytes c.into_string.result) c.args.set.now (c.count-number.result + 1)
+    c.args.set.now.params.identifier (string_bytes c.in_ok-identifier.identifier) c.args.set.now (c.count-number.result + 1)
     (returns-clause-begins c) c.requires.free c.in_ok-secret.ensures.numbers bytes next
-    (btree_map_updates_text (string_bytes c.into_string.result) c.start.new.self.numbers c.insert.new.self _ c.in_ok-insert.ensures.updates)
+    (btree_map_updates_text (string_bytes c.in_ok-identifier.identifier) c.start.new.self.numbers c.insert.new.self _ c.in_ok-insert.ensures.updates)
     c.requires.index

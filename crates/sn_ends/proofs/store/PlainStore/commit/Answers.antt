@@ -7,7 +7,7 @@ invariant_of-self-inside-2 c = (
       let follows = batch_follows c.self.inside.batches c.args.changes key in
       let was = c.self.inside.rows_are key in
       let room = c.make_room_for.ensures.rows key in
-      let set = c.set_all.ensures key in
+      let set = c.set_all.ensures.rows key in
       cc (follows, was, room, set, c.into_vec.ensures, c.in_ok-push.ensures.ok, c.in_ok-batch.ensures),
   tt,
 )

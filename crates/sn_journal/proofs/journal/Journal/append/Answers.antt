@@ -1,8 +1,9 @@
 use Rattle.std.proofs.Common.{◌≡◌, ◌+◌, ◌≤◌, ◌++◌, [], ◌∷◌, List, ℕ, length, inl, sym, ◌∙◌, ap, arith, Result, OnOk, Ok, Err, false, is_err, length-append}
 use Rattle.sn_disk.specs.Disk.{overwritten}
-use Rattle.sn_disk.proofs.Moments.{weaker, joined}
+use Rattle.sn_disk.specs.Moments.{weaker, joined}
 use Rattle.sn_journal.specs.Image.{front}
-use Rattle.sn_journal.proofs.Gates.{long_after, chain_torn, chain_staged, staged_torn, staged_opened, length-front_more}
+use Rattle.sn_journal.proofs.Gates.{long_after, chain_torn, chain_staged, staged_torn, staged_opened}
+use Rattle.sn_journal.specs.Facts.{length-front_more, few_payloads}
 use Rattle.sn_journal.proofs.journal.Journal.append.Goals as goal
 
 on_ok : {T E : Type 0} (r : Result T E) (P : Type 0) → is_err r ≡ false → OnOk r P → P
@@ -51,6 +52,7 @@ returns-clause-done g c = λ told payloads s.
     record {
       chain = chain;
       place = omega (arith, c.saturating_add-2.ensures, s.place, long, fits, g.met.D.Disk.is_short told c.write_durably-2.new.disk);
+      count = omega (arith, c.saturating_add-3.ensures, s.count, length-append payloads (c.args.payload.now ∷ []), few_payloads c.args.self.owner payloads, fits, g.met.D.Disk.is_short told c.write_durably-2.new.disk);
       durable = on_ok c.write_durably-2.result _ (sym c.is_err-2.ensures.value ∙ c.if-is_err-2.false) (c.write_durably-2.ensures.durable told);
     }
 

@@ -1,4 +1,4 @@
-use Rattle.sn_row_map.proofs.RowLemmas.{row_removed, room_left, no_room}
+use Rattle.sn_row_map.proofs.RowLemmas.{no_room, others_removed, row_removed}
 use Rattle.sn_row_map.proofs.row_map.RowMap.remove.Goals as goal
 
 pub returns-clause-rows : goal.returns-clause-rows
@@ -7,5 +7,5 @@ returns-clause-rows c = row_removed _ _ _ c.remove.ensures.updates.0
 pub returns-clause-gone : goal.returns-clause-gone
 returns-clause-gone c = no_room _ _ c.remove.ensures.updates.1
 
-pub returns-clause-less : goal.returns-clause-less
-returns-clause-less c = room_left _ _ _ c.remove.ensures.updates.0
+pub returns-clause-swept : goal.returns-clause-swept
+returns-clause-swept c = others_removed _ _ _ c.remove.ensures.updates.0

@@ -1,14 +1,14 @@
-use Rattle.std.proofs.Common.{[], ◌∷◌, sym, ap, ◌∙◌}
-use Rattle.sn_rows.specs.Table.{changed}
-use Rattle.sn_rows.specs.Facts.{row_after-append}
-use Rattle.sn_row_map.specs.RowMaps.{row_in}
+use Rattle.std.proofs.Common.{rules, ◌≡◌, ◌∙◌, ap, map, subst, length, take, drop, ◌++◌, arith}
+use Rattle.std.proofs.lemmas.List.{take_at, take_all}
+use Rattle.sn_rows.specs.Table.{Spares, key_of}
+use Rattle.sn_rows.specs.declared.key.Key.{Key}
+use Rattle.sn_row_map.specs.RowMaps.{StaysSwept}
+use Rattle.sn_row_map.proofs.RowLemmas.{tidy_set}
 use Rattle.sn_row_map.proofs.row_map.RowMap.set_all.Goals as goal
 
-pub changes-preserved : goal.changes-preserved
-changes-preserved c = record {
-  rows = λ key.
-      c.set.ensures.rows key
-      ∙ ap (λ found. changed found key c.in-Some.change) (c.changes.invariant.rows key)
-      ∙ sym (row_after-append (row_in c.args.self.now key) key c.changes.yielded (c.in-Some.change ∷ []));
-  kept = λ key h. c.set.ensures.kept key (c.changes.invariant.kept key h);
-}
+pub returns-clause-tidy : goal.returns-clause-tidy
+returns-clause-tidy c =
+    let size : length c.set_each.new.changes ≡ c.args.changes.len = search rules in
+    let left : c.deref.result.now ≡ c.set_each.new.changes = c.deref.ensures.value ∙ take_at c.set_each.new.changes _ c.args.changes.len size in
+    tidy_set _ _ _ _ c.args.changes.items (ap (map key_of) left ∙ c.set_each.ensures.keys ∙ ap (map key_of) c.deref_mut.ensures.value)
+    (subst (λ changes. (key : Key) → Spares key changes → StaysSwept c.args.self.now c.set_each.new.self key) c.deref_mut.ensures.value c.set_each.ensures.others) c.sweep_for.ensures.tidy

@@ -1,5 +1,5 @@
 use Rattle.std.proofs.Common.{ap, ◌∙◌, map}
-use Rattle.sn_disk.proofs.Moments.{weaker}
+use Rattle.sn_disk.specs.Moments.{weaker}
 use Rattle.sn_rows.specs.Spelling.{spelled}
 use Rattle.sn_rows.specs.Table.{row_after}
 use Rattle.sn_table.proofs.TableLemmas.{all_or_nothing, opened_more, batch_of}
@@ -11,7 +11,7 @@ returns-in-Ok-append-clause-done g c = λ told batches o.
     opened_more _ _ batches c.args.changes.items c.deref-2.result.now o (c.in-Ok-append.ensures.done told (map spelled batches) o.settled)
     (c.deref-2.ensures.value ∙ c.in-Ok.ensures.payload.0 ∙ ap spelled c.deref.ensures.value) c.in-Ok-append.ensures.owner
     (batch_of _ _ _ c.deref.ensures.value c.requires c.in-Ok.ensures.payload.1)
-    (λ key. c.sweep.ensures.rows key ∙ c.set_all.ensures key ∙ ap (λ found. row_after found key c.args.changes.items) (c.prepared.ensures.rows key))
+    (λ key. c.sweep.ensures.rows key ∙ c.set_all.ensures.rows key ∙ ap (λ found. row_after found key c.args.changes.items) (c.prepared.ensures.rows key))
     )
 
 pub returns-in-Ok-append-clause-any_moment : goal.returns-in-Ok-append-clause-any_moment

@@ -1,0 +1,89 @@
+-- What a run did, by what its parts did.
+use Rattle.std.proofs.Common.{◌≡◌, ◌⊎◌, inl, inr, ℕ, ◌+◌, ◌≤◌, ◌^◌, List, [], length, Option, refl, sym, subst, arith}
+use Rattle.std.proofs.KnownBytes.{Consumes-nil}
+use Rattle.std.specs.Io.KnownBytes.{Consumes}
+use Rattle.sn_cli.specs.Calls.{SealCallsFor, SealRefuses}
+use Rattle.sn_cli.specs.CommandLine.{SealLine}
+use Rattle.sn_cli.specs.Inputs.{MOST_INPUT, IsInputUtf8, ReadsText, StopsReading}
+use Rattle.sn_cli.specs.Runs.{AnswersWith, AreWordsOf, Draws, Meets, RunsOver, SealRuns, Writes, WritesOf, WritesText}
+use Rattle.sn_cli.specs.declared.refusal.Refusal.{Refusal}
+use Rattle.sn_cli.specs.declared.refusal.Refusal.TheVariants.{InputLong, InputUtf8, Form, Item, Line}
+use Rattle.sn_cli.specs.declared.status.Status.{Status}
+use Rattle.sn_cli.specs.declared.status.Status.TheVariants.{Done, Usage, Refused, ReadFault, WriteFault, Memory}
+use Rattle.sn_io.specs.Streams.{Gains, GivesAtMost, GivesPart, HasGiven, TakesPart}
+
+-- an input that is no text ends the run
+pub stopped : (calls_for : List ℕ → List ℕ → Type 0) (refuses : List ℕ → Refusal → Type 0) (status : Status) (i j o p : Option (List ℕ))
+    → StopsReading status i j → RunsOver calls_for refuses status i j o p
+stopped calls_for refuses Done i j o p stops = absurd stops
+stopped calls_for refuses Usage i j o p stops = absurd stops
+stopped calls_for refuses (Refused InputLong) i j o p stops = stops
+stopped calls_for refuses (Refused (InputUtf8 place)) i j o p stops = stops
+stopped calls_for refuses (Refused (Form refusal)) i j o p stops = absurd stops
+stopped calls_for refuses (Refused (Item refusal)) i j o p stops = absurd stops
+stopped calls_for refuses (Refused (Line number)) i j o p stops = absurd stops
+stopped calls_for refuses ReadFault i j o p stops = stops
+stopped calls_for refuses WriteFault i j o p stops = absurd stops
+stopped calls_for refuses Memory i j o p stops = stops
+
+-- before anything is drawn
+pub stops_undrawn : (seed : List ℕ) (status : Status) (i j : Option (List ℕ)) (s t : Option (List (List ℕ))) → StopsReading status i j → t ≡ s
+    → Draws status seed s t
+stops_undrawn seed Done i j s t stops same = absurd stops
+stops_undrawn seed Usage i j s t stops same = same
+stops_undrawn seed (Refused refusal) i j s t stops same = same
+stops_undrawn seed ReadFault i j s t stops same = same
+stops_undrawn seed WriteFault i j s t stops same = absurd stops
+stops_undrawn seed Memory i j s t stops same = inl same
+
+-- a status of writing an output that the text calls for
+pub written : (calls_for : List ℕ → List ℕ → Type 0) (refuses : List ℕ → Refusal → Type 0) (status : Status) (i j o p : Option (List ℕ))
+    (text output : List ℕ) → ReadsText i j text → calls_for text output → Writes status o p output → RunsOver calls_for refuses status i j o p
+written calls_for refuses Done i j o p text output read called wrote =
+    record { text = text; read = read; output = output; called = called; wrote = wrote }
+written calls_for refuses Usage i j o p text output read called wrote = absurd wrote
+written calls_for refuses (Refused refusal) i j o p text output read called wrote = absurd wrote
+written calls_for refuses ReadFault i j o p text output read called wrote = absurd wrote
+written calls_for refuses WriteFault i j o p text output read called wrote =
+    record { text = text; read = read; output = output; called = called; wrote = wrote }
+written calls_for refuses Memory i j o p text output read called wrote = absurd wrote
+
+pub drawn_for_output : (seed output : List ℕ) (status : Status) (o p : Option (List ℕ)) (s t : Option (List (List ℕ))) → Writes status o p output
+    → Gains s t seed → Draws status seed s t
+drawn_for_output seed output Done o p s t wrote gains = gains
+drawn_for_output seed output Usage o p s t wrote gains = absurd wrote
+drawn_for_output seed output (Refused refusal) o p s t wrote gains = absurd wrote
+drawn_for_output seed output ReadFault o p s t wrote gains = absurd wrote
+drawn_for_output seed output WriteFault o p s t wrote gains = gains
+drawn_for_output seed output Memory o p s t wrote gains = absurd wrote
+
+-- nothing was read
+pub none_read : (i : Option (List ℕ)) (most : ℕ) → GivesAtMost i i most
+none_read i most = ([], omega arith, Consumes-nil i)
+
+-- want of memory behind a whole input
+whole_at_most : (i j : Option (List ℕ)) (input : List ℕ) → HasGiven MOST_INPUT i j input → GivesAtMost i j (MOST_INPUT + 1)
+whole_at_most i j input given = let short = given.short in (input, omega (arith, short), given.given)
+
+pub read_at_most : (i j : Option (List ℕ)) (text : List ℕ) → ReadsText i j text → GivesAtMost i j (MOST_INPUT + 1)
+read_at_most i j text read = whole_at_most i j text read.given
+
+part_at_most : (i j : Option (List ℕ)) (n : ℕ) → GivesPart i j n → GivesAtMost i j n
+part_at_most i j n part = let count = part.1 in (part.0, omega (arith, count), part.2)
+
+-- a refusal for whose line memory was wanting
+pub refused_to_memory : (calls_for : List ℕ → List ℕ → Type 0) (refuses : List ℕ → Refusal → Type 0) (refusal : Refusal)
+    (i j o p : Option (List ℕ)) → RunsOver calls_for refuses (Refused refusal) i j o p → RunsOver calls_for refuses Memory i j o p
+refused_to_memory calls_for refuses InputLong i j o p ran = part_at_most i j (MOST_INPUT + 1) ran
+refused_to_memory calls_for refuses (InputUtf8 place) i j o p ran = whole_at_most i j ran.input ran.given
+refused_to_memory calls_for refuses (Form refusal) i j o p ran = read_at_most i j ran.text ran.read
+refused_to_memory calls_for refuses (Item refusal) i j o p ran = read_at_most i j ran.text ran.read
+refused_to_memory calls_for refuses (Line number) i j o p ran = read_at_most i j ran.text ran.read
+
+pub seal_to_memory : (line : SealLine) (refusal : Refusal) (i j o p : Option (List ℕ)) (s t : Option (List (List ℕ)))
+    → SealRuns line (Refused refusal) i j o p s t → SealRuns line Memory i j o p s t
+seal_to_memory line refusal i j o p s t runs = record {
+  seed = runs.seed;
+  drew = inl runs.drew;
+  ran = refused_to_memory (SealCallsFor line runs.seed) SealRefuses refusal i j o p runs.ran;
+}

@@ -1,0 +1,90 @@
+-- What each line calls for, of the text that it reads: an output, or a refusal.
+use Rattle.std.specs.Prelude.{◌≡◌, ℕ, List, [], ◌∷◌, ◌++◌, take, drop}
+use Rattle.rand_chacha.specs.ChaCha.{of_seed}
+use Rattle.sn_cli.specs.CommandLine.{SealLine, OpenLine}
+use Rattle.sn_cli.specs.Errors.{form_error, item_error}
+use Rattle.sn_cli.specs.Inputs.{IsOneLine}
+use Rattle.sn_cli.specs.declared.refusal.Refusal.{Refusal}
+use Rattle.sn_cli.specs.declared.refusal.Refusal.TheVariants.{InputLong, InputUtf8, Form, Item, Line}
+use Rattle.sn_items.specs.Draws.{drawn}
+use Rattle.sn_items.specs.Opens.{Opens}
+use Rattle.sn_items.specs.Refusals.{HasCause}
+use Rattle.sn_items.specs.Seals.{IsSealed}
+use Rattle.sn_items.specs.declared.error.ItemError.{ItemError}
+use Rattle.sn_replay.specs.Headline.{Carries}
+use Rattle.sn_replay.specs.declared.bench.PlainBench.{PlainBench}
+use Rattle.sn_report.specs.Text.{report_text}
+use Rattle.sn_report.specs.declared.report.Report.{Report}
+use Rattle.sn_script.specs.Scripts.{IsScript, IsFirstWrong}
+use Rattle.sn_script.specs.declared.script.Script.{Script}
+use Rattle.sn_string.specs.Grammar.{parts_of}
+use Rattle.sn_string.specs.Refusals.{Refuses}
+use Rattle.sn_string.specs.declared.params.Params.{Params}
+
+-- the halves of an item's key: the first encrypts, the second authenticates
+abbrev pub encryption_half : List ℕ → List ℕ
+encryption_half key = take 32 key
+
+abbrev pub authentication_half : List ℕ → List ℕ
+authentication_half key = drop 32 key
+
+-- the parameters of a line of `seal`
+pub record HasParams (line : SealLine) (params : Params) : Type 0 where
+  pub identifier : params.identifier ≡ line.identifier
+  pub cost : params.pw_cost ≡ line.cost
+  pub nonce : params.pw_nonce ≡ line.nonce
+
+-- `seal` calls for the plain text's 003 string and a line feed; the initialization vector is the seed's first four words
+pub record SealCallsFor (line : SealLine) (seed plain output : List ℕ) : Type 0 where
+  pub params : Params
+  pub has_params : HasParams line params
+  pub text : List ℕ
+  pub sealed : IsSealed plain line.uuid (drawn 16 (of_seed seed)).0 (encryption_half line.key) (authentication_half line.key) params text
+  pub ended : output ≡ text ++ 10 ∷ []
+
+-- and refuses no text
+abbrev pub SealRefuses : List ℕ → Refusal → Type 0
+SealRefuses plain refusal = ⊥
+
+-- `open` calls for just the bytes that the input's one line opens to
+pub record OpenCallsFor (line : OpenLine) (input plain : List ℕ) : Type 0 where
+  pub text : List ℕ
+  pub one_line : IsOneLine input text
+  pub opens : Opens text line.uuid (encryption_half line.key) (authentication_half line.key) plain
+
+-- the input's one line doesn't open, for this cause
+pub record IsUnopened (line : OpenLine) (input : List ℕ) (error : ItemError) : Type 0 where
+  pub text : List ℕ
+  pub one_line : IsOneLine input text
+  pub cause : HasCause text line.uuid (encryption_half line.key) (authentication_half line.key) error
+
+abbrev pub OpenRefuses : OpenLine → List ℕ → Refusal → Type 0
+OpenRefuses line input InputLong = ⊥
+OpenRefuses line input (InputUtf8 place) = ⊥
+OpenRefuses line input (Form refusal) = ⊥
+OpenRefuses line input (Item refusal) = IsUnopened line input (item_error refusal)
+OpenRefuses line input (Line number) = ⊥
+
+-- `show` calls for the lines of a 003 string (`Shown.IsShown`), or the text is none, for this cause
+abbrev pub ShowRefuses : List ℕ → Refusal → Type 0
+ShowRefuses text InputLong = ⊥
+ShowRefuses text (InputUtf8 place) = ⊥
+ShowRefuses text (Form refusal) = Refuses (parts_of text) (form_error refusal)
+ShowRefuses text (Item refusal) = ⊥
+ShowRefuses text (Line number) = ⊥
+
+-- `replay` calls for the report that the text's script carries at this bench
+pub record ReplayCallsFor (bench : PlainBench) (text output : List ℕ) : Type 0 where
+  pub script : Script
+  pub is : IsScript text script.lines
+  pub report : Report
+  pub carries : Carries script bench report
+  pub spelled : output ≡ report_text report
+
+-- or the text is no script: the number of its first line out of the grammar
+abbrev pub ReplayRefuses : List ℕ → Refusal → Type 0
+ReplayRefuses text InputLong = ⊥
+ReplayRefuses text (InputUtf8 place) = ⊥
+ReplayRefuses text (Form refusal) = ⊥
+ReplayRefuses text (Item refusal) = ⊥
+ReplayRefuses text (Line number) = IsFirstWrong text number

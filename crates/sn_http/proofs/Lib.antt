@@ -1,0 +1,11 @@
+pub mod Carrying
+pub mod Digits
+pub mod Ends
+pub mod Finding
+pub mod Taking
+pub mod Writing
+pub mod Trims
+pub mod WrittenFields
+pub mod ReadBack
+pub mod Answering
+pub mod Unique

@@ -1,0 +1,14 @@
+pub mod Heads
+pub mod Fields
+pub mod Framing
+pub mod Options
+pub mod Found
+pub mod Ends
+pub mod Messages
+pub mod Causes
+pub mod Laws
+pub mod Blanks
+pub mod Lines
+pub mod Requests
+pub mod Answers
+pub mod AnswerHeads

@@ -1,0 +1,14 @@
+use Rattle.std.proofs.Common.{string_bytes, rules}
+use Rattle.std.proofs.lemmas.Str.{IsUtf8-string_bytes}
+use Rattle.sn_cbc.specs.Cbc.{IsCbc}
+use Rattle.sn_items.proofs.sealing.seal_owned_text.Goals as goal
+
+pub returns-clause-opens : goal.returns-clause-opens
+returns-clause-opens c =
+    let cbc : IsCbc c.args.encryption_key.now c.iv-iv.result (string_bytes c.args.plain) c.deref.result.now = search rules in
+    c.string_of.ensures.opens c.args.encryption_key.now (string_bytes c.args.plain) cbc (IsUtf8-string_bytes c.args.plain)
+
+pub returns-clause-carries : goal.returns-clause-carries
+returns-clause-carries c =
+    let cbc : IsCbc c.args.encryption_key.now c.iv-iv.result (string_bytes c.args.plain) c.deref.result.now = search rules in
+    c.string_of.ensures.carries c.args.encryption_key.now (string_bytes c.args.plain) cbc

@@ -1,8 +1,0 @@
-use Rattle.std.proofs.Common.{◌≡◌}
-use Rattle.sn_rows.specs.Table.{row_after}
-use Rattle.sn_rows.specs.declared.key.Key.{Key}
-use Rattle.sn_row_map.specs.RowMaps.{row_in, KeepsRoom}
-use Rattle.sn_row_map.proofs.row_map.RowMap.set_all.Given as goal
-
-abbrev pub invariant-changes : goal.invariant-changes
-invariant-changes l = record { rows : (key : Key) → row_in l.self key ≡ row_after (row_in l.fn.self key) key l.yielded; kept : KeepsRoom l.fn.self l.self }
