@@ -3,6 +3,7 @@
 ghost use Rattle.std.specs.Prelude.{◌≡◌, ◌↔◌, ◌<◌, ◌^◌, IsTrue, IfOk, IfErr, OnOk, All, MatchOption, List, ℕ, length};
 ghost use Rattle.sn_journal.specs.Image.{front};
 ghost use Rattle.sn_journal.specs.Reading.{AreIn};
+ghost use Rattle.sn_row_map.specs.RowMaps.{IsTidy};
 ghost use Rattle.sn_rows.specs.Kinds.{key_kind};
 ghost use Rattle.sn_rows.specs.Spelling.{spelled};
 ghost use Rattle.sn_table.specs.Batches.{owner_of_kind, IsOf, IsBatch, IsNoBatch};
@@ -90,6 +91,7 @@ fn add_batch(
     payload: &[u8],
 ) -> Result<(), Unread>
     ensures added { OnOk result (IsAdded owner payload.now rows.old rows.new) }
+    ensures tidy { IsTidy rows.old → IsTidy rows.new }
     ensures refused { IfErr result (IsAddError owner payload.now gate) }
 {
     let Some(changes) = batch_of(alloc, owner, payload)? else {
@@ -103,6 +105,7 @@ fn add_batch(
 pub(crate) fn rows_of(alloc: Global, owner: Owner, batches: &Batches) -> Result<RowMap, Unread>
     ensures read { (payloads : List (List ℕ)) → AreIn batches.now payloads → IfOk result (AreRead owner payloads) }
     ensures kinds { IfOk result HasKinds }
+    ensures tidy { IfOk result IsTidy }
     ensures refused { (payloads : List (List ℕ)) → AreIn batches.now payloads → length (front owner payloads) < 2 ^ 64 → IfErr result (IsReadError owner payloads) }
 {
     let mut rows = RowMap::new(alloc);

@@ -9,12 +9,12 @@ ghost use Rattle.sn_rows.specs.declared.change.Change.{Change};
 ghost use Rattle.sn_rows.specs.declared.key.Key.{Key};
 ghost use Rattle.sn_rows.specs.declared.value.Value.{Value};
 ghost use Rattle.sn_row_map.specs.Ranges.{AreRowsOf};
-ghost use Rattle.sn_row_map.specs.RowMaps.{row_in, FitsIn, SameRows};
+ghost use Rattle.sn_row_map.specs.RowMaps.{row_in, IsTidy};
 
 use crate::log::Log;
 use crate::{CommitError, Committed};
 use sn_disk::{Disk, MemDisk, Stop};
-use sn_row_map::{RowMap, keys_of};
+use sn_row_map::RowMap;
 use sn_rows::{Change, Key, RowKind, Value};
 use sn_string::Many;
 use std::alloc::{AllocError, Global};
@@ -89,6 +89,9 @@ impl<D: Disk> Table<D> {
         ensures rows { IfDone result (λ table. (key : Key) → row_in (table_rows table) key ≡ row_after (row_in (table_rows self) key) key changes.items) }
         ensures owner { IfDone result (λ table. table_owner table ≡ table_owner self) }
 
+        // No key is left with room and without a row.
+        ensures tidy { IsTidy (table_rows self) → IfDone result (λ table. IsTidy (table_rows table)) × IfRefused result (λ table error. IsTidy (table_rows table)) }
+
         // A crash at any moment leaves the batches from before, or those with the whole new one, and so does one now.
         ensures any_moment { D.told → (batches : List (List Change)) → IsOpen self batches →
             LeavesOnly D.moment D.left_since (table_disk self) (disk_after table_disk result) (IsAllOrNothing (table_owner self) batches changes.items) }
@@ -114,17 +117,17 @@ impl<D: Disk> Table<D> {
             log,
             mut rows,
         } = self;
-        let Ok(keys) = prepared(alloc, &mut rows, &changes) else {
+        let Ok(()) = rows.make_room_for(&changes) else {
+            rows.sweep_for(&changes);
             return Committed::Refused(Table::opened(alloc, log, rows), CommitError::Memory);
         };
         match log.commit(&changes) {
             Committed::Done(log) => {
                 rows.set_all(changes);
-                rows.sweep(&keys);
                 Committed::Done(Table::opened(alloc, log, rows))
             }
             Committed::Refused(log, error) => {
-                rows.sweep(&keys);
+                rows.sweep_for(&changes);
                 Committed::Refused(Table::opened(alloc, log, rows), error)
             }
             Committed::Broken(disk) => Committed::Broken(disk),
@@ -145,18 +148,4 @@ impl Table<MemDisk> {
     {
         self.log.set_stop(stop);
     }
-}
-
-// Makes room for the rows of the changes. Answers their keys, or leaves no room.
-fn prepared(
-    alloc: Global,
-    rows: &mut RowMap,
-    changes: &[Change],
-) -> Result<Vec<Key>, AllocError>
-    ensures rows { SameRows rows.old rows.new }
-    ensures room { OnOk result (All (FitsIn rows.new) changes.now) }
-{
-    let keys = keys_of(alloc, changes)?;
-    rows.make_room_for(changes)?;
-    Ok(keys)
 }
