@@ -7,8 +7,11 @@ pub payloads-init : goal.payloads-init
 payloads-init c = record { taken = rw c.payloads-payloads.ensures (taken_none c.args.owner c.args.batches.now c.new-rows.result c.new-rows.ensures.empty); tidy = c.new-rows.ensures.tidy }
 
 pub payloads-preserved : goal.payloads-preserved
-payloads-preserved c = record { tidy = c.in_ok-add_batch-in-Some.ensures.tidy c.payloads.invariant.tidy; taken = taken_more c.args.owner c.args.batches.now c.payloads.payloads c.in-Some.payload.now c.next.new.self c.payloads.rows c.add_batch.new.rows c.payloads.gate c.saturating_add.result c.saturating_add-gate.result _
-    c.payloads.invariant.taken c.in-Some.ensures.some.0 c.in-Some.ensures.some.1 c.in_ok-add_batch-in-Some.ensures.added c.saturating_add.ensures c.saturating_add-gate.ensures refl }
+payloads-preserved c = record {
+  tidy = c.in_ok-add_batch-in-Some.ensures.tidy c.payloads.invariant.tidy;
+  taken = taken_more c.args.owner c.args.batches.now c.payloads.payloads c.in-Some.payload.now c.next.new.self c.payloads.rows c.add_batch.new.rows c.payloads.gate c.saturating_add.result c.saturating_add-gate.result _
+      c.payloads.invariant.taken c.in-Some.ensures.some.0 c.in-Some.ensures.some.1 c.in_ok-add_batch-in-Some.ensures.added c.saturating_add.ensures c.saturating_add-gate.ensures refl;
+}
 
 pub returns-in_err-add_batch-in-Some-clause-refused : goal.returns-in_err-add_batch-in-Some-clause-refused
 returns-in_err-add_batch-in-Some-clause-refused c = λ payloads are fits.
