@@ -15,14 +15,14 @@ use Rattle.sn_journal.specs.declared.owner.Owner.{Owner}
 use Rattle.sn_journal.specs.Findings.{same_shown}
 use Rattle.sn_row_map.specs.Ranges.{AreRowsOf}
 use Rattle.sn_rows.specs.Kinds.{key_kind, value_kind}
-use Rattle.sn_rows.specs.Spelling.{spelled, AreInForm}
+use Rattle.sn_rows.specs.Spelling.{spelled}
 use Rattle.sn_rows.specs.declared.kind.RowKind.{RowKind}
 use Rattle.sn_rows.specs.declared.value.Value.{Value}
 use Rattle.sn_rows.specs.Table.{row_after, rows_of_batches}
 use Rattle.sn_rows.specs.declared.change.Change.{Change}
 use Rattle.sn_rows.specs.declared.key.Key.{Key}
 use Rattle.sn_rows.specs.Facts.{batch_follows}
-use Rattle.sn_table.specs.Batches.{IsOf, IsBatch, IsStore, IsAllOrNothing}
+use Rattle.sn_table.specs.Batches.{IsBatch, IsStore, IsAllOrNothing}
 use Rattle.sn_row_map.specs.RowMaps.{row_in}
 use Rattle.sn_row_map.specs.declared.row_map.RowMap.{RowMap}
 use Rattle.sn_table.specs.Facts.{one_store}

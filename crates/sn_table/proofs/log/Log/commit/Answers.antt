@@ -1,7 +1,6 @@
-use Rattle.std.proofs.Common.{◌≡◌, ap, ◌∙◌, map, List}
-use Rattle.sn_disk.specs.Moments.{weaker, each_left}
+use Rattle.std.proofs.Common.{◌∙◌, map}
+use Rattle.sn_disk.specs.Moments.{weaker}
 use Rattle.sn_rows.specs.Spelling.{spelled}
-use Rattle.sn_table.specs.Batches.{IsAllOrNothing, IsBatch}
 use Rattle.sn_table.proofs.TableLemmas.{all_or_nothing, stands_more}
 use Rattle.sn_table.proofs.log.Log.commit.Goals as goal
 
