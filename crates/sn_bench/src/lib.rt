@@ -6,6 +6,7 @@
 
 mod cbc;
 mod hmac;
+mod http;
 mod journal;
 mod keys;
 mod messages;
