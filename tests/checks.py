@@ -16,7 +16,7 @@ class Result(unittest.TextTestResult):
 
 
 def main():
-    names = sys.argv[1:] or ["test_commands", "test_independent", "test_keys", "test_replay"]
+    names = sys.argv[1:] or ["test_commands", "test_independent", "test_keys", "test_messages", "test_replay"]
     suite = unittest.defaultTestLoader.loadTestsFromNames(names)
     began = time.time()
     result = unittest.TextTestRunner(stream=sys.stdout, verbosity=2, resultclass=Result).run(suite)
