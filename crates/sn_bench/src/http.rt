@@ -136,7 +136,12 @@ fn push_hex(lines: &mut Vec<u8>, bytes: &[u8]) -> Result<(), AllocError> {
 /// Reads the messages of some bytes, which come in pieces of these sizes, so many times. Answers how many messages came
 /// in all, and 2^64 - 1 where memory was wanting.
 #[unsafe(no_mangle)]
-pub extern "C" fn sn_bench_http_count(alloc: Global, bytes: &[u8], sizes: &[u32], rounds: u64) -> u64 {
+pub extern "C" fn sn_bench_http_count(
+    alloc: Global,
+    bytes: &[u8],
+    sizes: &[u32],
+    rounds: u64,
+) -> u64 {
     let mut found = 0u64;
     'rounds: for _ in 0..rounds {
         match count_of(alloc, bytes, sizes) {
@@ -202,7 +207,8 @@ pub extern "C" fn sn_bench_http_write_request(
 ) -> u64
     ensures { result < 2 ^ 64 - 1 → take result written.new ≡ request method.now target.now host.now token.now body.now }
 {
-    let (Some(method), Some(target), Some(host)) = (text_of(method), text_of(target), text_of(host)) else {
+    let (Some(method), Some(target), Some(host)) = (text_of(method), text_of(target), text_of(host))
+    else {
         return u64::MAX;
     };
     match write_request(alloc, method, target, host, token, body) {
