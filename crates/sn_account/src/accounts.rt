@@ -278,8 +278,8 @@ fn account_of(state: &State, number: u64) -> &AccountRow
     }
 }
 
-/// The store's own row, which a sound state has.
-pub(crate) fn store_of(state: &State) -> &StoreRow
+// The store's own row, which a sound state has.
+fn store_of(state: &State) -> &StoreRow
     requires unmarked { IsUnmarked state.now }
     requires sound { IsSound (state_rows state.now) }
     ensures { HasStore (state_rows state.now) result.now }

@@ -3,9 +3,6 @@
 ghost use Rattle.std.specs.Prelude.{◌≡◌, IfNone, IfOk, IfSome};
 ghost use Rattle.sn_account.specs.Lookups.{HasAccount, HasGeneration, HasStore};
 ghost use Rattle.sn_account.specs.States.{IsUnmarked, state_rows};
-ghost use Rattle.std.specs.Option.{option_copied};
-ghost use Rattle.sn_account.specs.Taking.{item_in};
-ghost use Rattle.sn_rows.specs.declared.key.Key.TheVariants as key;
 ghost use Rattle.sn_rows.specs.declared.kind.RowKind.TheVariants as kind;
 ghost use Rattle.sn_rows.specs.declared.server_rows.AccountRow.{AccountRow};
 ghost use Rattle.sn_rows.specs.declared.server_rows.GenerationRow.{GenerationRow};
@@ -13,10 +10,9 @@ ghost use Rattle.sn_rows.specs.declared.server_rows.StoreRow.{StoreRow};
 ghost use Rattle.sn_row_map.specs.Ranges.{AreRowsOf};
 
 use crate::state::State;
-use sn_rows::{AccountRow, GenerationRow, ItemRow, Key, RowKind, StoreRow, Value};
+use sn_rows::{AccountRow, GenerationRow, Key, RowKind, StoreRow, Value};
 use sn_string::Many;
 use std::alloc::AllocError;
-use uuid::Uuid;
 
 impl State {
     /// The store's own row.
@@ -51,17 +47,6 @@ impl State {
     {
         match self.get(&Key::Generation(number, generation)) {
             Some(Value::Generation(row)) => Some(row),
-            _ => None,
-        }
-    }
-
-    /// The item of this uuid.
-    pub(crate) fn item(&self, uuid: Uuid) -> Option<&ItemRow>
-        requires { IsUnmarked self.now }
-        ensures { option_copied result ≡ item_in (state_rows self.now (key.Item uuid)) }
-    {
-        match self.get(&Key::Item(uuid)) {
-            Some(Value::Item(row)) => Some(row),
             _ => None,
         }
     }

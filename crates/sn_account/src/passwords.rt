@@ -61,8 +61,8 @@ pub fn change_password(
     change_keys(alloc, state, number, account, pw, cost, nonce)
 }
 
-/// The answer alone.
-pub(crate) fn unchanged(alloc: Global, answer: Answer) -> Ruled
+// The answer alone.
+fn unchanged(alloc: Global, answer: Answer) -> Ruled
     ensures changes { result.changes ≡ [] }
     ensures answer { result.answer ≡ answer }
 {
@@ -211,8 +211,8 @@ fn carries_text(alloc: Global, text: &str, params: &Params) -> Result<bool, Allo
     }
 }
 
-/// A refused text carries no parameters, unless memory was wanting.
-pub(crate) fn carries_none(error: StringError) -> Result<bool, AllocError>
+// A refused text carries no parameters, unless memory was wanting.
+fn carries_none(error: StringError) -> Result<bool, AllocError>
     ensures { IfOk result (λ carried. (carried ≡ false) × (error ≢ Memory)) }
 {
     match error {
