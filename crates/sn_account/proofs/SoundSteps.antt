@@ -12,6 +12,7 @@ use Rattle.sn_rows.specs.declared.value.Value.{Value}
 use Rattle.sn_rows.specs.declared.value.Value.TheVariants as value
 use Rattle.sn_rows.specs.Facts.{keys_compare, put_elsewhere, put_here}
 use Rattle.sn_account.specs.Lookups.{Bytes, HasAccount, HasGeneration, HasStore}
+
 -- what the rows are then
 pub record Steps (rows now : Rows) (store : StoreRow) (n : ℕ) (row : AccountRow) (made : GenerationRow) : Type 0 where
   pub store_is : HasStore now store

@@ -9,9 +9,9 @@ ghost use Rattle.sn_rows.specs.declared.key.Key.{Key};
 ghost use Rattle.sn_rows.specs.declared.value.Value.{Value};
 
 use crate::state::State;
+use sn_row_map::RowMap;
 use sn_rows::{Change, Key, Row, Value};
 use sn_string::{Many, Twin};
-use sn_row_map::RowMap;
 use std::alloc::{AllocError, Global};
 use std::mem;
 

@@ -4,9 +4,9 @@ ghost use Rattle.std.specs.Prelude.{All};
 ghost use Rattle.sn_account.specs.Room.{all_fit-prop};
 ghost use Rattle.sn_row_map.specs.RowMaps.{FitsIn};
 
+use sn_row_map::RowMap;
 use sn_rows::Change;
 use sn_string::Many;
-use sn_row_map::RowMap;
 use std::alloc::Global;
 
 /// The rows of a server. Changes may be marked: they count already, and are taken back or kept without
