@@ -1,5 +1,5 @@
 -- The rows of a server without accounts are sound.
-use Rattle.std.proofs.Common.{arith, ap, sym, subst, ◌≡◌, ◌∙◌, List, [], ◌∷◌, Some, Result, IfOk}
+use Rattle.std.proofs.Common.{arith, ap, sym, subst, ◌≡◌, ◌∙◌, ℕ, List, [], ◌∷◌, Some, Result, Ok, Err, IfOk}
 use Rattle.std.proofs.lemmas.Result.{IfOk-weaker}
 use Rattle.sn_rows.specs.Kinds.{key_kind, value_kind}
 use Rattle.sn_rows.specs.Table.{Rows, rows_after}
@@ -10,12 +10,8 @@ use Rattle.sn_rows.specs.declared.server_rows.StoreRow.{StoreRow}
 use Rattle.sn_rows.specs.declared.value.Value.{Value}
 use Rattle.sn_rows.specs.declared.value.Value.TheVariants as value
 use Rattle.sn_account.specs.Sound.{IsSound}
-use Rattle.sn_account.specs.States.{listed, state_rows}
+use Rattle.sn_account.specs.States.{first_rows, listed, state_rows}
 use Rattle.sn_account.specs.declared.state.State.{State}
-
--- the store's row is the only one
-abbrev pub first_rows : StoreRow → Rows
-first_rows store = listed ((key.Store, value.Store store) ∷ [])
 
 -- its kind is its key's
 first_kinds : (store : StoreRow) (k : Key) (v : Value) → first_rows store k ≡ Some v → key_kind k ≡ value_kind v
@@ -59,3 +55,12 @@ pub sound_after : (rows middle other : Rows) (changes : List Change) → IsSound
 sound_after rows middle other changes s marked kept =
     let same : rows_after rows changes ≡ other = λ i k. sym (kept k ∙ marked k) i in
     subst IsSound same s
+
+-- it has that row alone
+pub alone_state : {E : Type 0} (secret : List ℕ) (store : StoreRow) (rows : List (Key × Value)) (result : Result State E) → store.secret ≡ secret
+    → store.last ≡ 0 → store.accounts ≡ 0 → rows ≡ (key.Store, value.Store store) ∷ [] → IfOk result (λ state. (k : Key) → state_rows state k ≡ listed rows k)
+    → IfOk result (λ state. (row : StoreRow) × (row.secret ≡ secret) × (row.last ≡ 0) × (row.accounts ≡ 0)
+    × ((k : Key) → state_rows state k ≡ first_rows row k))
+alone_state secret store rows (Ok state) secret_is last none is are =
+    (store, secret_is, last, none, λ k. are k ∙ ap (λ (r : List (Key × Value)). listed r k) is)
+alone_state secret store rows (Err e) secret_is last none is are = tt

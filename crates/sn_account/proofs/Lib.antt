@@ -13,6 +13,7 @@ pub mod RegisterLemmas
 pub mod RuleFits
 pub mod RuleSound
 pub mod RuleSpares
+pub mod SearchLemmas
 pub mod SessionTokens
 pub mod SignInLemmas
 pub mod SoundChanging
@@ -26,4 +27,5 @@ pub mod SyncLemmas
 pub mod TakenLemmas
 pub mod WalkLemmas
 pub mod SyncSteps
+pub mod TellsLemmas
 pub mod TokenFits

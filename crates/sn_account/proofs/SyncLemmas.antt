@@ -25,7 +25,7 @@ use Rattle.sn_account.specs.Replies.{IsReply, greatest_after}
 use Rattle.sn_account.specs.Rules.{IsPresent}
 use Rattle.sn_account.specs.Sound.{IsSound}
 use Rattle.sn_account.specs.Rule.{Rule, RuleOf}
-use Rattle.sn_account.specs.RuleLaws.{status_of}
+use Rattle.sn_account.specs.RuleLaws.{ActsFor, SparesAccount, status_of}
 use Rattle.sn_account.specs.Sessions.{IsSession}
 use Rattle.sn_account.specs.Syncs.{AreTokens, IsStampOf, NoneLong, Serves, ServesBounded, Syncs, above_of, is_first, most_items, start}
 use Rattle.sn_account.specs.Taking.{progress}
@@ -33,6 +33,8 @@ use Rattle.sn_account.specs.declared.accounts.Ruled.{Ruled}
 use Rattle.sn_account.specs.declared.page.Page.{Page}
 use Rattle.sn_account.specs.declared.taken.Taken.{Taken}
 use Rattle.sn_account.proofs.RuleFits.{answers_fit}
+use Rattle.sn_account.proofs.RuleSound.{stays_sound}
+use Rattle.sn_account.proofs.RuleSpares.{spares_every_other}
 
 -- the store's row is one
 pub same_store : (rows : Rows) (a b : StoreRow) → HasStore rows a → HasStore rows b → a ≡ b
@@ -41,12 +43,12 @@ same_store rows a b has had = let both : Some (value.Store a) ≡ Some (value.St
 -- ---- the greatest stamp
 
 -- no item has a stamp past the last; where something was changed, an item of the account has that one
-record Grown (rows : Rows) (n : ℕ) (p : Progress) : Type 0 where
-  upper : (u : Bytes) (i : ItemRow) → HasItem p.rows u i → i.updated ≤ p.last
-  unchanged : p.changes ≡ [] → p.rows ≡ rows
-  reached : p.changes ≢ [] → (u : Bytes) × (i : ItemRow) × HasItem p.rows u i × (i.account ≡ n) × (i.updated ≡ p.last)
+pub record Grown (rows : Rows) (n : ℕ) (p : Progress) : Type 0 where
+  pub upper : (u : Bytes) (i : ItemRow) → HasItem p.rows u i → i.updated ≤ p.last
+  pub unchanged : p.changes ≡ [] → p.rows ≡ rows
+  pub reached : p.changes ≢ [] → (u : Bytes) × (i : ItemRow) × HasItem p.rows u i × (i.account ≡ n) × (i.updated ≡ p.last)
 
-grown_first : (rows : Rows) (store : StoreRow) (n : ℕ) → IsSound rows → HasStore rows store → Grown rows n (start rows store)
+pub grown_first : (rows : Rows) (store : StoreRow) (n : ℕ) → IsSound rows → HasStore rows store → Grown rows n (start rows store)
 grown_first rows store n sound has =
     let same : sound.store ≡ store = same_store rows sound.store store sound.stands has in
     let last : sound.store.last ≡ store.last = ap (λ (s : StoreRow). s.last) same in
@@ -109,7 +111,7 @@ grown_takes rows present now n p q i (inr (inr (inr (inl t)))) g = same_as rows 
 grown_takes rows present now n p q i (inr (inr (inr (inr t)))) g =
     subst (λ (x : Progress). Grown rows n x) (sym t.2.5) (grown_new rows n now p _ i t.2.0 t.2.1 t.2.3 refl refl refl g)
 
-grown_all : (rows : Rows) (present : Params) (now n : ℕ) (p q : Progress) (items : List Item) → TakesAll present now n p items q → Grown rows n p → Grown rows n q
+pub grown_all : (rows : Rows) (present : Params) (now n : ℕ) (p q : Progress) (items : List Item) → TakesAll present now n p items q → Grown rows n p → Grown rows n q
 grown_all rows present now n p q [] is g = subst (λ (x : Progress). Grown rows n x) (sym is) g
 grown_all rows present now n p q (i ∷ is) (inl t) g = subst (λ (x : Progress). Grown rows n x) (sym t.1) g
 grown_all rows present now n p q (i ∷ is) (inr t) g =
@@ -201,6 +203,19 @@ pub rule_ok : {E : Type 0} (rows : Rows) (store : StoreRow) (request other : Req
     → IfOk outcome (λ r. Rule rows request now r.changes r.answer)
 rule_ok rows store request other now (Ok r) has is rule = rule_at rows store request other now r.changes r.answer has is rule
 rule_ok rows store request other now (Err e) has is rule = tt
+
+-- sound rows stay sound
+pub sound_ok : {E : Type 0} (rows : Rows) (request : Request) (now : ℕ) (outcome : Result Ruled E) → IsSound rows → FitsRequest request
+    → IfOk outcome (λ r. Rule rows request now r.changes r.answer) → IfOk outcome (λ r. IsSound (rows_after rows r.changes))
+sound_ok rows request now (Ok r) sound fits rule = stays_sound rows request now r.changes r.answer sound fits rule
+sound_ok rows request now (Err e) sound fits rule = tt
+
+-- every account that the request doesn't act for is as it was
+pub spares_ok : {E : Type 0} (rows : Rows) (request : Request) (now : ℕ) (outcome : Result Ruled E) → IsSound rows → FitsRequest request
+    → IfOk outcome (λ r. Rule rows request now r.changes r.answer)
+    → IfOk outcome (λ r. (m : ℕ) → ((n : ℕ) → ActsFor rows request n → m ≢ n) → SparesAccount rows (rows_after rows r.changes) m)
+spares_ok rows request now (Ok r) sound fits rule = λ m other. spares_every_other rows request now r.changes r.answer sound fits rule m other
+spares_ok rows request now (Err e) sound fits rule = tt
 
 -- what is answered by the rule is within the bounds of an answer
 pub within_ok : {E : Type 0} (rows : Rows) (request : Request) (now : ℕ) (outcome : Result Ruled E) → IsSound rows → FitsRequest request

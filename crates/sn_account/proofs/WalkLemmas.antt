@@ -224,7 +224,7 @@ walk_first map n above first found c goes none zero = record {
 }
 
 -- what is left begins with the row that was found
-left_is : (map : RowMap) (k : Key) (v : Value) (found next : Option Rowed) → found ≡ Some (k, v) → GoesOn map (rows_behind map k) next
+pub left_is : (map : RowMap) (k : Key) (v : Value) (found next : Option Rowed) → found ≡ Some (k, v) → GoesOn map (rows_behind map k) next
     → left_of map found ≡ (k, v) ∷ left_of map next
 left_is map k v found next is goes =
     ap (left_of map) is ∙ ap (λ (rows : List Rowed). (k, v) ∷ rows) (goes_on map (rows_behind map k) next goes)

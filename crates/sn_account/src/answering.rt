@@ -1,10 +1,11 @@
 //! The answer to any request.
 
-ghost use Rattle.std.specs.Prelude.{IfOk};
+ghost use Rattle.std.specs.Prelude.{◌≢◌, ℕ, IfOk};
 ghost use Rattle.sn_account.specs.Rule.{Rule};
-ghost use Rattle.sn_account.specs.RuleLaws.{status_of};
+ghost use Rattle.sn_account.specs.RuleLaws.{ActsFor, SparesAccount, status_of};
 ghost use Rattle.sn_account.specs.Sound.{IsSound};
 ghost use Rattle.sn_account.specs.States.{IsUnmarked, state_rows};
+ghost use Rattle.sn_rows.specs.Table.{rows_after};
 ghost use Rattle.sn_sync.specs.Laws.{FitsAnswer, FitsRequest};
 ghost use Rattle.sn_sync.specs.Requests.{route_of};
 
@@ -26,6 +27,9 @@ pub fn answer(
     requires sound { IsSound (state_rows state.now) }
     requires within { FitsRequest request.now }
     ensures rule { IfOk result (λ ruled. Rule (state_rows state.now) request.now now ruled.changes ruled.answer) }
+    ensures sound { IfOk result (λ ruled. IsSound (rows_after (state_rows state.now) ruled.changes)) }
+    ensures spares { IfOk result (λ ruled. (m : ℕ) → ((n : ℕ) → ActsFor (state_rows state.now) request.now n → m ≢ n)
+        → SparesAccount (state_rows state.now) (rows_after (state_rows state.now) ruled.changes) m) }
     ensures within { IfOk result (λ ruled. FitsAnswer (route_of request.now) (status_of ruled.answer) ruled.answer) }
 {
     by_route(alloc, state, request, now)

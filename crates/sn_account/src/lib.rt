@@ -5,6 +5,7 @@ pub mod accounts;
 pub mod answering;
 mod bounds;
 mod changes;
+pub mod first;
 mod incoming;
 mod lookups;
 pub mod marking;
@@ -26,6 +27,7 @@ mod tokens;
 
 pub use accounts::{Ruled, parameters, register, sign_in};
 pub use answering::answer;
+pub use first::first_state;
 pub use passwords::change_password;
 pub use sessions::account_uuid;
 pub use state::State;

@@ -2,6 +2,7 @@
 //! nothing; their contracts are the laws.
 
 ghost use Rattle.sn_account.specs.RuleLaws.{AnswersFit, SparesEveryOther, StaysSound};
+ghost use Rattle.sn_account.specs.Tells.{SyncsTell};
 
 /// Sound rows are sound after any request.
 pub fn stays_sound()
@@ -16,4 +17,9 @@ pub fn spares_every_other()
 /// What is answered is within the bounds of an answer, so that it is read back as it was written.
 pub fn answers_fit()
     ensures { AnswersFit }
+{}
+
+/// What an answer to a sync, whose items have different uuids, tells a device of the rows that it leaves.
+pub fn syncs_tell()
+    ensures { SyncsTell }
 {}

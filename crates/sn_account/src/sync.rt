@@ -44,25 +44,23 @@ pub(crate) fn sync(
         ruled.changes ruled.answer) }
 {
     let Some(number) = session(alloc, state, token)? else {
-        let answer = refused(alloc, 401, "bad-auth", More::Nothing)?;
-        return Ok(unchanged(alloc, answer));
+        return Ok(unchanged(alloc, refused(401, "bad-auth", More::Nothing)));
     };
     let Ok(sync) = stamp_of(sync_token) else {
-        return bad_token(alloc, "sync_token");
+        return Ok(bad_token(alloc, "sync_token"));
     };
     let Ok(cursor) = stamp_of(cursor_token) else {
-        return bad_token(alloc, "cursor_token");
+        return Ok(bad_token(alloc, "cursor_token"));
     };
     serve_bounded(alloc, state, number, items, limit, sync, cursor, now)
 }
 
 // Refuses a token.
-fn bad_token(alloc: Global, name: &str) -> Result<Ruled, AllocError>
-    ensures { IfOk result (λ ruled. Refuses 400 (codes "bad-token") (more.Name name.now) ruled.changes ruled.answer) }
+fn bad_token(alloc: Global, name: &'static str) -> Ruled
+    ensures { Refuses 400 (codes "bad-token") (more.Name name.now) result.changes result.answer }
 {
-    let name = Text::of(alloc, name)?;
-    let answer = refused(alloc, 400, "bad-token", More::Name(name))?;
-    Ok(unchanged(alloc, answer))
+    let more = More::Name(Text::fixed(name));
+    unchanged(alloc, refused(400, "bad-token", more))
 }
 
 // Serves a sync, unless its items are too many or one of their strings is too long.
@@ -85,12 +83,12 @@ fn serve_bounded(
         ruled.changes ruled.answer) }
 {
     if items.len() > MOST_ITEMS {
-        let answer = refused(alloc, 413, "wide", More::Number(items.len() as u64))?;
-        return Ok(unchanged(alloc, answer));
+        let more = More::Number(items.len() as u64);
+        return Ok(unchanged(alloc, refused(413, "wide", more)));
     }
     if let Some((uuid, size)) = first_long(items) {
-        let answer = refused(alloc, 413, "long", More::Both(size, uuid))?;
-        return Ok(unchanged(alloc, answer));
+        let more = More::Both(size, uuid);
+        return Ok(unchanged(alloc, refused(413, "long", more)));
     }
     serve(alloc, state, number, items, limit, sync, cursor, now)
 }
@@ -118,8 +116,8 @@ fn serve(
     let store = store_of(state);
     let present = present_params(alloc, state, number)?;
     let Some(taken) = take_all(alloc, state, store.last, number, &present, now, items)? else {
-        let answer = refused(alloc, 409, "stamps-used", More::Number(store.last))?;
-        return Ok(unchanged(alloc, answer));
+        let more = More::Number(store.last);
+        return Ok(unchanged(alloc, refused(409, "stamps-used", more)));
     };
     let page = next_page(
         alloc,

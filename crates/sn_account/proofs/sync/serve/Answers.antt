@@ -16,7 +16,7 @@ returns-in_default c = λ store has.
     let runs = rw c.in_default.is at (c.in_ok-taken.ensures.none store last) in
     let refuses : Refuses 409 (codes "stamps-used") (more.Number store.last) c.unchanged.result.changes c.unchanged.result.answer =
     (c.unchanged.ensures.changes,
-    c.unchanged.ensures.answer ∙ c.in_ok-answer.ensures ∙ ap (λ (s : StoreRow). answer.Refused 409 (codes "stamps-used") (more.Number s.last)) same) in
+    c.unchanged.ensures.answer ∙ c.refused.ensures ∙ ap (λ (s : StoreRow). answer.Refused 409 (codes "stamps-used") (more.Number s.last)) same) in
     (c.in_ok-present.present, c.in_ok-present.ensures, inl (runs, refuses))
 
 pub returns : goal.returns
