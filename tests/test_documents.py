@@ -82,6 +82,8 @@ class Whole(unittest.TestCase):
         for document in ("PROMISES", "ARCHITECTURE"):
             rows = set(re.findall(r"^\| (sn_\w+)", text_of(os.path.join(TOP, "docs", document + ".md")), re.M))
             self.assertEqual(rows, crates, document)
+        for crate in crates:
+            self.assertTrue(os.path.exists(os.path.join(TOP, "crates", crate, "README.md")), crate)
 
     def test_what_each_crate_stands_on(self):
         wanted = {}

@@ -111,8 +111,15 @@ pub takes_other : (present : Params) (now n : ℕ) (p : Progress) (i given : Ite
     → row.account ≡ n → ¬ (SameVersion row i) → ¬ (Names i row) → IsGiven i.uuid row given → bytes ≡ weight row
     → Takes present now n p i (after p (effect.Other given bytes))
 takes_other present now n p i given row bytes has own differs unnamed gives is =
-    inr (inr (inl (row, given, (has, own), differs, unnamed, gives,
-    ap (λ (w : ℕ). record p { conflicts = p.conflicts ++ conflict.Sync given ∷ []; bytes = p.bytes + w }) is)))
+    inr (inr (inl (
+      row,
+      given,
+      (has, own),
+      differs,
+      unnamed,
+      gives,
+      ap (λ (w : ℕ). record p { conflicts = p.conflicts ++ conflict.Sync given ∷ []; bytes = p.bytes + w }) is,
+    )))
 
 pub takes_unread : (present : Params) (now n : ℕ) (p : Progress) (i copy : Item) → IsNews p n i → ¬ (IsOwnBody i.uuid present i.body)
     → copy ≡ i → Takes present now n p i (after p (effect.Unsaved (conflict.Content copy)))

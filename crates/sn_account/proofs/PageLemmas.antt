@@ -101,11 +101,11 @@ is_found rows (e ∷ es) s u i there has item =
     let C : List Found → Type 0 = λ fs. Contains fs (u, i) in
     elim (here_or_later e (s, u) es has) [
       | inl same ↦ (let named : e.1 ≡ u = ap (λ (d : Entry). d.1) same in
-        let own : HasItem rows e.1 i = rw named item in
-        let one : (e.1, i) ∷ found_of rows es ≡ (u, i) ∷ found_of rows es = ap (λ (v : Bytes). (v, i) ∷ found_of rows es) named in
-        subst C (sym (found_one rows e es i own ∙ one)) (here (u, i) (found_of rows es)))
+          let own : HasItem rows e.1 i = rw named item in
+          let one : (e.1, i) ∷ found_of rows es ≡ (u, i) ∷ found_of rows es = ap (λ (v : Bytes). (v, i) ∷ found_of rows es) named in
+          subst C (sym (found_one rows e es i own ∙ one)) (here (u, i) (found_of rows es)))
       | inr behind ↦ subst C (sym (found_one rows e es there.0.0 there.0.1))
-        (later (e.1, there.0.0) (u, i) (found_of rows es) (is_found rows es s u i there.1 behind item))
+          (later (e.1, there.0.0) (u, i) (found_of rows es) (is_found rows es s u i there.1 behind item))
     ]
 
 -- what is found is of an entry
@@ -359,11 +359,11 @@ pub in_room : (rows : Rows) (limit : ℕ) (all left : List Entry) (items : List 
 in_room rows limit all left items last bytes count w p count_is light room =
     elim (cases_lt 0 (length items)) [
       | inl some ↦ (let fits : bytes + w ≤ most_bytes = le_from_not (bytes + w) most_bytes (λ past. room (omega arith, inr past)) in
-        let below : length items < limit = lt_from_not (length items) limit (λ full. room (omega arith, inl (omega arith))) in
-        (fits, inl below))
+          let below : length items < limit = lt_from_not (length items) limit (λ full. room (omega arith, inl (omega arith))) in
+          (fits, inl below))
       | inr none ↦ (let zero : length items ≡ 0 = omega arith in
-        let empty : bytes ≡ 0 = no_bytes rows limit all left items last bytes p zero in
-        (omega arith, inr zero))
+          let empty : bytes ≡ 0 = no_bytes rows limit all left items last bytes p zero in
+          (omega arith, inr zero))
     ]
 
 pub cut_at : (rows : Rows) (n above : ℕ) (first : Bool) (limit : ℕ) (c : Candidates) (page : Page) (e : Entry) (left : List Entry) (row : ItemRow)

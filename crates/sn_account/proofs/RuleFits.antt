@@ -96,6 +96,7 @@ kind_fits row = by row.deleted refl
   where
     bounds : (0 ≤ length row.kind) × (length row.kind ≤ 255)
     bounds = lengths 0 255 row.kind row.kind_fits
+
     by : (b : Bool) → row.deleted ≡ b → FitsKind (body_of row) row.kind
     by true e = subst (λ (x : Bool). FitsKind (if x then body.Deleted else body.Strings row.content row.enc) row.kind) (sym e) bounds.1
     by false e = subst (λ (x : Bool). FitsKind (if x then body.Deleted else body.Strings row.content row.enc) row.kind) (sym e) (row.kind_stands e, bounds.1)

@@ -78,10 +78,10 @@ grown_upper n now p q i row change puts same last upper u j item =
     let now_is : rows_after p.rows (change ∷ []) (key.Item u) ≡ Some (value.Item j) = sym (ap (λ (r : Rows). r (key.Item u)) same) ∙ item in
     elim (put_or_not p.rows change (key.Item i.uuid) (value.Item row) puts.puts (key.Item u)) [
       | inl here ↦ (let own : rows_after p.rows (change ∷ []) (key.Item u) ≡ Some (value.Item row)
-        = ap (rows_after p.rows (change ∷ [])) (sym here) ∙ put_here p.rows change (key.Item i.uuid) (value.Item row) puts.puts in
-        let row_is : row ≡ j = (let both : Some (value.Item row) ≡ Some (value.Item j) = sym own ∙ now_is in cc) in
-        let stamp : row.updated ≡ j.updated = ap (λ (r : ItemRow). r.updated) row_is in
-        let at = puts.updated in omega arith)
+          = ap (rows_after p.rows (change ∷ [])) (sym here) ∙ put_here p.rows change (key.Item i.uuid) (value.Item row) puts.puts in
+          let row_is : row ≡ j = (let both : Some (value.Item row) ≡ Some (value.Item j) = sym own ∙ now_is in cc) in
+          let stamp : row.updated ≡ j.updated = ap (λ (r : ItemRow). r.updated) row_is in
+          let at = puts.updated in omega arith)
       | inr there ↦ (let low = upper u j (sym there ∙ now_is) in omega arith)
     ]
 
@@ -91,11 +91,11 @@ grown_new rows n now p q i row change puts same last changes g = record {
   upper = λ u j item. grown_upper n now p q i row change puts same last (g.upper) u j item;
   unchanged = λ none. absurd (some_more p.changes change (sym changes ∙ none));
   reached = λ some. (
-      i.uuid,
-      row,
-      ap (λ (r : Rows). r (key.Item i.uuid)) same ∙ put_here p.rows change (key.Item i.uuid) (value.Item row) puts.puts,
-      puts.account,
-      puts.updated ∙ sym last,
+    i.uuid,
+    row,
+    ap (λ (r : Rows). r (key.Item i.uuid)) same ∙ put_here p.rows change (key.Item i.uuid) (value.Item row) puts.puts,
+    puts.account,
+    puts.updated ∙ sym last,
   );
 }
 
@@ -137,33 +137,39 @@ tokens_of : (after : Rows) (n : ℕ) (page left : List Found) (p : Page) (before
     → IsToken token (if p.more then p.last else greatest_after changes before last) → cursor ≡ (if p.more then Some token else None)
     → AreTokens after n page left cursor token
 tokens_of after n page [] p before last changes cursor token more last_is greatest told cursor_is =
-    let none : p.more ≡ false = false_from_ne_true p.more (λ t. more.0 t refl) in
-    (cursor_is ∙ ap (λ (b : Bool). if b then Some token else None) none,
-    (greatest_after changes before last, greatest, subst (IsToken token) (ap (λ (b : Bool). if b then p.last else greatest_after changes before last) none) told))
+    let none : p.more ≡ false = false_from_ne_true p.more (λ t. more.0 t refl) in (
+      cursor_is ∙ ap (λ (b : Bool). if b then Some token else None) none,
+      (greatest_after changes before last, greatest, subst (IsToken token) (ap (λ (b : Bool). if b then p.last else greatest_after changes before last) none) told),
+    )
 tokens_of after n page (f ∷ left) p before last changes cursor token more last_is greatest told cursor_is =
-    let some : p.more ≡ true = more.1 (λ none. cc) in
-    (cursor_is ∙ ap (λ (b : Bool). if b then Some token else None) some,
-    (p.last, last_is some, subst (IsToken token) (ap (λ (b : Bool). if b then p.last else greatest_after changes before last) some) told))
+    let some : p.more ≡ true = more.1 (λ none. cc) in (
+      cursor_is ∙ ap (λ (b : Bool). if b then Some token else None) some,
+      (p.last, last_is some, subst (IsToken token) (ap (λ (b : Bool). if b then p.last else greatest_after changes before last) some) told),
+    )
 
 serves : (rows : Rows) (store : StoreRow) (n : ℕ) (present : Params) (items : List Item) (limit : ℕ) (sync cursor : Option ℕ) (now : ℕ) (t : Taken) (p : Page)
     (r : Ruled) → IsSound rows → HasStore rows store → IsPresent rows n present → TakesAll present now n (start rows store) items (progress rows t)
     → IsPageOf rows n (above_of sync cursor) (is_first sync cursor) limit p → IsReply store t p r
     → Serves rows store n items limit sync cursor now r.changes r.answer
-serves rows store n present items limit sync cursor now t p r sound has is taken page reply = (present, is, inr (record {
-  page = page.page;
-  left = page.left;
-  is_page = page.is;
-  retrieved = p.items;
-  retrieved_are = page.items;
-  end = progress rows t;
-  taken = taken;
-  changes_are = reply.changes;
-  cursor_token = reply.cursor_token;
-  sync_token = reply.sync_token;
-  tokens = tokens_of (rows_after rows t.changes) n page.page page.left p p.greatest t.last t.changes reply.cursor_token reply.sync_token page.more page.last
-      (greatest_then rows store present now n p.greatest items (progress rows t) sound has taken page.greatest) reply.token reply.cursor;
-  answers = reply.answers;
-}))
+serves rows store n present items limit sync cursor now t p r sound has is taken page reply = (
+  present,
+  is,
+  inr (record {
+    page = page.page;
+    left = page.left;
+    is_page = page.is;
+    retrieved = p.items;
+    retrieved_are = page.items;
+    end = progress rows t;
+    taken = taken;
+    changes_are = reply.changes;
+    cursor_token = reply.cursor_token;
+    sync_token = reply.sync_token;
+    tokens = tokens_of (rows_after rows t.changes) n page.page page.left p p.greatest t.last t.changes reply.cursor_token reply.sync_token page.more page.last
+        (greatest_then rows store present now n p.greatest items (progress rows t) sound has taken page.greatest) reply.token reply.cursor;
+    answers = reply.answers;
+  }),
+)
 
 pub serves_ok : {E : Type 0} (rows : Rows) (store : StoreRow) (n : ℕ) (present : Params) (items : List Item) (limit : ℕ) (sync cursor : Option ℕ) (now : ℕ)
     (t : Taken) (p : Page) (outcome : Result Ruled E) → IsSound rows → HasStore rows store → IsPresent rows n present

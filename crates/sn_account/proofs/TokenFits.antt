@@ -135,7 +135,7 @@ token_fits secret n g =
           omega arith,
           omega arith,
           All-append IsVisible (uuid_text (account_uuid n)) (46 ∷ encode_lower mac) (uuid_visible (account_uuid n))
-          (All-cons IsVisible 46 (encode_lower mac) (omega arith, omega arith) (hex_visible mac (mac_bytes secret signed))),
+              (All-cons IsVisible 46 (encode_lower mac) (omega arith, omega arith) (hex_visible mac (mac_bytes secret signed))),
         )
 
 pub uuid_fits : (n : ℕ) → AreBytes 16 (account_uuid n)

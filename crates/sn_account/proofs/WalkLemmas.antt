@@ -122,9 +122,9 @@ module _ (rows : Rows) (n above : ℕ) (first : Bool) (seen : List Rowed) (u : B
       elim notes.kept [
         | inl puts ↦ elim (cases_Bool (row.updated == stamp)) [
           | inl here ↦ (let same : row.updated ≡ stamp = eqb-true row.updated stamp here in
-            let found : uuid_at new stamp ≡ Some u = at_stamp row.updated stamp (Some u) (uuid_at old stamp) (uuid_at new stamp) (puts.1 stamp) same in
-            let named : u ≡ w = cc in
-            subst (λ (v : Bytes). Kept stamp v) named (row, it, puts.0, same))
+              let found : uuid_at new stamp ≡ Some u = at_stamp row.updated stamp (Some u) (uuid_at old stamp) (uuid_at new stamp) (puts.1 stamp) same in
+              let named : u ≡ w = cc in
+              subst (λ (v : Bytes). Kept stamp v) named (row, it, puts.0, same))
           | inr there ↦ kept_before stamp w (sym (not_at row.updated stamp (Some u) (uuid_at old stamp) (uuid_at new stamp) (puts.1 stamp) there) ∙ is)
         ]
         | inr keeps ↦ kept_before stamp w (sym (keeps.1 stamp) ∙ is)
@@ -136,8 +136,8 @@ module _ (rows : Rows) (n above : ℕ) (first : Bool) (seen : List Rowed) (u : B
       elim notes.kept [
         | inl puts ↦ elim (cases_Bool (row.updated == stamp)) [
           | inl here ↦ (let same : row.updated ≡ stamp = eqb-true row.updated stamp here in
-            let named : u ≡ w = differ u w row i (of (key.Item u) (value.Item row) it) (of (key.Item w) (value.Item i) (before w i has)) (same ∙ sym at) in
-            at_stamp row.updated stamp (Some u) (uuid_at old stamp) (uuid_at new stamp) (puts.1 stamp) same ∙ ap Some named)
+              let named : u ≡ w = differ u w row i (of (key.Item u) (value.Item row) it) (of (key.Item w) (value.Item i) (before w i has)) (same ∙ sym at) in
+              at_stamp row.updated stamp (Some u) (uuid_at old stamp) (uuid_at new stamp) (puts.1 stamp) same ∙ ap Some named)
           | inr there ↦ not_at row.updated stamp (Some u) (uuid_at old stamp) (uuid_at new stamp) (puts.1 stamp) there ∙ is
         ]
         | inr keeps ↦ keeps.1 stamp ∙ is
@@ -155,20 +155,20 @@ module _ (rows : Rows) (n above : ℕ) (first : Bool) (seen : List Rowed) (u : B
       elim (seen_cases seen (key.Item u) (value.Item row) w k.0 k.1) [
         | inl had ↦ stays stamp w k.0 had k.3 ((s.each stamp w).1 (k.0, had, k.2, k.3))
         | inr same ↦ (let named : u ≡ w = cc in
-          let row_is : row ≡ k.0 = cc in
-          let is : IsCandidate n above first row = subst (λ (r : ItemRow). IsCandidate n above first r) (sym row_is) k.2 in
-          comes stamp is (ap (λ (r : ItemRow). r.updated) row_is ∙ k.3) ∙ ap Some named)
+            let row_is : row ≡ k.0 = cc in
+            let is : IsCandidate n above first row = subst (λ (r : ItemRow). IsCandidate n above first r) (sym row_is) k.2 in
+            comes stamp is (ap (λ (r : ItemRow). r.updated) row_is ∙ k.3) ∙ ap Some named)
       ]
 
   upper_now : (w : Bytes) (i : ItemRow) → Seen w i → i.account ≡ n → i.updated ≤ new.greatest
   upper_now w i has own =
       elim (seen_cases seen (key.Item u) (value.Item row) w i has) [
         | inl had ↦ (let low = s.upper w i had own in
-          elim notes.greatest [ | inl mine ↦ omega (arith, mine.1) | inr other ↦ omega (arith, other.1) ])
+            elim notes.greatest [ inl mine ↦ omega (arith, mine.1) | inr other ↦ omega (arith, other.1) ])
         | inr same ↦ (let row_is : row ≡ i = cc in
-          let up : row.updated ≡ i.updated = ap (λ (r : ItemRow). r.updated) row_is in
-          let acc : row.account ≡ i.account = ap (λ (r : ItemRow). r.account) row_is in
-          elim notes.greatest [ | inl mine ↦ omega (arith, mine.1) | inr other ↦ absurd (other.0 (acc ∙ own)) ])
+            let up : row.updated ≡ i.updated = ap (λ (r : ItemRow). r.updated) row_is in
+            let acc : row.account ≡ i.account = ap (λ (r : ItemRow). r.account) row_is in
+            elim notes.greatest [ inl mine ↦ omega (arith, mine.1) | inr other ↦ absurd (other.0 (acc ∙ own)) ])
       ]
 
   abbrev Reached : ℕ → Type 0
@@ -201,11 +201,11 @@ pub seen_more : (rows : Rows) (n above : ℕ) (first : Bool) (seen : List Rowed)
 seen_more rows n above first seen k v old new of differ s notes =
     elim (is_item k v) [
       | inl item ↦ (let S : Rowed → Type 0 = λ r. AreSeen n above first (seen ++ r ∷ []) new in
-        let O : Rowed → Type 0 = λ r. AreOf rows (seen ++ r ∷ []) in
-        let same : (k, v) ≡ (key.Item item.0, value.Item item.1) = cc in
-        subst S (sym same) (item_seen rows n above first seen item.0 item.1 old new (subst O same of) differ s (notes.item item.0 item.1 item.2 item.3)))
+          let O : Rowed → Type 0 = λ r. AreOf rows (seen ++ r ∷ []) in
+          let same : (k, v) ≡ (key.Item item.0, value.Item item.1) = cc in
+          subst S (sym same) (item_seen rows n above first seen item.0 item.1 old new (subst O same of) differ s (notes.item item.0 item.1 item.2 item.3)))
       | inr other ↦ subst (λ (c : Candidates). AreSeen n above first (seen ++ (k, v) ∷ []) c) (sym (notes.other other))
-        (other_seen n above first seen k v old other s)
+          (other_seen n above first seen k v old other s)
     ]
 
 -- ---- the walk

@@ -36,12 +36,7 @@ pub fn answer(
 }
 
 // The rule of the request's route.
-fn by_route(
-    alloc: Global,
-    state: &State,
-    request: &Request,
-    now: u64,
-) -> Result<Ruled, AllocError>
+fn by_route(alloc: Global, state: &State, request: &Request, now: u64) -> Result<Ruled, AllocError>
     requires unmarked { IsUnmarked state.now }
     requires sound { IsSound (state_rows state.now) }
     requires within { FitsRequest request.now }

@@ -86,11 +86,7 @@ fn item_of(found: Option<&Value>) -> Option<&ItemRow>
 }
 
 // The item of a uuid after a change, where it was this before.
-fn item_after<'a>(
-    found: Option<&'a ItemRow>,
-    change: &'a Change,
-    uuid: Uuid,
-) -> Option<&'a ItemRow>
+fn item_after<'a>(found: Option<&'a ItemRow>, change: &'a Change, uuid: Uuid) -> Option<&'a ItemRow>
     ensures { (before : Option Value) → option_copied found.entry ≡ item_in before
         → option_copied result ≡ item_in (changed before (key.Item uuid) change.now) }
 {

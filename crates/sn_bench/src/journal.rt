@@ -19,7 +19,7 @@ fn appended(alloc: Global, payload: &[u8], batches: u64) -> Option<MemDisk> {
         return None;
     };
     let mut journal = match load(alloc, disk, Owner::Server) {
-        Ok((journal, _payloads)) => journal,
+        Ok((journal, _batches)) => journal,
         Err(_refusal) => return None,
     };
     'batches: for _ in 0..batches {
@@ -36,8 +36,8 @@ fn loaded(alloc: Global, disk: MemDisk, loads: u64) -> u64 {
     let mut found = 0;
     'loads: for _ in 0..loads {
         match load(alloc, disk, Owner::Server) {
-            Ok((journal, payloads)) => {
-                found = payloads.len() as u64;
+            Ok((journal, _batches)) => {
+                found = journal.count();
                 disk = journal.close();
             }
             Err(_refusal) => return u64::MAX,

@@ -10,7 +10,7 @@ use sn_keys::{check_of, derive, salt_of};
 use sn_string::{KeySet, Params, Text};
 use std::alloc::Global;
 
-fn text_of(bytes: &[u8]) -> Option<&str>
+pub(crate) fn text_of(bytes: &[u8]) -> Option<&str>
     ensures { IfSome result (λ text. text.now ≡ bytes.now) }
 {
     match str::from_utf8(bytes) {

@@ -4,6 +4,7 @@ ghost use Rattle.sn_rows.specs.declared.key.Key.TheVariants as key;
 ghost use Rattle.sn_rows.specs.declared.key.Slot.TheVariants.{Present};
 ghost use Rattle.sn_rows.specs.declared.value.Value.TheVariants as value;
 ghost use Rattle.sn_rows.specs.Table.{Puts};
+
 use sn_rows::{
     AccountRow, Change, GenerationRow, ItemRow, Key, LocalItem, OwnerRow, Row, SetRow, Slot,
     StoreRow, Value,

@@ -6,9 +6,9 @@ ghost use Rattle.sn_rows.specs.Table.{rows_of_batches};
 ghost use Rattle.sn_rows.specs.declared.key.Key.{Key};
 ghost use Rattle.sn_row_map.specs.RowMaps.{row_in};
 
+use sn_row_map::RowMap;
 use sn_rows::{Change, Key, Value};
 use sn_string::{Many, Twin};
-use sn_row_map::RowMap;
 use std::alloc::{AllocError, Global};
 use std::marker::Model;
 

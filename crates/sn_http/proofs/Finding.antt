@@ -1,12 +1,12 @@
 -- Heads in a front of an input.
-use Rattle.std.specs.Prelude.{◌≡◌, ◌≢◌, ◌⊎◌, ℕ, suc, min, ◌+◌, ◌-◌, ◌<◌, ◌≤◌, List, [], ◌∷◌, ◌++◌, length, take, drop, true, Some, None, ⊤}
+use Rattle.std.specs.Prelude.{◌≡◌, ◌≢◌, ℕ, suc, min, ◌+◌, ◌-◌, ◌<◌, ◌≤◌, List, [], ◌∷◌, ◌++◌, length, take, drop, true, Some, None}
 use Rattle.std.specs.declared.option.Option.{Option}
 use Rattle.std.specs.Io.KnownBytes.{prepend_known, IsAtEnd}
 use Rattle.std.proofs.lemmas.Bool.{cases_lt, false≢true}
 use Rattle.std.proofs.Common.{inl, inr, ⊎_elim, refl, sym, ◌∙◌, ap, subst, append_assoc, append-nil, arith, get_or, length-append, length-take}
 use Rattle.std.proofs.lemmas.List.{take_all, take_at, take-append-drop, take-append-le, take-take, get_or-take, get_or_at, get_or_append_left}
-use Rattle.httparse.specs.Grammar.{RequestHead, ReadsRequest, print_request, IsToken, is_token_byte, print_blank, print_version, print_end, print_section}
-use Rattle.httparse.proofs.GrammarLemmas.{ReadsRequest-append, print_request-append}
+use Rattle.httparse.specs.Grammar.{RequestHead, print_request, IsToken, is_token_byte, print_blank, print_version, print_end, print_section}
+use Rattle.httparse.proofs.GrammarLemmas.{print_request-append}
 use Rattle.sn_http.specs.Blanks.{IsLineEnd, IsBlank}
 use Rattle.sn_http.specs.Ends.{EndsWithin}
 use Rattle.sn_http.specs.Heads.{IsHead, HasNoHead, NeverHasHead}

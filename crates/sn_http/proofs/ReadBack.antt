@@ -1,26 +1,23 @@
 -- What is written is read back.
-use Rattle.std.specs.Prelude.{◌≡◌, ◌≢◌, ℕ, zero, suc, ◌==◌, ◌+◌, ◌^◌, ◌<◌, ◌≤◌, Bool, true, false, List, [], ◌∷◌, ◌++◌, length, codes, decimal, Some, Ok, if◌then◌else◌}
-use Rattle.std.specs.List.{list_all, flat_map}
+use Rattle.std.specs.Prelude.{◌≡◌, ℕ, zero, suc, ◌==◌, ◌^◌, ◌<◌, ◌≤◌, Bool, true, false, List, [], ◌∷◌, ◌++◌, length, codes, decimal, Some, Ok, if◌then◌else◌}
+use Rattle.std.specs.List.{list_all}
 use Rattle.std.specs.Str.{bytes_eq}
-use Rattle.std.specs.Str.Parse.{digits_value}
 use Rattle.std.specs.Char.{is_ascii_digit}
 use Rattle.std.proofs.Common.{refl, sym, ◌∙◌, ap, subst, arith, append_assoc, length-append}
 use Rattle.std.proofs.lemmas.Fmt.{decimal_is_IsNumeral, length-decimal-le}
 use Rattle.std.proofs.lemmas.Int.Digits.{digits_value-lt}
 use Rattle.std.proofs.lemmas.List.Sums.{AllPass-from_list_all, list_all-from_AllPass}
-use Rattle.httparse.specs.Grammar.{crlf, Field, RequestHead, IsRequestHead, ReadsRequest, print_request, ResponseHead, IsResponseHead, ReadsResponse, print_response, status_code, is_value_byte}
+use Rattle.httparse.specs.Grammar.{crlf, RequestHead, IsRequestHead, print_request, ResponseHead, IsResponseHead, print_response, is_value_byte}
 use Rattle.httparse.proofs.GrammarLemmas.{cons-append, print_request-append, print_response-append}
-use Rattle.sn_http.specs.Fields.{Fields, fields_of}
+use Rattle.sn_http.specs.Fields.{Fields}
 use Rattle.sn_http.specs.Framing.{framing}
 use Rattle.sn_http.specs.Options.{is_visible, token_of, closes}
 use Rattle.sn_http.specs.Heads.{IsHead}
-use Rattle.sn_http.specs.Lines.{line, section}
-use Rattle.sn_http.specs.Requests.{request_line, request_head, request}
-use Rattle.sn_http.specs.Answers.{phrase, status_line, answer_head, answer, answer_size, IsAnswerHead, IsAnswer}
-use Rattle.sn_http.specs.Laws.{IsWritable, HasParts, RequestReadsBack, AnswerReadsBack}
-use Rattle.sn_http.specs.Messages.{IsMessage}
-use Rattle.sn_http.specs.declared.message.Message.{Message}
-use Rattle.sn_http.proofs.Trims.{AllWritten, all_written, fields_back, fields_valid, lines_same, digits_ascii}
+use Rattle.sn_http.specs.Lines.{section}
+use Rattle.sn_http.specs.Requests.{request_line, request}
+use Rattle.sn_http.specs.Answers.{phrase, status_line, answer_size}
+use Rattle.sn_http.specs.Laws.{RequestReadsBack, AnswerReadsBack}
+use Rattle.sn_http.proofs.Trims.{all_written, fields_back, fields_valid, lines_same, digits_ascii}
 use Rattle.sn_http.proofs.WrittenFields.{request_with, request_written, request_count, framing_is, token_is, closing_is, answer_with, answer_written, answer_count, answer_size_is}
 
 abbrev the_request : List ℕ → List ℕ → Fields → RequestHead

@@ -1,15 +1,15 @@
 -- A message in the bytes that were read.
-use Rattle.std.specs.Prelude.{◌≡◌, ◌≢◌, ◌⊎◌, ℕ, min, ◌+◌, ◌-◌, ◌^◌, ◌<◌, ◌≤◌, List, [], ◌∷◌, ◌++◌, length, take, drop, slice_range, Ok, Some, None, ⊤}
+use Rattle.std.specs.Prelude.{◌≡◌, ℕ, min, ◌+◌, ◌-◌, ◌^◌, ◌<◌, ◌≤◌, List, ◌++◌, length, take, drop, slice_range, Ok, Some, None}
 use Rattle.std.specs.declared.option.Option.{Option}
 use Rattle.std.specs.Io.KnownBytes.{prepend_known, Keeps, Consumes, IsAtEnd}
-use Rattle.std.proofs.Common.{inl, inr, refl, sym, ◌∙◌, ap, subst, append_assoc, append-nil, arith, length-append, length-take, length-drop}
+use Rattle.std.proofs.Common.{inr, refl, sym, ◌∙◌, ap, subst, append_assoc, append-nil, arith, length-append, length-take, length-drop}
 use Rattle.std.proofs.lemmas.List.{take-append-drop, drop-append-le}
 use Rattle.std.proofs.KnownBytes.{Keeps-trans}
-use Rattle.httparse.specs.Grammar.{RequestHead, ReadsRequest, print_request}
+use Rattle.httparse.specs.Grammar.{RequestHead, print_request}
 use Rattle.httparse.proofs.GrammarLemmas.{ReadsRequest-append}
 use Rattle.sn_http.specs.Heads.{IsHead, Carried, unread}
 use Rattle.sn_http.specs.Found.{IsHeadAt}
-use Rattle.sn_http.specs.Messages.{IsMessage, IsCutShort, IsCheck, OfTold, Takes, TakesFrom, IfMessage, IfCheck, IfNoMessage}
+use Rattle.sn_http.specs.Messages.{IsCheck, OfTold, Takes, TakesFrom, IfMessage, IfCheck, IfNoMessage}
 use Rattle.sn_http.specs.declared.message.Message.{Message}
 use Rattle.sn_http.specs.declared.head.Head.{Head}
 use Rattle.sn_http.specs.declared.message.Incoming.{Incoming}

@@ -1,5 +1,5 @@
 -- Values that stand behind one space.
-use Rattle.std.specs.Prelude.{◌≡◌, ℕ, ◌<◌, ◌≤◌, Bool, true, false, List, [], ◌∷◌, ◌++◌, length, reverse, codes, ⊤}
+use Rattle.std.specs.Prelude.{◌≡◌, ℕ, ◌<◌, true, false, List, [], ◌∷◌, ◌++◌, length, reverse, codes, ⊤}
 use Rattle.std.specs.List.{list_all, flat_map}
 use Rattle.std.specs.Char.{is_ascii_digit}
 use Rattle.std.specs.Int.{IsInRange}

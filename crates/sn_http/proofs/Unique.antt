@@ -1,16 +1,15 @@
 -- One reading of an input.
-use Rattle.std.specs.Prelude.{◌≡◌, ◌≢◌, ◌⊎◌, ℕ, ◌+◌, ◌<◌, ◌≤◌, List, [], ◌++◌, length, take, Result, Ok, Err, IfOk, IfErr}
-use Rattle.std.proofs.Common.{inl, inr, refl, sym, ◌∙◌, ap, subst, arith, length-append, ⊎_elim}
+use Rattle.std.specs.Prelude.{◌≡◌, ◌⊎◌, ℕ, List, ◌++◌, length, take, Result, Ok, Err, IfOk, IfErr}
+use Rattle.std.proofs.Common.{refl, sym, ◌∙◌, ap, subst, arith, length-append, ⊎_elim}
 use Rattle.std.proofs.lemmas.List.{take_at}
 use Rattle.httparse.specs.Grammar.{RequestHead, ReadsRequest, print_request}
 use Rattle.httparse.proofs.GrammarLemmas.{request_unique}
 use Rattle.sn_http.specs.Fields.{fields_of}
 use Rattle.sn_http.specs.Framing.{framing}
 use Rattle.sn_http.specs.Options.{token_of, closes}
-use Rattle.sn_http.specs.Heads.{IsHead, HasNoHead}
-use Rattle.sn_http.specs.Messages.{IsMessage, IsHeadless, IsMisframed, IsCutShort, IsCheck}
-use Rattle.sn_http.specs.Laws.{SameMessage, OneMessage, NoMessageWhereCheck, OneStatus}
-use Rattle.sn_http.specs.declared.message.Message.{Message}
+use Rattle.sn_http.specs.Heads.{IsHead}
+use Rattle.sn_http.specs.Messages.{IsHeadless, IsMisframed, IsCutShort}
+use Rattle.sn_http.specs.Laws.{OneMessage, NoMessageWhereCheck, OneStatus}
 use Rattle.sn_http.proofs.Taking.{begins_more}
 
 abbrev pub fine : ℕ → Result ℕ ℕ

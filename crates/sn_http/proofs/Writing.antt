@@ -1,9 +1,9 @@
 -- Bytes that are written piece by piece.
-use Rattle.std.specs.Prelude.{◌≡◌, ℕ, ◌+◌, ◌-◌, ◌<◌, ◌≤◌, Bool, List, [], ◌∷◌, ◌++◌, length, take, codes, Some, None, Result, Ok, Err, OnErr}
+use Rattle.std.specs.Prelude.{◌≡◌, ℕ, ◌+◌, ◌<◌, Bool, List, [], ◌∷◌, ◌++◌, length, take, codes, Result, Ok, Err, OnErr}
 use Rattle.std.specs.declared.option.Option.{Option}
 use Rattle.std.specs.List.{flat_map}
 use Rattle.std.specs.Io.KnownBytes.{Appends}
-use Rattle.std.proofs.Common.{sym, ◌∙◌, ap, refl, subst, arith, append_assoc, append-nil, length-append}
+use Rattle.std.proofs.Common.{sym, ◌∙◌, ap, subst, arith, append_assoc, append-nil, length-append}
 use Rattle.std.proofs.KnownBytes.{Appends-trans}
 use Rattle.std.proofs.Math.Seq.{take-append-add}
 use Rattle.std.proofs.lemmas.List.{take-append-le}
@@ -11,8 +11,8 @@ use Rattle.std.proofs.lemmas.Grind.{flat_map-append}
 use Rattle.std.proofs.lemmas.List.Concat.{flat_map-cons}
 use Rattle.sn_io.specs.Streams.{TakesPart}
 use Rattle.sn_http.specs.Lines.{line, content_type, content_length, close, only_if}
-use Rattle.sn_http.specs.Answers.{Passes, allowed, challenge, status_line, answer_fields, answer}
-use Rattle.sn_http.specs.Requests.{credentials, request_line, request_fields, request}
+use Rattle.sn_http.specs.Answers.{Passes, allowed, challenge, status_line, answer}
+use Rattle.sn_http.specs.Requests.{credentials, request_line}
 
 -- pieces behind one another
 pub pushed : (start mid end a b : List ℕ) → mid ≡ start ++ a → end ≡ mid ++ b → end ≡ start ++ (a ++ b)

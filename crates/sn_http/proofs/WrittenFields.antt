@@ -1,12 +1,10 @@
 -- The fields that are written, and what they say.
-use Rattle.std.specs.Prelude.{◌≡◌, ◌⊎◌, ℕ, ◌==◌, ◌+◌, ◌^◌, ◌<◌, ◌≤◌, ◌&&◌, ◌||◌, not, nat_lt, nat_le, Bool, true, false, cond, List, [], ◌∷◌, ◌++◌, length, codes, decimal, Some, None, Ok, Err, IsTrue}
+use Rattle.std.specs.Prelude.{◌≡◌, ◌⊎◌, ℕ, ◌==◌, ◌^◌, ◌<◌, ◌≤◌, ◌&&◌, ◌||◌, not, nat_lt, nat_le, Bool, true, false, List, [], ◌∷◌, ◌++◌, length, codes, decimal, Some, None, Ok, Err, IsTrue}
 use Rattle.std.specs.declared.option.Option.{Option}
-use Rattle.std.specs.declared.result.Result.{Result}
 use Rattle.std.specs.Option.{is_some}
 use Rattle.std.specs.List.{list_all, list_any}
-use Rattle.std.specs.Str.{bytes_eq}
 use Rattle.std.specs.Str.Parse.{digits_value}
-use Rattle.std.proofs.Common.{inl, inr, refl, sym, ◌∙◌, ap, subst, arith}
+use Rattle.std.proofs.Common.{inl, inr, refl, ◌∙◌, ap, arith}
 use Rattle.std.proofs.lemmas.Bool.{and_parts, and_from, cond-true, cond-false, le-leb}
 use Rattle.std.proofs.lemmas.Fmt.{decimal_is_IsNumeral, length-decimal-le, decimal_nonempty}
 use Rattle.std.proofs.lemmas.List.Sums.{AllPass-from_list_all}
@@ -15,7 +13,7 @@ use Rattle.httparse.specs.Grammar.{IsToken, is_token_byte, trim_ows}
 use Rattle.sn_http.specs.Fields.{Fields, is_word, values_of, first_of}
 use Rattle.sn_http.specs.Framing.{is_coded, is_length, number_of, all_same, said_by, bounded, body_size, framing}
 use Rattle.sn_http.specs.Options.{is_visible, is_token_text, skip_spaces, if_token, bearer, bearer_of, token_of, names_close, closes}
-use Rattle.sn_http.specs.Lines.{content_type, content_length, close, only_if, if_some}
+use Rattle.sn_http.specs.Lines.{content_type, content_length, close, only_if}
 use Rattle.sn_http.specs.Requests.{credentials}
 use Rattle.sn_http.specs.Answers.{allowed, answer_size}
 use Rattle.sn_http.proofs.Trims.{Written, AllWritten, both_written, trims, bearer_trims, values_pass, digits_visible, digits_ascii}
@@ -92,8 +90,8 @@ request_written host post token size visible form small = (
   host_written host visible,
   both_written (only_if post content_type ++ credentials token ++ content_length size) close
       (both_written (only_if post content_type ++ credentials token) (content_length size)
-          (both_written (only_if post content_type) (credentials token) (only_if_written post content_type type_written) (credentials_written token form))
-          (length_written size small))
+      (both_written (only_if post content_type) (credentials token) (only_if_written post content_type type_written) (credentials_written token form))
+      (length_written size small))
       close_written,
 )
 
@@ -101,10 +99,10 @@ pub answer_written : (size : ℕ) (allow : List ℕ) (unauthorized closing : Boo
 answer_written size allow unauthorized closing visible small =
     both_written (content_type ++ content_length size ++ allowed allow ++ only_if unauthorized challenge_field) (only_if closing close)
     (both_written (content_type ++ content_length size ++ allowed allow) (only_if unauthorized challenge_field)
-        (both_written (content_type ++ content_length size) (allowed allow)
-            (both_written content_type (content_length size) type_written (length_written size small))
-            (allowed_written allow visible))
-        (only_if_written unauthorized challenge_field challenge_written))
+    (both_written (content_type ++ content_length size) (allowed allow)
+    (both_written content_type (content_length size) type_written (length_written size small))
+    (allowed_written allow visible))
+    (only_if_written unauthorized challenge_field challenge_written))
     (only_if_written closing close close_written)
 
 pub request_count : (host : List ℕ) (post : Bool) (token : List ℕ) (size : ℕ) → length (request_with host post token size) ≤ 64
@@ -156,7 +154,7 @@ length_said size small =
     let fits : size < 2 ^ 64 = omega arith in
     let numeral = decimal_is_IsNumeral size fits in
     let form : is_length (decimal size) ≡ true = and_from _ _ (le-leb 1 (length (decimal size)) (decimal_nonempty size fits))
-        (and_from _ _ (le-leb (length (decimal size)) 10 (length-decimal-le 10 size (omega arith) small fits)) (digits_ascii (decimal size) numeral.0.1)) in
+    (and_from _ _ (le-leb (length (decimal size)) 10 (length-decimal-le 10 size (omega arith) small fits)) (digits_ascii (decimal size) numeral.0.1)) in
     cond-true (is_length (decimal size)) (Some (digits_value 10 (decimal size))) None form ∙ ap Some numeral.1
 
 one_said : (size : ℕ) → size < 10 ^ 10 → said_by (decimal size ∷ []) (Some (decimal size)) ≡ Some size
@@ -176,7 +174,7 @@ framing_is method host post token size le =
     let values = values_of (codes "content-length") fields in
     let uncoded : is_coded fields ≡ false =
     ap (λ (l : List (List ℕ)). is_some (first_of l) || not (list_all (is_word (codes "identity")) (values_of (codes "content-encoding") fields))) said.transfer
-        ∙ ap (λ (l : List (List ℕ)). not (list_all (is_word (codes "identity")) l)) said.content in
+    ∙ ap (λ (l : List (List ℕ)). not (list_all (is_word (codes "identity")) l)) said.content in
     cond-false (is_coded fields) (Err 501) (body_size method values (first_of values)) uncoded
     ∙ ap (λ (l : List (List ℕ)). body_size method l (first_of l)) said.lengths
     ∙ ap (λ (o : Option ℕ). bounded 8388608 o) (one_said size (omega arith))

@@ -14,7 +14,11 @@ pub(crate) fn is_word(word: &[u8], other: &[u8]) -> bool
 }
 
 /// The value of the first field of this name.
-pub(crate) fn first_value<'b>(name: &[u8], bytes: &'b [u8], headers: &[HeaderSpan]) -> Option<&'b [u8]>
+pub(crate) fn first_value<'b>(
+    name: &[u8],
+    bytes: &'b [u8],
+    headers: &[HeaderSpan],
+) -> Option<&'b [u8]>
     requires { All (IsHeaderWithin (length bytes.now)) headers.now }
     ensures { option_copied result ≡ first_of (values_of name.now (map (header_bytes bytes.now) headers.now)) }
 {

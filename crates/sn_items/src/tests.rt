@@ -306,11 +306,21 @@ fn changed_strings(rt: HostRuntime) -> Result<(), Fail> {
             Err(ItemError::Form(StringError::Parts { count: 2 }))
         )
     );
+    Ok(())
+}
 
-    // The hash covers no parameters.
-    let identifier = Text::of(rt.alloc(), "bob")?;
-    let nonce = Text::of(rt.alloc(), "ff")?;
-    let params = Params::new(identifier, 7, nonce).ok_or("params")?;
+#[test]
+fn hash_covers_no_parameters(rt: HostRuntime) -> Result<(), Fail> {
+    let uuid = uuid_of(UUID).ok_or("uuid")?;
+    let (encryption_key, authentication_key) = (counting(0), counting(32));
+    open_text(
+        rt.alloc(),
+        STRING,
+        uuid,
+        &encryption_key,
+        &authentication_key,
+    )?;
+    let params = Params::new(Text::fixed("bob"), 7, Text::fixed("ff")).ok_or("params")?;
     let text = with_params(rt.alloc(), STRING, &params)?;
     let opened = open_text(
         rt.alloc(),

@@ -1,5 +1,5 @@
 -- A file has one reading.
-use Rattle.std.proofs.Common.{◌≡◌, ◌⊎◌, inl, inr, ℕ, suc, ◌<◌, ◌+◌, List, [], ◌∷◌, ◌++◌, length, take, drop, slice_index, All, refl, sym, ◌∙◌, ap, arith, append_assoc, length-append}
+use Rattle.std.proofs.Common.{◌≡◌, ◌⊎◌, inl, inr, ℕ, suc, ◌<◌, ◌+◌, List, [], ◌∷◌, ◌++◌, length, take, drop, slice_index, All, refl, sym, ◌∙◌, ap, subst, arith, append_assoc, length-append}
 use Rattle.std.specs.List.{flat_map, AllByRecursion}
 use Rattle.std.specs.Int.{w32, to_be_bytes, from_be_bytes}
 use Rattle.std.proofs.lemmas.Nat.{from_be_bytes-to_be_bytes_4}
@@ -83,6 +83,14 @@ first_read bytes payload left [] are is short = absurd (elim are.over [ inl clos
 first_read bytes payload left (first ∷ later) are is short =
     let one = one_payload first payload (flat_map batch later ++ are.rest) left (are.bounded 0 [] (omega arith)) short (sym (append_assoc (batch first) (flat_map batch later) are.rest) ∙ sym are.split ∙ is) in
     (later, ap (λ (p : List ℕ). p ∷ later) one.0, record { rest = are.rest; split = sym one.1; over = are.over; bounded = λ k d below. are.bounded (suc k) d (omega (arith, below)) })
+
+-- the payloads behind those that were read
+pub behind_read : (passed payloads : List (List ℕ)) (bytes rest : List ℕ) → AreIn bytes payloads → bytes ≡ flat_map batch passed ++ rest → AllByRecursion IsBounded passed → (later : List (List ℕ)) × (payloads ≡ passed ++ later) × AreIn rest later
+behind_read [] payloads bytes rest are is bounded = (payloads, refl, subst (λ (l : List ℕ). AreIn l payloads) is are)
+behind_read (payload ∷ passed) payloads bytes rest are is bounded =
+    let one = first_read bytes payload (flat_map batch passed ++ rest) payloads are (is ∙ append_assoc (batch payload) (flat_map batch passed) rest) bounded.0 in
+    let more = behind_read passed one.0 (flat_map batch passed ++ rest) rest one.2 refl bounded.1 in
+    (more.0, one.1 ∙ ap (λ (l : List (List ℕ)). payload ∷ l) more.1, more.2)
 
 -- where no whole batch stands there are no payloads
 pub none_read : (bytes : List ℕ) (payloads : List (List ℕ)) → AreIn bytes payloads → IsClosed bytes ⊎ IsBroken bytes → payloads ≡ []

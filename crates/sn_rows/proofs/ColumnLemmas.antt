@@ -8,7 +8,7 @@ use Rattle.std.proofs.lemmas.List.{append-nil, nil_from_length, length-append}
 use Rattle.std.proofs.lemmas.List.Concat.{flat_map-cons}
 use Rattle.sn_rows.specs.Bounds.{is_device_string}
 use Rattle.sn_rows.specs.Kinds.{kind_number, kind_of_number}
-use Rattle.sn_rows.specs.Cells.{Body, Cell, narrow, wide, plain, text, flag, slot, base, body, Column, number, stamp, cost, fixed, words, item_type, yes_or_no, which_set, base_stamp, version, counted, flag_byte, body_bytes, cell_bytes, cells_bytes, BodyInForm, InForm, AllInForm}
+use Rattle.sn_rows.specs.Cells.{Body, Cell, narrow, wide, plain, text, flag, slot, base, body, Column, number, stamp, cost, fixed, words, item_type, yes_or_no, which_set, base_stamp, version, base_bytes, counted, flag_byte, body_bytes, cell_bytes, cells_bytes, BodyInForm, InForm, AllInForm}
 use Rattle.sn_rows.specs.Columns.{key_columns, value_columns}
 use Rattle.sn_rows.specs.Spelling.{Entry, put, remove, entry_bytes, entries_bytes, Framed, EntryInForm}
 use Rattle.sn_rows.specs.Reading.{◌>>=◌, Read, Spot, spot, bytes_at, number_at, byte_at, stamp_at, cost_at, text_at, type_at, flag_at, slot_at, base_at, body_at, cell_as, column_at, columns_at, window_at, framed_at, op_at, kind_or, kind_at, entry_at, entries_at, payload_at}
@@ -19,10 +19,10 @@ use Rattle.sn_rows.proofs.FieldLemmas.{IsBytes, bind_ok, passed_ok, chosen, done
 
 -- ---- bodies
 
-strings_at : Spot → Read Body
+unfoldable pub strings_at : Spot → Read Body
 strings_at s = text_at is_device_string s >>= λ content. text_at is_device_string content.1 >>= λ enc. Ok (Some (Some (content.0, enc.0)), enc.1)
 
-strings_take : (s : Spot) (t : Spot) (x : Body × Spot) → IsBytes t.rest → Takes s (2 ∷ []) t → strings_at t ≡ Ok x → Takes s (body_bytes x.0) x.1 × BodyInForm x.0
+pub strings_take : (s : Spot) (t : Spot) (x : Body × Spot) → IsBytes t.rest → Takes s (2 ∷ []) t → strings_at t ≡ Ok x → Takes s (body_bytes x.0) x.1 × BodyInForm x.0
 unfolding strings_at
 strings_take s t x fits front e =
     let a = bind_ok (text_at is_device_string t) (λ content. text_at is_device_string content.1 >>= λ enc. Ok (Some (Some (content.0, enc.0)), enc.1)) x e in
@@ -33,14 +33,15 @@ strings_take s t x fits front e =
     let all = Takes-then s (2 ∷ []) t (counted a.0.0 ++ counted b.0.0) b.0.1 front both in
     subst (λ (y : Body × Spot). Takes s (body_bytes y.0) y.1 × BodyInForm y.0) (ok_is (Some (Some (a.0.0, b.0.0)), b.0.1) x b.2) (all, (one.1, two.1, one.2, two.2))
 
-strings_again : (c e : List ℕ) (place : ℕ) (rest : List ℕ) → BodyInForm (Some (Some (c, e))) → (q : ℕ) × (strings_at (spot place ((counted c ++ counted e) ++ rest)) ≡ Ok (Some (Some (c, e)), spot q rest))
+strings_again : (c e : List ℕ) (place : ℕ) (rest : List ℕ) → BodyInForm (Some (Some (c, e))) → (q : ℕ) × (strings_at (spot place ((counted c ++ counted e) ++ rest)) ≡ Ok (Some (Some (c, e)), spot q rest)) × (q ≡ place + length (counted c ++ counted e))
 unfolding strings_at
 strings_again c e place rest h = (
   ((((place + 4) + length c) + 4) + length e),
   rw (append_assoc (counted c) (counted e) rest, text_again is_device_string c place (counted e ++ rest) h.0 h.2, text_again is_device_string e ((place + 4) + length c) rest h.1 h.3) refl,
+  omega (arith, length-append (counted c) (counted e), length-append (to_be_bytes w32 (length c)) c, length-append (to_be_bytes w32 (length e)) e),
 )
 
-body_is : (s : Spot) → body_at s ≡ (byte_at s >>= λ b. cond (b.0 == 0) (Ok (None, b.1)) (cond (b.0 == 1) (Ok (Some None, b.1)) (cond (b.0 == 2) (strings_at b.1) (Err (error.Range s.place)))))
+pub body_is : (s : Spot) → body_at s ≡ (byte_at s >>= λ b. cond (b.0 == 0) (Ok (None, b.1)) (cond (b.0 == 1) (Ok (Some None, b.1)) (cond (b.0 == 2) (strings_at b.1) (Err (error.Range s.place)))))
 unfolding body_at strings_at
 body_is s = refl
 
@@ -62,23 +63,23 @@ body_takes s x fits e =
       ]
     ]
 
-body_again : (b : Body) (place : ℕ) (rest : List ℕ) → BodyInForm b → (q : ℕ) × (body_at (spot place (body_bytes b ++ rest)) ≡ Ok (b, spot q rest))
-body_again None place rest h = (place + 1, body_is (spot place (0 ∷ rest)) ∙ rw (byte_again 0 place rest) refl)
-body_again (Some None) place rest h = (place + 1, body_is (spot place (1 ∷ rest)) ∙ rw (byte_again 1 place rest) refl)
+body_again : (b : Body) (place : ℕ) (rest : List ℕ) → BodyInForm b → (q : ℕ) × (body_at (spot place (body_bytes b ++ rest)) ≡ Ok (b, spot q rest)) × (q ≡ place + length (body_bytes b))
+body_again None place rest h = (place + 1, body_is (spot place (0 ∷ rest)) ∙ rw (byte_again 0 place rest) refl, omega arith)
+body_again (Some None) place rest h = (place + 1, body_is (spot place (1 ∷ rest)) ∙ rw (byte_again 1 place rest) refl, omega arith)
 body_again (Some (Some (c, e))) place rest h =
     let s = strings_again c e (place + 1) rest h in
-    (s.0, body_is (spot place (2 ∷ ((counted c ++ counted e) ++ rest))) ∙ rw (byte_again 2 place ((counted c ++ counted e) ++ rest)) s.1)
+    (s.0, body_is (spot place (2 ∷ ((counted c ++ counted e) ++ rest))) ∙ rw (byte_again 2 place ((counted c ++ counted e) ++ rest)) s.1, omega (arith, s.2))
 
 -- ---- columns
 
-cell_ok : {A : Type 0} (f : A → Cell) (r : Read A) (x : Cell × Spot) → cell_as f r ≡ Ok x → (y : A × Spot) × (r ≡ Ok y) × ((f y.0, y.1) ≡ x)
+pub cell_ok : {A : Type 0} (f : A → Cell) (r : Read A) (x : Cell × Spot) → cell_as f r ≡ Ok x → (y : A × Spot) × (r ≡ Ok y) × ((f y.0, y.1) ≡ x)
 cell_ok f (Ok y) x e = (y, refl, ok_is (f y.0, y.1) x e)
 cell_ok f (Err d) x e = absurd cc
 
 abbrev Good : Column → Spot → Cell × Spot → Type 0
 Good c s y = Takes s (cell_bytes y.0) y.1 × InForm c y.0 y.1.rest
 
-column_takes : (c : Column) (s : Spot) (x : Cell × Spot) → IsBytes s.rest → column_at c s ≡ Ok x → Takes s (cell_bytes x.0) x.1 × InForm c x.0 x.1.rest
+pub column_takes : (c : Column) (s : Spot) (x : Cell × Spot) → IsBytes s.rest → column_at c s ≡ Ok x → Takes s (cell_bytes x.0) x.1 × InForm c x.0 x.1.rest
 column_takes number s x fits e = let c = cell_ok wide (number_at w64 s) x e in subst (Good number s) c.2 (number_takes w64 (2 ^ 64) wide64 s c.0 fits c.1)
 column_takes stamp s x fits e = let c = cell_ok wide (stamp_at s) x e in subst (Good stamp s) c.2 (stamp_takes s c.0 fits c.1)
 column_takes cost s x fits e = let c = cell_ok narrow (cost_at s) x e in let t = cost_takes s c.0 fits c.1 in subst (Good cost s) c.2 (t.0, (t.1, t.2))
@@ -90,21 +91,25 @@ column_takes which_set s x fits e = let c = cell_ok slot (slot_at s) x e in subs
 column_takes base_stamp s x fits e = let c = cell_ok base (base_at s) x e in subst (Good base_stamp s) c.2 (base_takes s c.0 fits c.1)
 column_takes version s x fits e = let c = cell_ok body (body_at s) x e in subst (Good version s) c.2 (body_takes s c.0 fits c.1)
 
-column_again : (c : Column) (x : Cell) (place : ℕ) (rest : List ℕ) → InForm c x rest → (q : ℕ) × (column_at c (spot place (cell_bytes x ++ rest)) ≡ Ok (x, spot q rest))
-column_again number (wide n) place rest h = (place + 8, rw (number_again w64 (2 ^ 64) wide64 n place rest h) refl)
-column_again stamp (wide n) place rest h = (place + 8, rw (stamp_again n place rest h) refl)
-column_again cost (narrow n) place rest h = (place + 4, rw (cost_again n place rest h.0 h.1) refl)
-column_again (fixed count) (plain bytes) place rest h = (place + count, rw (bytes_again bytes count place rest h) refl)
-column_again (words test) (text t) place rest h = ((place + 4) + length t, rw (text_again test t place rest h.0 h.1) refl)
-column_again item_type (text t) place rest h = ((place + 4) + length t, rw (type_again t place rest h.0 h.1 h.2) refl)
-column_again yes_or_no (flag b) place rest h = (place + 1, rw (flag_again b place rest) refl)
-column_again which_set (slot b) place rest h = (place + 1, rw (slot_again b place rest) refl)
-column_again base_stamp (base o) place rest h = ((place + 1) + 8, rw (base_again o place rest h) refl)
-column_again version (body b) place rest h = let p = body_again b place rest h in (p.0, rw (p.1) refl)
+base_length : (o : Option ℕ) → length (base_bytes o) ≡ 9
+base_length None = refl
+base_length (Some n) = refl
+
+pub column_again : (c : Column) (x : Cell) (place : ℕ) (rest : List ℕ) → InForm c x rest → (q : ℕ) × (column_at c (spot place (cell_bytes x ++ rest)) ≡ Ok (x, spot q rest)) × (q ≡ place + length (cell_bytes x))
+column_again number (wide n) place rest h = (place + 8, rw (number_again w64 (2 ^ 64) wide64 n place rest h) refl, refl)
+column_again stamp (wide n) place rest h = (place + 8, rw (stamp_again n place rest h) refl, refl)
+column_again cost (narrow n) place rest h = (place + 4, rw (cost_again n place rest h.0 h.1) refl, refl)
+column_again (fixed count) (plain bytes) place rest h = (place + count, rw (bytes_again bytes count place rest h) refl, omega (arith, h))
+column_again (words test) (text t) place rest h = ((place + 4) + length t, rw (text_again test t place rest h.0 h.1) refl, omega (arith, length-append (to_be_bytes w32 (length t)) t))
+column_again item_type (text t) place rest h = ((place + 4) + length t, rw (type_again t place rest h.0 h.1 h.2) refl, omega (arith, length-append (to_be_bytes w32 (length t)) t))
+column_again yes_or_no (flag b) place rest h = (place + 1, rw (flag_again b place rest) refl, omega arith)
+column_again which_set (slot b) place rest h = (place + 1, rw (slot_again b place rest) refl, omega arith)
+column_again base_stamp (base o) place rest h = ((place + 1) + 8, rw (base_again o place rest h) refl, omega (arith, base_length o))
+column_again version (body b) place rest h = let p = body_again b place rest h in (p.0, rw (p.1) refl, p.2)
 column_again c x place rest h = absurd h
 
-columns_take : (cs : List Column) (s : Spot) (x : List Cell × Spot) → IsBytes s.rest → columns_at cs s ≡ Ok x → Takes s (cells_bytes x.0) x.1 × AllInForm cs x.0 x.1.rest
-columns_take [] s x fits e = subst (λ (y : List Cell × Spot). Takes s (cells_bytes y.0) y.1 × AllInForm [] y.0 y.1.rest) (ok_is ([], s) x e) (record { parts = refl; rest_fits = fits }, tt)
+pub columns_take : (cs : List Column) (s : Spot) (x : List Cell × Spot) → IsBytes s.rest → columns_at cs s ≡ Ok x → Takes s (cells_bytes x.0) x.1 × AllInForm cs x.0 x.1.rest
+columns_take [] s x fits e = subst (λ (y : List Cell × Spot). Takes s (cells_bytes y.0) y.1 × AllInForm [] y.0 y.1.rest) (ok_is ([], s) x e) (record { parts = refl; rest_fits = fits; place_is = omega arith }, tt)
 columns_take (c ∷ cs) s x fits e =
     let a = bind_ok (column_at c s) (λ cell. columns_at cs cell.1 >>= λ cells. Ok (cell.0 ∷ cells.0, cells.1)) x e in
     let b = bind_ok (columns_at cs a.0.1) (λ cells. Ok (a.0.0 ∷ cells.0, cells.1)) x a.2 in
@@ -114,12 +119,12 @@ columns_take (c ∷ cs) s x fits e =
     let form : InForm c a.0.0 (cells_bytes b.0.0 ++ b.0.1.rest) = subst (λ (r : List ℕ). InForm c a.0.0 r) others.0.parts first.1 in
     subst (λ (y : List Cell × Spot). Takes s (cells_bytes y.0) y.1 × AllInForm (c ∷ cs) y.0 y.1.rest) (ok_is (a.0.0 ∷ b.0.0, b.0.1) x b.2) (both, (form, others.1))
 
-columns_again : (cs : List Column) (xs : List Cell) (place : ℕ) (rest : List ℕ) → AllInForm cs xs rest → (q : ℕ) × (columns_at cs (spot place (cells_bytes xs ++ rest)) ≡ Ok (xs, spot q rest))
-columns_again [] [] place rest h = (place, refl)
+pub columns_again : (cs : List Column) (xs : List Cell) (place : ℕ) (rest : List ℕ) → AllInForm cs xs rest → (q : ℕ) × (columns_at cs (spot place (cells_bytes xs ++ rest)) ≡ Ok (xs, spot q rest)) × (q ≡ place + length (cells_bytes xs))
+columns_again [] [] place rest h = (place, refl, omega arith)
 columns_again (c ∷ cs) (x ∷ xs) place rest h =
     let one = column_again c x place (cells_bytes xs ++ rest) h.0 in
     let others = columns_again cs xs one.0 rest h.1 in
-    (others.0, rw (append_assoc (cell_bytes x) (cells_bytes xs) rest, one.1, others.1) refl)
+    (others.0, rw (append_assoc (cell_bytes x) (cells_bytes xs) rest, one.1, others.1) refl, omega (arith, one.2, others.2, length-append (cell_bytes x) (cells_bytes xs)))
 columns_again cs xs place rest h = absurd h
 
 -- ---- keys and values
@@ -127,7 +132,7 @@ columns_again cs xs place rest h = absurd h
 ok_pair : {A : Type 0} (x y : A) → done x ≡ done y → x ≡ y
 ok_pair x y e = ok_is x y e
 
-framed_takes : (cs : List Column) (s : Spot) (x : List Cell × Spot) → IsBytes s.rest → framed_at cs s ≡ Ok x → Takes s (counted (cells_bytes x.0)) x.1 × Framed cs x.0
+pub framed_takes : (cs : List Column) (s : Spot) (x : List Cell × Spot) → IsBytes s.rest → framed_at cs s ≡ Ok x → Takes s (counted (cells_bytes x.0)) x.1 × Framed cs x.0
 unfolding framed_at window_at
 framed_takes cs s x fits e =
     let ends : (List Cell × Spot) → Spot → Read (List Cell) = λ cells after. cond (length cells.1.rest == 0) (Ok (cells.0, after)) (Err (error.Extra cells.1.place)) in
@@ -151,7 +156,7 @@ framed_takes cs s x fits e =
     subst (λ (y : List Cell × Spot). Takes s (counted (cells_bytes y.0)) y.1 × Framed cs y.0) g.1
     (subst (λ (a : Spot). Takes s (counted (cells_bytes c.0.0)) a) after taken, record { each = form; short = omega (arith, first.1, len) })
 
-framed_again : (cs : List Column) (xs : List Cell) (place : ℕ) (rest : List ℕ) → Framed cs xs → (q : ℕ) × (framed_at cs (spot place (counted (cells_bytes xs) ++ rest)) ≡ Ok (xs, spot q rest))
+pub framed_again : (cs : List Column) (xs : List Cell) (place : ℕ) (rest : List ℕ) → Framed cs xs → (q : ℕ) × (framed_at cs (spot place (counted (cells_bytes xs) ++ rest)) ≡ Ok (xs, spot q rest)) × (q ≡ place + length (counted (cells_bytes xs)))
 unfolding framed_at window_at
 framed_again cs xs place rest h =
     let bytes = cells_bytes xs in
@@ -159,6 +164,7 @@ framed_again cs xs place rest h =
     let inner : columns_at cs (spot (place + 4) bytes) ≡ Ok (xs, spot cells.0 []) = ap (λ (b : List ℕ). columns_at cs (spot (place + 4) b)) (sym (append-nil bytes)) ∙ cells.1 in (
       (place + 4) + length bytes,
       rw (append_assoc (to_be_bytes w32 (length bytes)) bytes rest, number_again w32 (2 ^ 32) wide32 (length bytes) place (bytes ++ rest) h.short, bytes_again bytes (length bytes) (place + 4) rest refl, inner) refl,
+      omega (arith, length-append (to_be_bytes w32 (length bytes)) bytes),
     )
 
 -- ---- changes
@@ -166,7 +172,7 @@ framed_again cs xs place rest h =
 kind_named : (k j : RowKind) (n : ℕ) → Some j ≡ Some k → n ≡ kind_number j → kind_number k ≡ n
 kind_named k j n e is = ap kind_number (let same : k ≡ j = cc in same) ∙ sym is
 
-kind_is : (n : ℕ) (k : RowKind) → kind_of_number n ≡ Some k → kind_number k ≡ n
+pub kind_is : (n : ℕ) (k : RowKind) → kind_of_number n ≡ Some k → kind_number k ≡ n
 kind_is n k e =
     elim (chosen (n == 1) (Some kind.Store) (cond (n == 2) (Some kind.Account) (cond (n == 3) (Some kind.Generation) (cond (n == 4) (Some kind.Item) (cond (n == 17) (Some kind.Owner) (cond (n == 18) (Some kind.Set) (cond (n == 19) (Some kind.Local) None)))))) (Some k) e) [
       | inl p ↦ kind_named k kind.Store n p.1 (eqb-true n 1 p.0)
@@ -191,7 +197,7 @@ kind_is n k e =
       ]
     ]
 
-op_takes : (s : Spot) (x : Bool × Spot) → IsBytes s.rest → op_at s ≡ Ok x → Takes s (flag_byte x.0 ∷ []) x.1
+pub op_takes : (s : Spot) (x : Bool × Spot) → IsBytes s.rest → op_at s ≡ Ok x → Takes s (flag_byte x.0 ∷ []) x.1
 unfolding op_at
 op_takes s x fits e =
     let a = bind_ok (byte_at s) (λ b. cond (b.0 == 0) (Ok (false, b.1)) (cond (b.0 == 1) (Ok (true, b.1)) (Err (error.Kind s.place)))) x e in
@@ -204,16 +210,16 @@ op_takes s x fits e =
           subst (λ (y : Bool × Spot). Takes s (flag_byte y.0 ∷ []) y.1) g.1 (subst (λ (b : ℕ). Takes s (b ∷ []) a.0.1) one_byte t))
     ]
 
-op_again : (b : Bool) (place : ℕ) (rest : List ℕ) → op_at (spot place (flag_byte b ∷ rest)) ≡ Ok (b, spot (place + 1) rest)
+pub op_again : (b : Bool) (place : ℕ) (rest : List ℕ) → op_at (spot place (flag_byte b ∷ rest)) ≡ Ok (b, spot (place + 1) rest)
 unfolding op_at
 op_again false place rest = rw (byte_again 0 place rest) refl
 op_again true place rest = rw (byte_again 1 place rest) refl
 
-kind_or_ok : (o : Option RowKind) (s t : Spot) (x : RowKind × Spot) → kind_or o s t ≡ Ok x → (o ≡ Some x.0) × (t ≡ x.1)
+pub kind_or_ok : (o : Option RowKind) (s t : Spot) (x : RowKind × Spot) → kind_or o s t ≡ Ok x → (o ≡ Some x.0) × (t ≡ x.1)
 kind_or_ok (Some k) s t x e = let p = ok_is (k, t) x e in (ap (λ (y : RowKind × Spot). Some y.0) p, ap (λ (y : RowKind × Spot). y.1) p)
 kind_or_ok None s t x e = absurd cc
 
-kind_takes : (s : Spot) (x : RowKind × Spot) → IsBytes s.rest → kind_at s ≡ Ok x → Takes s (kind_number x.0 ∷ []) x.1
+pub kind_takes : (s : Spot) (x : RowKind × Spot) → IsBytes s.rest → kind_at s ≡ Ok x → Takes s (kind_number x.0 ∷ []) x.1
 unfolding kind_at
 kind_takes s x fits e =
     let a = bind_ok (byte_at s) (λ b. kind_or (kind_of_number b.0) s b.1) x e in
@@ -221,7 +227,7 @@ kind_takes s x fits e =
     let k = kind_or_ok (kind_of_number a.0.0) s a.0.1 x a.2 in
     subst (λ (y : Spot). Takes s (kind_number x.0 ∷ []) y) k.1 (subst (λ (b : ℕ). Takes s (b ∷ []) a.0.1) (sym (kind_is a.0.0 x.0 k.0)) t)
 
-kind_numbered : (k : RowKind) → kind_of_number (kind_number k) ≡ Some k
+pub kind_numbered : (k : RowKind) → kind_of_number (kind_number k) ≡ Some k
 kind_numbered kind.Store = refl
 kind_numbered kind.Account = refl
 kind_numbered kind.Generation = refl
@@ -230,11 +236,11 @@ kind_numbered kind.Owner = refl
 kind_numbered kind.Set = refl
 kind_numbered kind.Local = refl
 
-kind_again : (k : RowKind) (place : ℕ) (rest : List ℕ) → kind_at (spot place (kind_number k ∷ rest)) ≡ Ok (k, spot (place + 1) rest)
+pub kind_again : (k : RowKind) (place : ℕ) (rest : List ℕ) → kind_at (spot place (kind_number k ∷ rest)) ≡ Ok (k, spot (place + 1) rest)
 unfolding kind_at
 kind_again k place rest = rw (byte_again (kind_number k) place rest, kind_numbered k) refl
 
-entry_takes : (s : Spot) (x : Entry × Spot) → IsBytes s.rest → entry_at s ≡ Ok x → Takes s (entry_bytes x.0) x.1 × EntryInForm x.0
+pub entry_takes : (s : Spot) (x : Entry × Spot) → IsBytes s.rest → entry_at s ≡ Ok x → Takes s (entry_bytes x.0) x.1 × EntryInForm x.0
 unfolding entry_at
 entry_takes s x fits e =
     let last : Bool → RowKind → (List Cell × Spot) → Read Entry = λ op kind key. cond op (framed_at (value_columns kind) key.1 >>= λ value. Ok (put kind key.0 value.0, value.1)) (Ok (remove kind key.0, key.1)) in
@@ -256,17 +262,17 @@ entry_takes s x fits e =
           (subst (λ (op : Bool). Takes s (flag_byte op ∷ kind_number k.0.0 ∷ counted (cells_bytes f.0.0)) f.0.1) p.0 abc, c.1)
     ]
 
-entry_again : (x : Entry) (place : ℕ) (rest : List ℕ) → EntryInForm x → (q : ℕ) × (entry_at (spot place (entry_bytes x ++ rest)) ≡ Ok (x, spot q rest))
+pub entry_again : (x : Entry) (place : ℕ) (rest : List ℕ) → EntryInForm x → (q : ℕ) × (entry_at (spot place (entry_bytes x ++ rest)) ≡ Ok (x, spot q rest)) × (q ≡ place + length (entry_bytes x))
 unfolding entry_at
 entry_again (put kind key value) place rest h =
     let k = framed_again (key_columns kind) key ((place + 1) + 1) (counted (cells_bytes value) ++ rest) h.0 in
     let v = framed_again (value_columns kind) value k.0 rest h.1 in
-    (v.0, rw (append_assoc (counted (cells_bytes key)) (counted (cells_bytes value)) rest, op_again true place (kind_number kind ∷ (counted (cells_bytes key) ++ (counted (cells_bytes value) ++ rest))), kind_again kind (place + 1) (counted (cells_bytes key) ++ (counted (cells_bytes value) ++ rest)), k.1, v.1) refl)
+    (v.0, rw (append_assoc (counted (cells_bytes key)) (counted (cells_bytes value)) rest, op_again true place (kind_number kind ∷ (counted (cells_bytes key) ++ (counted (cells_bytes value) ++ rest))), kind_again kind (place + 1) (counted (cells_bytes key) ++ (counted (cells_bytes value) ++ rest)), k.1, v.1) refl, omega (arith, k.2, v.2, length-append (counted (cells_bytes key)) (counted (cells_bytes value))))
 entry_again (remove kind key) place rest h =
     let k = framed_again (key_columns kind) key ((place + 1) + 1) rest h in
-    (k.0, rw (op_again false place (kind_number kind ∷ (counted (cells_bytes key) ++ rest)), kind_again kind (place + 1) (counted (cells_bytes key) ++ rest), k.1) refl)
+    (k.0, rw (op_again false place (kind_number kind ∷ (counted (cells_bytes key) ++ rest)), kind_again kind (place + 1) (counted (cells_bytes key) ++ rest), k.1) refl, omega (arith, k.2))
 
-entry_some : (x : Entry) → 0 < length (entry_bytes x)
+pub entry_some : (x : Entry) → 0 < length (entry_bytes x)
 entry_some (put kind key value) = omega arith
 entry_some (remove kind key) = omega arith
 

@@ -68,9 +68,10 @@ IsBytes-take n bytes h i =
 pub record Takes (s : Spot) (text : List ℕ) (t : Spot) : Type 0 where
   pub parts : s.rest ≡ text ++ t.rest
   pub rest_fits : IsBytes t.rest
+  pub place_is : t.place ≡ s.place + length text
 
 pub Takes-then : (a : Spot) (x : List ℕ) (b : Spot) (y : List ℕ) (c : Spot) → Takes a x b → Takes b y c → Takes a (x ++ y) c
-Takes-then a x b y c p q = record { parts = p.parts ∙ ap (λ (t : List ℕ). x ++ t) q.parts ∙ sym (append_assoc x y c.rest); rest_fits = q.rest_fits }
+Takes-then a x b y c p q = record { parts = p.parts ∙ ap (λ (t : List ℕ). x ++ t) q.parts ∙ sym (append_assoc x y c.rest); rest_fits = q.rest_fits; place_is = omega (arith, p.place_is, q.place_is, length-append x y) }
 
 -- ---- numbers
 
@@ -104,7 +105,7 @@ number_takes w limit wide s x fits e =
     let long : byte_len w ≤ length bytes = ltb-false _ _ g.0 in
     let front : to_be_bytes w (from_be_bytes w (take (byte_len w) bytes)) ≡ take (byte_len w) bytes = wide.back (take (byte_len w) bytes) (omega (arith, length-take (byte_len w) bytes)) (IsBytes-take (byte_len w) bytes fits) in
     subst (λ (y : ℕ × Spot). Takes s (to_be_bytes w y.0) y.1 × (y.0 < limit)) g.1
-    (record { parts = rw front (sym (take-append-drop (byte_len w) bytes)); rest_fits = IsBytes-drop (byte_len w) bytes fits }, wide.below (take (byte_len w) bytes) (IsBytes-take (byte_len w) bytes fits))
+    (record { parts = rw front (sym (take-append-drop (byte_len w) bytes)); rest_fits = IsBytes-drop (byte_len w) bytes fits; place_is = ap (λ (k : ℕ). s.place + k) (sym (wide.len (from_be_bytes w (take (byte_len w) bytes)))) }, wide.below (take (byte_len w) bytes) (IsBytes-take (byte_len w) bytes fits))
 
 pub number_again : (w : Width) (limit : ℕ) (wide : IsWide w limit) (n place : ℕ) (rest : List ℕ) → n < limit → number_at w (spot place (to_be_bytes w n ++ rest)) ≡ Ok (n, spot (place + byte_len w) rest)
 unfolding number_at
@@ -121,7 +122,7 @@ bytes_take count s x fits e =
     let g = guard_ok (ltb (length s.rest) count) (error.Short s.place) (take count s.rest, past count s) x e in
     let long : count ≤ length s.rest = ltb-false _ _ g.0 in
     subst (λ (y : List ℕ × Spot). Takes s y.0 y.1 × (length y.0 ≡ count) × IsBytes y.0) g.1
-    (record { parts = sym (take-append-drop count s.rest); rest_fits = IsBytes-drop count s.rest fits }, omega (arith, length-take count s.rest), IsBytes-take count s.rest fits)
+    (record { parts = sym (take-append-drop count s.rest); rest_fits = IsBytes-drop count s.rest fits; place_is = omega (arith, length-take count s.rest) }, omega (arith, length-take count s.rest), IsBytes-take count s.rest fits)
 
 pub bytes_again : (bytes : List ℕ) (count place : ℕ) (rest : List ℕ) → length bytes ≡ count → bytes_at count (spot place (bytes ++ rest)) ≡ Ok (bytes, spot (place + count) rest)
 unfolding bytes_at
@@ -138,7 +139,7 @@ unfolding byte_at
 byte_takes-of place [] x fits e = absurd cc
 byte_takes-of place (b ∷ bytes) x fits e =
     let here : done (b, spot (place + 1) bytes) ≡ done x = sym (byte_again b place bytes) ∙ e in
-    subst (λ (y : ℕ × Spot). Takes (spot place (b ∷ bytes)) (y.0 ∷ []) y.1) (ok_is (b, spot (place + 1) bytes) x here) (record { parts = refl; rest_fits = λ i. fits (suc i) })
+    subst (λ (y : ℕ × Spot). Takes (spot place (b ∷ bytes)) (y.0 ∷ []) y.1) (ok_is (b, spot (place + 1) bytes) x here) (record { parts = refl; rest_fits = λ i. fits (suc i); place_is = omega arith })
 
 pub byte_takes : (s : Spot) (x : ℕ × Spot) → IsBytes s.rest → byte_at s ≡ Ok x → Takes s (x.0 ∷ []) x.1
 byte_takes s x fits e = byte_takes-of s.place s.rest x fits e

@@ -1,4 +1,7 @@
 pub mod ColumnLemmas
+pub mod FaultAgain
+pub mod FaultChanges
+pub mod FaultLemmas
 pub mod FieldLemmas
 pub mod FormLemmas
 pub mod Glue

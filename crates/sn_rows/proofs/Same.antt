@@ -1,5 +1,5 @@
 -- Changes with equal columns are equal; so what is spelled is what is read.
-use Rattle.std.proofs.Common.{◌≡◌, ℕ, Bool, false, List, [], ◌∷◌, length, Option, Some, None, Result, Ok, Err, refl, sym, ap, subst, ◌∙◌, ◌≤◌}
+use Rattle.std.proofs.Common.{◌≡◌, ◌≢◌, ◌⊎◌, inl, inr, ℕ, Bool, false, List, [], ◌∷◌, length, Option, Some, None, Result, Ok, Err, refl, sym, ap, subst, ◌∙◌, ◌≤◌}
 use Rattle.std.specs.Prelude.{IfOk, IfErr, MatchResult, IsTrue}
 use Rattle.std.specs.Option.{ForSome}
 use Rattle.std.proofs.Props.{props}
@@ -8,7 +8,8 @@ use Rattle.sn_rows.specs.Kinds.{key_kind, value_kind}
 use Rattle.sn_rows.specs.Columns.{key_cells, value_cells, body_of}
 use Rattle.sn_rows.specs.Spelling.{Entry, entry_of, entries_of, spelled, AreInForm}
 use Rattle.sn_rows.specs.Laws.{Spells, IsAnswer}
-use Rattle.sn_rows.specs.Reading.{payload_at, Fails, Gives, IsRefusal}
+use Rattle.sn_rows.specs.Faults.{IsRefusal}
+use Rattle.sn_rows.specs.Reading.{payload_at, Fails, Gives}
 use Rattle.sn_rows.specs.declared.key.Key.{Key}
 use Rattle.sn_rows.specs.declared.key.Key.TheVariants as key
 use Rattle.sn_rows.specs.declared.body.RowBody.{RowBody}
@@ -30,6 +31,8 @@ use Rattle.sn_rows.specs.declared.error.RowError.{RowError}
 use Rattle.sn_rows.specs.declared.error.RowError.TheVariants as error
 use Rattle.sn_rows.proofs.FieldLemmas.{IsBytes, ok_is}
 use Rattle.sn_rows.proofs.ColumnLemmas.{payload_takes, payload_again}
+use Rattle.sn_rows.proofs.FaultAgain.{refusal_so}
+use Rattle.sn_rows.proofs.FaultChanges.{refused_so}
 
 strings_same : (a b : RowStrings) → a.content ≡ b.content → a.enc ≡ b.enc → a ≡ b
 strings_same a b e0 e1 =
@@ -160,9 +163,16 @@ pub is_found : (bytes : List ℕ) (r : Result (List Change) RowError) → IsByte
 is_found bytes (Ok found) fits given = payload_takes bytes (entries_of found) fits given
 is_found bytes (Err e) fits given = tt
 
-pub is_refused : (bytes : List ℕ) (r : Result (List Change) RowError) → Gives (λ found. entries_of found) r (payload_at bytes) → IfErr r (λ e. IsRefusal bytes e)
-is_refused bytes (Ok found) given = tt
-is_refused bytes (Err e) given = given
+fails_so : (e : RowError) (r : Result (List Entry) RowError) → Fails e r → (e ≡ error.Memory) ⊎ (r ≡ Err e)
+fails_so error.Memory r f = inl refl
+fails_so (error.Short p) r f = inr f
+fails_so (error.Kind p) r f = inr f
+fails_so (error.Range p) r f = inr f
+fails_so (error.Extra p) r f = inr f
+
+pub is_refused : (bytes : List ℕ) (r : Result (List Change) RowError) → IsBytes bytes → Gives (λ found. entries_of found) r (payload_at bytes) → IfErr r (λ e. IsRefusal bytes e)
+is_refused bytes (Ok found) fits given = tt
+is_refused bytes (Err e) fits given = refused_so bytes e fits (fails_so e (payload_at bytes) given)
 
 must_be_memory : (e : RowError) (r : Result (List Entry) RowError) (es : List Entry) → r ≡ Ok es → Fails e r → e ≡ error.Memory
 must_be_memory error.Memory r es is f = refl
@@ -183,4 +193,20 @@ one_reading bytes a b x y =
 pub read_back : (changes : List Change) (bytes : List ℕ) → Spells bytes changes → (answer : Result (List Change) RowError) → IsAnswer bytes answer
     → MatchResult answer (λ found. found ≡ changes) (λ e. e ≡ error.Memory)
 read_back changes bytes x (Ok found) is = one_reading bytes found changes is x
-read_back changes bytes x (Err e) is = must_be_memory e (payload_at bytes) (entries_of changes) (ap payload_at x.0 ∙ payload_again (entries_of changes) x.1) is
+read_back changes bytes x (Err e) is =
+    elim (refusal_so bytes e is) [
+      | inl memory ↦ memory
+      | inr other ↦ (
+          let read : payload_at bytes ≡ Ok (entries_of changes) = ap payload_at x.0 ∙ payload_again (entries_of changes) x.1 in
+          absurd (let never = sym other ∙ read in cc))
+    ]
+
+pub one_refusal : (bytes : List ℕ) (a b : RowError) → a ≢ error.Memory → b ≢ error.Memory → IsRefusal bytes a → IsRefusal bytes b → a ≡ b
+one_refusal bytes a b not_a not_b x y =
+    elim (refusal_so bytes a x) [
+      | inl memory ↦ absurd (not_a memory)
+      | inr first ↦ elim (refusal_so bytes b y) [
+        | inl memory ↦ absurd (not_b memory)
+        | inr second ↦ (let same = sym first ∙ second in cc)
+      ]
+    ]

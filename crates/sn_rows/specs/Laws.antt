@@ -8,7 +8,7 @@ use Rattle.sn_rows.specs.declared.value.Value.{Value}
 use Rattle.sn_rows.specs.Order.{code_order, key_order}
 use Rattle.sn_rows.specs.Table.{Rows, Puts, Removes, same_key, value_of, rows_after, rows_of, rows_of_batches, with_row, Spares, IsLast}
 use Rattle.sn_rows.specs.Spelling.{spelled, AreInForm}
-use Rattle.sn_rows.specs.Reading.{IsRefusal}
+use Rattle.sn_rows.specs.Faults.{IsRefusal}
 
 -- two keys are the same where they are equal
 abbrev pub KeysCompare : Type 0
@@ -84,3 +84,7 @@ HasOneSpelling = (changes : List Change) (bytes written : List ℕ) → IsAnswer
 -- bytes spell one list of changes at most
 abbrev pub HasOneReading : Type 0
 HasOneReading = (bytes : List ℕ) (a b : List Change) → Spells bytes a → Spells bytes b → a ≡ b
+
+-- bytes have one first fault at most, so a refusal is told in one way
+abbrev pub HasOneRefusal : Type 0
+HasOneRefusal = (bytes : List ℕ) (a b : RowError) → a ≢ error.Memory → b ≢ error.Memory → IsRefusal bytes a → IsRefusal bytes b → a ≡ b

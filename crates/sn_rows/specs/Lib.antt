@@ -2,6 +2,7 @@ pub mod Bounds
 pub mod Cells
 pub mod Columns
 pub mod Facts
+pub mod Faults
 pub mod Kinds
 pub mod Laws
 pub mod Order

@@ -1,4 +1,5 @@
--- Reading a payload from the left, up to the first fault.
+-- Reading a payload from the left, as the functions of the crate do it, up to the first fault. What they read and refuse together
+-- is said by the grammar, in Spelling and Faults.
 use Rattle.std.specs.Prelude.{◌≡◌, ℕ, zero, suc, ◌+◌, ◌==◌, ◌&&◌, Bool, true, false, List, [], ◌∷◌, length, take, drop, Option, Some, None, Result, Ok, Err, nat_lt, nat_le, if◌then◌else◌, slice_index_or}
 use Rattle.std.specs.Int.{Width, w32, w64, byte_len, from_be_bytes}
 use Rattle.sn_rows.specs.Bounds.{last_stamp, is_device_string, is_type_or_empty}
@@ -172,7 +173,7 @@ entries_at (suc n) s =
 abbrev pub payload_at : List ℕ → Result (List Entry) RowError
 payload_at bytes = entries_at (length bytes) (spot 0 bytes)
 
--- Want of memory is the one free answer; any other refusal is the first fault from the left.
+-- Want of memory is the one free answer; any other is what reading gives.
 abbrev pub Fails : {Y : Type 0} → RowError → Result Y RowError → Type 0
 Fails error.Memory read = Unit {0}
 Fails (error.Short place) read = read ≡ Err (error.Short place)
@@ -184,7 +185,3 @@ Fails (error.Extra place) read = read ≡ Err (error.Extra place)
 abbrev pub Gives : {X Y : Type 0} → (X → Y) → Result X RowError → Result Y RowError → Type 0
 Gives view (Ok x) read = read ≡ Ok (view x)
 Gives view (Err e) read = Fails e read
-
--- the bytes may be refused so
-abbrev pub IsRefusal : List ℕ → RowError → Type 0
-IsRefusal bytes e = Fails e (payload_at bytes)

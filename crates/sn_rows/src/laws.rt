@@ -1,7 +1,7 @@
 //! What holds of every list of changes, by the definitions alone. The functions do nothing; their
 //! contracts are the laws.
 
-ghost use Rattle.sn_rows.specs.Laws.{KeysCompare, KeysAreInOrder, LastCounts, SparedIsNone, LastOrSpared, Follows, BatchFollows, SparedStays, PutGives, PutHere, PutElsewhere, RemovalGives, RemovedHere, RemovedElsewhere, IsReadBack, HasOneSpelling, HasOneReading};
+ghost use Rattle.sn_rows.specs.Laws.{KeysCompare, KeysAreInOrder, LastCounts, SparedIsNone, LastOrSpared, Follows, BatchFollows, SparedStays, PutGives, PutHere, PutElsewhere, RemovalGives, RemovedHere, RemovedElsewhere, IsReadBack, HasOneSpelling, HasOneReading, HasOneRefusal};
 
 /// Two keys are the same where they are equal.
 pub fn keys_compare()
@@ -86,4 +86,9 @@ pub fn one_spelling()
 /// Bytes spell one list of changes at most.
 pub fn one_reading()
     ensures { HasOneReading }
+{}
+
+/// Bytes are refused in one way at most, unless memory is wanting.
+pub fn one_refusal()
+    ensures { HasOneRefusal }
 {}

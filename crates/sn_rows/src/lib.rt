@@ -25,8 +25,8 @@ pub use key::{Key, Slot};
 pub use kind::RowKind;
 pub use laws::{
     batch_follows, follows, keys_compare, keys_in_order, last_counts, last_or_spared, one_reading,
-    one_spelling, put_elsewhere, put_gives, put_here, read_back, removal_gives, removed_elsewhere,
-    removed_here, spared_is_none, spared_stays,
+    one_refusal, one_spelling, put_elsewhere, put_gives, put_here, read_back, removal_gives,
+    removed_elsewhere, removed_here, spared_is_none, spared_stays,
 };
 pub use reading::read;
 pub use server_rows::{AccountRow, GenerationRow, ItemRow, StoreRow};

@@ -6,7 +6,8 @@ ghost use Rattle.sn_rows.specs.declared.error.RowError.TheVariants.{Memory};
 ghost use Rattle.sn_rows.specs.Kinds.{key_kind, value_kind};
 ghost use Rattle.sn_rows.specs.Columns.{key_columns, value_columns, key_cells, value_cells};
 ghost use Rattle.sn_rows.specs.Spelling.{entry_of, entries_of, spelled, AreInForm};
-ghost use Rattle.sn_rows.specs.Reading.{Gives, IsRefusal, spot, columns_at, window_at, framed_at, op_at, kind_at, entry_at, payload_at};
+ghost use Rattle.sn_rows.specs.Faults.{IsRefusal};
+ghost use Rattle.sn_rows.specs.Reading.{Gives, spot, columns_at, window_at, framed_at, op_at, kind_at, entry_at, payload_at};
 
 use crate::at::At;
 use crate::change::{Change, Row};

@@ -14,6 +14,7 @@ use Rattle.sn_rows.specs.Facts.{keys_compare, put_apart}
 use Rattle.sn_string.specs.declared.params.KeySet.{KeySet}
 use Rattle.sn_shows.specs.Sets.{set_at}
 use Rattle.sn_shows.specs.Servers.{HasCause, ShowsAccount, ShowsGeneration, ShowsIdentity, ShowsItem, account_at}
+
 -- an account's rows, where they are the same as before
 
 -- the account may have other versions

@@ -1,6 +1,6 @@
 -- The journal's refusals, as the table's.
-use Rattle.sn_journal.specs.declared.loading.JournalError.{JournalError}
-use Rattle.sn_journal.specs.declared.loading.JournalError.TheVariants as journal
+use Rattle.sn_journal.specs.declared.error.JournalError.{JournalError}
+use Rattle.sn_journal.specs.declared.error.JournalError.TheVariants as journal
 use Rattle.sn_table.specs.declared.error.TableError.{TableError}
 use Rattle.sn_table.specs.declared.error.TableError.TheVariants.{Foreign, Damaged, DiskFault, Memory}
 

@@ -4,6 +4,9 @@ use Rattle.sn_journal.specs.declared.owner.Owner.{Owner}
 use Rattle.sn_rows.specs.declared.change.Change.{Change}
 use Rattle.sn_table.specs.Batches.{IsStore, IsAllOrNothing}
 
+abbrev pub HasOneStore : Type 0
+HasOneStore = (owner : Owner) (file : List ℕ) (one other : List (List Change)) → IsStore owner file one → IsStore owner file other → one ≡ other
+
 -- what became of a commit of these changes: it answered Done, or a crash came in it and a load after that
 pub data Commit : Type 0 where
   done : List Change → Commit

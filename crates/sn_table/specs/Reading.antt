@@ -1,6 +1,7 @@
 -- Reading payloads as batches.
-use Rattle.std.specs.Prelude.{◌≡◌, ℕ, List, ◌∷◌, ◌++◌, length, map, All}
-use Rattle.sn_journal.specs.Image.{front}
+use Rattle.std.specs.Prelude.{◌≡◌, ◌-◌, ◌^◌, ℕ, List, ◌∷◌, ◌++◌, length, min, map, All}
+use Rattle.std.specs.List.{flat_map}
+use Rattle.sn_journal.specs.Image.{batch, front, IsBounded}
 use Rattle.sn_journal.specs.declared.owner.Owner.{Owner}
 use Rattle.sn_rows.specs.Spelling.{spelled}
 use Rattle.sn_rows.specs.Table.{row_after, rows_of_batches}
@@ -25,6 +26,15 @@ pub record AreRead (owner : Owner) (payloads : List (List ℕ)) (left : RowMap) 
   pub are : payloads ≡ map spelled batches
   pub each : All (IsBatch owner) batches
   pub rows : (key : Key) → row_in left key ≡ rows_of_batches batches key
+
+-- batches that were read, up to what is left, and the place of the next gate, or the greatest number
+pub record AreTaken (owner : Owner) (bytes rest : List ℕ) (left : RowMap) (gate : ℕ) : Type 0 where
+  pub batches : List (List Change)
+  pub split : bytes ≡ flat_map batch (map spelled batches) ++ rest
+  pub bounded : All IsBounded (map spelled batches)
+  pub each : All (IsBatch owner) batches
+  pub rows : (key : Key) → row_in left key ≡ rows_of_batches batches key
+  pub gate_is : gate ≡ min (length (front owner (map spelled batches))) (2 ^ 64 - 1)
 
 -- the gate at this place is that of the first payload that spells no batch
 pub record IsUnread (owner : Owner) (payloads : List (List ℕ)) (place : ℕ) : Type 0 where

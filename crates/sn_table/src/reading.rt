@@ -1,14 +1,17 @@
 // Reading the payloads of a journal as batches of changes.
 
-ghost use Rattle.std.specs.Prelude.{◌≡◌, ◌↔◌, ◌<◌, ◌^◌, IsTrue, IfOk, IfErr, OnOk, All, MatchOption, length};
-ghost use Rattle.sn_journal.specs.Image.{contents, front};
+ghost use Rattle.std.specs.Prelude.{◌≡◌, ◌↔◌, ◌<◌, ◌^◌, IsTrue, IfOk, IfErr, OnOk, All, MatchOption, List, ℕ, length};
+ghost use Rattle.sn_journal.specs.Image.{front};
+ghost use Rattle.sn_journal.specs.Reading.{AreIn};
+ghost use Rattle.sn_row_map.specs.RowMaps.{IsTidy};
 ghost use Rattle.sn_rows.specs.Kinds.{key_kind};
 ghost use Rattle.sn_rows.specs.Spelling.{spelled};
 ghost use Rattle.sn_table.specs.Batches.{owner_of_kind, IsOf, IsBatch, IsNoBatch};
+ghost use Rattle.sn_table.specs.Logs.{HasKinds};
 ghost use Rattle.sn_table.specs.Reading.{IsAdded, AreRead, IsAddError, IsReadError};
 ghost use Rattle.sn_table.specs.declared.reading.Unread.TheVariants.{Memory};
 
-use sn_journal::Owner;
+use sn_journal::{Batches, Owner};
 use sn_row_map::RowMap;
 use sn_rows::{Change, RowError, RowKind};
 use sn_string::Many;
@@ -88,6 +91,7 @@ fn add_batch(
     payload: &[u8],
 ) -> Result<(), Unread>
     ensures added { OnOk result (IsAdded owner payload.now rows.old rows.new) }
+    ensures tidy { IsTidy rows.old → IsTidy rows.new }
     ensures refused { IfErr result (IsAddError owner payload.now gate) }
 {
     let Some(changes) = batch_of(alloc, owner, payload)? else {
@@ -97,16 +101,23 @@ fn add_batch(
     Ok(())
 }
 
-/// The rows that payloads leave, one batch after the other.
-pub(crate) fn rows_of(alloc: Global, owner: Owner, payloads: &[Vec<u8>]) -> Result<RowMap, Unread>
-    ensures read { IfOk result (AreRead owner (contents payloads.now)) }
-    ensures refused { length (front owner (contents payloads.now)) < 2 ^ 64 → IfErr result (IsReadError owner (contents payloads.now)) }
+/// The rows that batches leave, one after the other.
+pub(crate) fn rows_of(alloc: Global, owner: Owner, batches: &Batches) -> Result<RowMap, Unread>
+    ensures read { (payloads : List (List ℕ)) → AreIn batches.now payloads → IfOk result (AreRead owner payloads) }
+    ensures kinds { IfOk result HasKinds }
+    ensures tidy { IfOk result IsTidy }
+    ensures refused { (payloads : List (List ℕ)) → AreIn batches.now payloads → length (front owner payloads) < 2 ^ 64 → IfErr result (IsReadError owner payloads) }
 {
     let mut rows = RowMap::new(alloc);
+    let mut payloads = batches.payloads();
     let mut gate: u64 = 16;
-    'payloads: for payload in payloads {
-        add_batch(alloc, owner, &mut rows, gate, payload)?;
-        gate = gate.saturating_add(5).saturating_add(payload.len() as u64);
+    'payloads: loop {
+        match payloads.next() {
+            Some(payload) => {
+                add_batch(alloc, owner, &mut rows, gate, payload)?;
+                gate = gate.saturating_add(5).saturating_add(payload.len() as u64);
+            }
+            None => return Ok(rows),
+        }
     }
-    Ok(rows)
 }

@@ -1,148 +1,151 @@
-//! The table, and its one change.
+// The table, and its one change.
 
-ghost use Rattle.std.specs.Prelude.{◌≡◌, ◌⊎◌, ◌<◌, ◌≤◌, ◌^◌, ◌++◌, [], ◌∷◌, List, ℕ, All, length, IfOk, OnOk};
+ghost use Rattle.std.specs.Prelude.{◌≡◌, ◌⊎◌, ◌+◌, ◌<◌, ◌≤◌, ◌^◌, ◌++◌, [], ◌∷◌, List, ℕ, All, length, IfOk, OnOk, IfSome, Some};
 ghost use Rattle.std.specs.Option.{option_copied};
-ghost use Rattle.sn_rows.specs.Spelling.{spelled, AreInForm};
+ghost use Rattle.sn_rows.specs.Kinds.{key_kind, value_kind};
+ghost use Rattle.sn_rows.specs.Spelling.{spelled};
+ghost use Rattle.sn_rows.specs.Table.{row_after};
 ghost use Rattle.sn_rows.specs.declared.change.Change.{Change};
+ghost use Rattle.sn_rows.specs.declared.key.Key.{Key};
+ghost use Rattle.sn_rows.specs.declared.value.Value.{Value};
 ghost use Rattle.sn_row_map.specs.Ranges.{AreRowsOf};
-ghost use Rattle.sn_row_map.specs.RowMaps.{row_in, FitsIn, SameRows};
+ghost use Rattle.sn_row_map.specs.RowMaps.{row_in, IsTidy};
 
-use sn_disk::Disk;
-use sn_journal::{AppendError, Journal};
-use sn_row_map::{RowMap, keys_of};
+use crate::log::Log;
+use crate::{CommitError, Committed};
+use sn_disk::{Disk, MemDisk, Stop};
+use sn_row_map::RowMap;
 use sn_rows::{Change, Key, RowKind, Value};
 use sn_string::Many;
 use std::alloc::{AllocError, Global};
 
-/// An open table: its journal, and the rows that the journal's batches leave.
+/// An open table: its log, and the rows that the log's batches leave.
 #[derive(Drop)]
 pub struct Table<D: Disk> {
     alloc: Global,
-    journal: Journal<D>,
+    log: Log<D>,
     rows: RowMap,
-}
-
-/// Why changes were refused.
-#[derive(Clone, Copy, Debug, PartialEq, Eq)]
-pub enum CommitError {
-    /// The changes are spelled by this many bytes, more than 2^30.
-    TooLarge { size: u64 },
-    Memory,
-}
-
-/// What became of a commit.
-#[derive(Drop)]
-pub enum Committed<D: Disk> {
-    /// The table has the changes, and keeps them in a crash.
-    Done(Table<D>),
-    /// The table is as it was, and its disk wasn't called.
-    Refused(Table<D>, CommitError),
-    /// The disk failed, and is to be loaded again: it has all of the changes or none.
-    Broken(D),
+    ghost kinds: { (key : Key) (value : Value) → row_in rows key ≡ Some value → key_kind key ≡ value_kind value },
 }
 
 impl<D: Disk> Table<D> {
     ghost use Rattle.sn_disk.specs.Disk.{LeavesOnly};
     ghost use Rattle.sn_io.specs.Causes.{Rose};
     ghost use Rattle.sn_table.specs.Batches.{IsOf, IsAllOrNothing};
-    ghost use Rattle.sn_table.specs.Tables.{IsOpen, IsUntouched, IsCause, IsRefused, IfDone, IfRefused, IfBroken, table_disk, table_owner, disk_after};
+    ghost use Rattle.sn_table.specs.Committing.{IsCause, IsRefused, IfDone, IfRefused, IfBroken, disk_after};
+    ghost use Rattle.sn_table.specs.Logs.{HasKinds};
+    ghost use Rattle.sn_table.specs.Tables.{IsOpen, IsUntouched, table_disk, table_owner, table_rows};
 
-    pub(crate) fn opened(alloc: Global, journal: Journal<D>, rows: RowMap) -> Table<D>
-        ensures { result ≡ record { alloc = alloc; journal = journal; rows = rows } }
+    pub(crate) fn opened(alloc: Global, log: Log<D>, rows: RowMap) -> Table<D>
+        requires { HasKinds rows }
+        ensures log { result.log ≡ log }
+        ensures rows { result.rows ≡ rows }
     {
-        Table {
-            alloc,
-            journal,
-            rows,
-        }
+        Table { alloc, log, rows }
     }
 
     /// Its disk.
     pub fn disk(&self) -> &D
         ensures { result.now ≡ table_disk self.now }
     {
-        self.journal.disk()
+        self.log.disk()
     }
 
     /// Gives the disk back. Nothing is in flight.
     pub fn close(self) -> D
         ensures { result ≡ table_disk self }
     {
-        self.journal.close()
+        self.log.close()
+    }
+
+    /// How many batches it has.
+    pub fn count(&self) -> u64
+        ensures { (batches : List (List Change)) → IsOpen self.now batches → result ≡ length batches }
+    {
+        self.log.count()
     }
 
     /// The row of a key. Takes no memory, and the time is logarithmic.
     pub fn get(&self, key: &Key) -> Option<&Value>
-        ensures { option_copied result ≡ row_in self.now.rows key.now }
+        ensures row { option_copied result ≡ row_in (table_rows self.now) key.now }
+        ensures kind { IfSome result (λ value. key_kind key.now ≡ value_kind value.now) }
     {
         self.rows.get(key)
     }
 
     /// The rows of a kind, in the order of their keys. The values are copied; beside that the time is logarithmic.
     pub fn range(&self, kind: RowKind) -> Result<Many<(Key, Value)>, AllocError>
-        ensures { IfOk result (AreRowsOf self.now.rows kind) }
+        ensures rows { IfOk result (AreRowsOf (table_rows self.now) kind) }
+        ensures kind { IfOk result (λ rows. All (λ row. (key_kind row.0 ≡ kind) × (value_kind row.1 ≡ kind)) rows) }
     {
         self.rows.range(self.alloc, kind)
     }
 
     /// Makes changes, all of them or none, also in a crash. They are of rows of the owner's.
-    pub fn commit(self, changes: Vec<Change>) -> Committed<D>
+    pub fn commit(self, changes: Vec<Change>) -> Committed<Table<D>, D>
         requires { All (IsOf (table_owner self)) changes.items }
         // At `Done` each crash leaves the batches with the new one, and the rows are those that it leaves.
         ensures done { D.told → (batches : List (List Change)) → IsOpen self batches → IfDone result (λ table. IsOpen table (batches ++ changes.items ∷ [])) }
+        ensures rows { IfDone result (λ table. (key : Key) → row_in (table_rows table) key ≡ row_after (row_in (table_rows self) key) key changes.items) }
         ensures owner { IfDone result (λ table. table_owner table ≡ table_owner self) }
 
-        // A crash at any moment leaves the batches from before, or those with the whole new one.
+        // No key is left with room and without a row.
+        ensures tidy { IsTidy (table_rows self) → IfDone result (λ table. IsTidy (table_rows table)) × IfRefused result (λ table error. IsTidy (table_rows table)) }
+
+        // A crash at any moment leaves the batches from before, or those with the whole new one, and so does one now.
         ensures any_moment { D.told → (batches : List (List Change)) → IsOpen self batches →
-            LeavesOnly D.moment D.left_since (table_disk self) (disk_after result) (IsAllOrNothing (table_owner self) batches changes.items) }
+            LeavesOnly D.moment D.left_since (table_disk self) (disk_after table_disk result) (IsAllOrNothing (table_owner self) batches changes.items) }
+        ensures crash { D.told → (batches : List (List Change)) → IsOpen self batches →
+            (c : List ℕ) → D.may_leave (disk_after table_disk result) c → IsAllOrNothing (table_owner self) batches changes.items c }
 
         // A refused batch leaves all as it was.
         ensures refused { IfRefused result (λ table error. IsUntouched self table × IsCause changes.items error) }
         ensures stays { (batches : List (List Change)) → IsOpen self batches → IfRefused result (λ table error. IsOpen table batches) }
         ensures large { 2 ^ 30 < length (spelled changes.items) → IsRefused result }
 
+        // Four changing calls.
+        ensures four { D.told → IfDone result (λ table. D.moment (table_disk table) ≡ D.moment (table_disk self) + 4) }
+        ensures most { D.told → D.moment (disk_after table_disk result) ≤ D.moment (table_disk self) + 4 }
+
         ensures broken { IfBroken result (λ disk. Rose (D.fault_count (table_disk self)) (D.fault_count disk)) }
-        ensures grows { D.grows (table_disk self) (disk_after result) }
-        ensures later { D.fault_count (table_disk self) ≤ D.fault_count (disk_after result) }
+        ensures grows { D.grows (table_disk self) (disk_after table_disk result) }
+        ensures later { D.fault_count (table_disk self) ≤ D.fault_count (disk_after table_disk result) }
+        ensures quiet { IfDone result (λ table. D.fault_count (table_disk table) ≡ D.fault_count (table_disk self)) }
     {
         let Table {
             alloc,
-            journal,
+            log,
             mut rows,
         } = self;
-        let Ok((payload, keys)) = prepared(alloc, &mut rows, &changes) else {
-            return Committed::Refused(Table::opened(alloc, journal, rows), CommitError::Memory);
+        let Ok(()) = rows.make_room_for(&changes) else {
+            rows.sweep_for(&changes);
+            return Committed::Refused(Table::opened(alloc, log, rows), CommitError::Memory);
         };
-        match journal.append(&payload) {
-            Ok(journal) => {
+        match log.commit(&changes) {
+            Committed::Done(log) => {
                 rows.set_all(changes);
-                rows.sweep(&keys);
-                Committed::Done(Table::opened(alloc, journal, rows))
+                Committed::Done(Table::opened(alloc, log, rows))
             }
-            Err(AppendError::TooLarge(journal, size)) => {
-                let table = Table::opened(alloc, journal, rows);
-                Committed::Refused(table, CommitError::TooLarge { size })
+            Committed::Refused(log, error) => {
+                rows.sweep_for(&changes);
+                Committed::Refused(Table::opened(alloc, log, rows), error)
             }
-            Err(AppendError::Memory(journal)) => {
-                Committed::Refused(Table::opened(alloc, journal, rows), CommitError::Memory)
-            }
-            Err(AppendError::DiskFault(disk)) => Committed::Broken(disk),
+            Committed::Broken(disk) => Committed::Broken(disk),
         }
     }
 }
 
-// What a commit takes memory for: the spelling of the changes, their keys, and room for their rows.
-fn prepared(
-    alloc: Global,
-    rows: &mut RowMap,
-    changes: &[Change],
-) -> Result<(Vec<u8>, Vec<Key>), AllocError>
-    ensures rows { SameRows rows.old rows.new }
-    ensures payload { IfOk result (λ taken. (taken.0.items ≡ spelled changes.now) × AreInForm changes.now) }
-    ensures room { OnOk result (All (FitsIn rows.new) changes.now) }
-{
-    let payload = sn_rows::write(alloc, changes)?;
-    let keys = keys_of(alloc, changes)?;
-    rows.make_room_for(changes)?;
-    Ok((payload, keys))
+impl Table<MemDisk> {
+    ghost use Rattle.sn_disk.specs.MemDisk.{HasStopSet};
+    ghost use Rattle.sn_table.specs.Tables.{IsOpen, table_disk, table_owner, table_rows};
+
+    /// Sets whether and when its disk is to stop. Bytes, record, batches and rows stay as they are.
+    pub fn set_stop(&mut self, stop: Stop)
+        ensures set { HasStopSet stop (table_disk self.old) (table_disk self.new) }
+        ensures owner { table_owner self.new ≡ table_owner self.old }
+        ensures rows { table_rows self.new ≡ table_rows self.old }
+        ensures stays { (batches : List (List Change)) → IsOpen self.old batches → IsOpen self.new batches }
+    {
+        self.log.set_stop(stop);
+    }
 }

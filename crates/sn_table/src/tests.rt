@@ -44,7 +44,7 @@ fn changed(alloc: Global, disk: MemDisk, change: Change) -> Result<(MemDisk, boo
 // How many batches a disk has.
 fn batches(alloc: Global, disk: MemDisk) -> Result<usize, Fail> {
     match sn_journal::load(alloc, disk, Owner::Device) {
-        Ok((_, payloads)) => Ok(payloads.len()),
+        Ok((journal, _batches)) => Ok(journal.count() as usize),
         Err((_, error)) => Err(error.into()),
     }
 }

@@ -30,9 +30,11 @@ returns-in_ok-answer-in-SignIn c =
     let T : Bytes → Type 0 = λ i. SignsIn (state_rows c.args.state.now) c.requires.sound.store i c.in-SignIn.pw c.in_ok-answer-in-SignIn.answer in
     let A : Answer → Type 0 = λ a. SignsIn (state_rows c.args.state.now) c.requires.sound.store c.in-SignIn.identifier c.in-SignIn.pw a in
     rule_at (state_rows c.args.state.now) c.requires.sound.store c.args.request.now (request.SignIn c.in-SignIn.identifier c.in-SignIn.pw) c.args.now
-    c.unchanged-in-SignIn.result.changes c.unchanged-in-SignIn.result.answer c.requires.sound.stands c.in-SignIn.is
-    (c.unchanged-in-SignIn.ensures.changes, subst A (sym c.unchanged-in-SignIn.ensures.answer)
-    (subst T c.as_str-in-SignIn.ensures (c.in_ok-answer-in-SignIn.ensures c.requires.sound.store c.requires.sound.stands)))
+    c.unchanged-in-SignIn.result.changes c.unchanged-in-SignIn.result.answer c.requires.sound.stands c.in-SignIn.is (
+      c.unchanged-in-SignIn.ensures.changes,
+      subst A (sym c.unchanged-in-SignIn.ensures.answer)
+          (subst T c.as_str-in-SignIn.ensures (c.in_ok-answer-in-SignIn.ensures c.requires.sound.store c.requires.sound.stands)),
+    )
 
 pub returns-in-ChangePw : goal.returns-in-ChangePw
 returns-in-ChangePw c =

@@ -30,4 +30,3 @@ items-preserved c = λ store last.
     (takes_effect c.args.present.now c.args.now c.args.number (progress (state_rows c.args.state.now) c.items.taken)
     (progress (state_rows c.args.state.now) c.add.new.taken) c.item-item.result c.in_ok-effect.effect c.in_ok-effect.ensures.effect
     c.in_default.not-PastLast (c.in_ok-add.ensures (state_rows c.args.state.now)))
-

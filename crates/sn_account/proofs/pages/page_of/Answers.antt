@@ -38,11 +38,14 @@ stamps-preserved c =
     let room = in_room (state_rows c.args.state.now) c.args.limit c.args.candidates.now.by_stamp.entries
     ((c.in-Some.stamp.now, c.in-Some.uuid.now) ∷ c.next.new.self) c.stamps.items c.stamps.last c.stamps.bytes c.len.result c.weight.result p
     c.len.ensures c.weight.ensures.bound (not_holds c.is_full.result c.is_full.ensures c.if-is_full.false) in
-    let stamp : c.in-Some-item.row.now.updated ≡ c.in-Some.stamp.now = sym (ap (λ (r : ItemRow). r.updated) row.1) ∙ there.2 in
-    (tt, tt, in_more (state_rows c.args.state.now) c.args.limit c.args.candidates.now.by_stamp.entries c.next.new.self
-    (c.in-Some.stamp.now, c.in-Some.uuid.now) c.in-Some-item.row.now c.stamps.items c.push.new.self c.in_ok-given.field-0 c.stamps.last c.stamps.bytes
-    (c.stamps.bytes + c.weight.result) p row.0 stamp c.in_ok-given.ensures c.in_ok-push.ensures.ok (ap (λ (n : ℕ). c.stamps.bytes + n) c.weight.ensures.is)
-    room.0 room.1)
+    let stamp : c.in-Some-item.row.now.updated ≡ c.in-Some.stamp.now = sym (ap (λ (r : ItemRow). r.updated) row.1) ∙ there.2 in (
+      tt,
+      tt,
+      in_more (state_rows c.args.state.now) c.args.limit c.args.candidates.now.by_stamp.entries c.next.new.self
+          (c.in-Some.stamp.now, c.in-Some.uuid.now) c.in-Some-item.row.now c.stamps.items c.push.new.self c.in_ok-given.field-0 c.stamps.last c.stamps.bytes
+          (c.stamps.bytes + c.weight.result) p row.0 stamp c.in_ok-given.ensures c.in_ok-push.ensures.ok (ap (λ (n : ℕ). c.stamps.bytes + n) c.weight.ensures.is)
+          room.0 room.1,
+    )
 
 pub returns : goal.returns
 returns c = λ n above first are.

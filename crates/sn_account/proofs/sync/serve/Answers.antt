@@ -14,9 +14,16 @@ returns-in_default c = λ store has.
     let same : c.store_of-store.result.now ≡ store = same_store (state_rows c.args.state.now) c.store_of-store.result.now store c.store_of-store.ensures has in
     let last : store.last ≡ c.store_of-store.result.now.last = ap (λ (s : StoreRow). s.last) (sym same) in
     let runs = rw c.in_default.is at (c.in_ok-taken.ensures.none store last) in
+<<<<<<< HEAD
     let refuses : Refuses 409 (codes "stamps-used") (more.Number store.last) c.unchanged.result.changes c.unchanged.result.answer =
     (c.unchanged.ensures.changes,
     c.unchanged.ensures.answer ∙ c.refused.ensures ∙ ap (λ (s : StoreRow). answer.Refused 409 (codes "stamps-used") (more.Number s.last)) same) in
+=======
+    let refuses : Refuses 409 (codes "stamps-used") (more.Number store.last) c.unchanged.result.changes c.unchanged.result.answer = (
+      c.unchanged.ensures.changes,
+      c.unchanged.ensures.answer ∙ c.in_ok-answer.ensures ∙ ap (λ (s : StoreRow). answer.Refused 409 (codes "stamps-used") (more.Number s.last)) same,
+    ) in
+>>>>>>> 38dc2d1d5196768c2c205f48aa4751fbca39f605
     (c.in_ok-present.present, c.in_ok-present.ensures, inl (runs, refuses))
 
 pub returns : goal.returns

@@ -1,7 +1,5 @@
-use Rattle.std.proofs.Common.{◌≡◌, ◌<◌, List, ℕ, ◌++◌, codes, length, sym, ap, subst, arith}
-use Rattle.std.specs.List.{flat_map}
-use Rattle.sn_http.specs.Lines.{line}
-use Rattle.sn_http.specs.Answers.{allowed, Passes}
+use Rattle.std.proofs.Common.{◌<◌, List, ℕ, ◌++◌, codes, length, sym, ap, subst, arith}
+use Rattle.sn_http.specs.Answers.{Passes}
 use Rattle.sn_http.proofs.Writing.{on_err, part_as, part_more, pass_part, pass_two, allowed_line}
 use Rattle.sn_http.proofs.answer.put_allow.Goals as goal
 
@@ -45,7 +43,7 @@ returns-in_err-put-3-clause-err g c =
     let third = g.K.Sink.held c.put-3.new.sink in
     on_err _ c.from_residual-in_err-put-3.result (part_as before third _ _ is
     (pass_part before first third old c.put.new.block name (allow ++ end) c.in_ok-put.ensures.ok
-        (pass_part first second third c.put.new.block c.put-2.new.block allow end c.in_ok-put-2.ensures.ok c.in_err-put-3.ensures.err)))
+    (pass_part first second third c.put.new.block c.put-2.new.block allow end c.in_ok-put-2.ensures.ok c.in_err-put-3.ensures.err)))
 
 pub returns-clause-ok : goal.returns-clause-ok
 returns-clause-ok g c =
@@ -60,4 +58,4 @@ returns-clause-ok g c =
     let third = g.K.Sink.held c.put-3.new.sink in
     subst (λ (l : List ℕ). Passes before third old c.put-3.new.block l) (sym (allowed_line allow some))
     (pass_two before first third old c.put.new.block c.put-3.new.block name (allow ++ end) c.in_ok-put.ensures.ok
-        (pass_two first second third c.put.new.block c.put-2.new.block c.put-3.new.block allow end c.in_ok-put-2.ensures.ok c.in_ok-put-3.ensures.ok))
+    (pass_two first second third c.put.new.block c.put-2.new.block c.put-3.new.block allow end c.in_ok-put-2.ensures.ok c.in_ok-put-3.ensures.ok))

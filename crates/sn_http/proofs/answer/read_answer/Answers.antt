@@ -1,4 +1,4 @@
-use Rattle.std.proofs.Common.{◌≡◌, ◌-◌, List, ℕ, take, drop, length, subst, sym, arith, length-drop}
+use Rattle.std.proofs.Common.{◌-◌, List, ℕ, drop, length, subst, sym, arith, length-drop}
 use Rattle.std.proofs.lemmas.List.{take_all}
 use Rattle.sn_http.specs.Answers.{IsAnswer}
 use Rattle.sn_http.specs.AnswerHeads.{IsAnswerHeadAt, HasNoAnswerHead}

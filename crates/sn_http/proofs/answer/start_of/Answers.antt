@@ -1,4 +1,4 @@
-use Rattle.std.proofs.Common.{◌≡◌, List, ℕ, ◌++◌, [], codes, decimal, sym, ap, ◌∙◌, append-nil}
+use Rattle.std.proofs.Common.{List, ℕ, ◌++◌, codes, decimal, sym, ap, ◌∙◌, append-nil}
 use Rattle.sn_http.specs.Lines.{line}
 use Rattle.sn_http.specs.Answers.{status_line}
 use Rattle.sn_http.proofs.Writing.{pushed}

@@ -1,5 +1,4 @@
-use Rattle.std.proofs.Common.{◌≡◌, List, ℕ, ◌++◌, [], codes, decimal, ap, ◌∙◌}
-use Rattle.sn_http.specs.Answers.{phrase}
+use Rattle.std.proofs.Common.{List, ℕ, ◌++◌, codes, decimal, ap, ◌∙◌}
 use Rattle.sn_http.proofs.Writing.{pushed}
 use Rattle.sn_http.proofs.answer.status_line.Goals as goal
 

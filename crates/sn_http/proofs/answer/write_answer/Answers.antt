@@ -1,4 +1,4 @@
-use Rattle.std.proofs.Common.{◌≡◌, List, ℕ, ◌++◌, length, refl, ap, subst, ◌∙◌}
+use Rattle.std.proofs.Common.{List, ℕ, ◌++◌, refl, ap, subst, ◌∙◌}
 use Rattle.std.specs.List.{flat_map}
 use Rattle.std.specs.Io.KnownBytes.{Appends}
 use Rattle.sn_http.specs.Lines.{line}
@@ -31,7 +31,7 @@ returns-in_err-put-clause-err g c =
     let second = g.K.Sink.held c.put.new.sink in
     on_err _ c.from_residual-in_err-put.result (part_as before second _ _ is
     (pass_part before first second start c.put_allow.new.block line_of (piece ++ body) c.in_ok-put_allow.ensures.ok
-        (part_more first second c.put_allow.new.block piece body c.in_err-put.ensures.err)))
+    (part_more first second c.put_allow.new.block piece body c.in_err-put.ensures.err)))
 
 pub returns-in_err-send-clause-err : goal.returns-in_err-send-clause-err
 returns-in_err-send-clause-err g c =
@@ -47,7 +47,7 @@ returns-in_err-send-clause-err g c =
     let third = g.K.Sink.held c.send.new.sink in
     on_err _ c.from_residual-in_err-send.result (part_as before third _ _ is
     (pass_part before first third start c.put_allow.new.block line_of (piece ++ body) c.in_ok-put_allow.ensures.ok
-        (pass_part first second third c.put_allow.new.block c.put.new.block piece body c.in_ok-put.ensures.ok c.in_err-send.ensures.err)))
+    (pass_part first second third c.put_allow.new.block c.put.new.block piece body c.in_ok-put.ensures.ok c.in_err-send.ensures.err)))
 
 pub returns-clause-ok : goal.returns-clause-ok
 returns-clause-ok g c =
@@ -63,4 +63,4 @@ returns-clause-ok g c =
     let third = g.K.Sink.held c.send.new.sink in
     subst (λ (l : List ℕ). Appends before third l) is
     (pass_all before first third start c.put_allow.new.block line_of (piece ++ body) c.in_ok-put_allow.ensures.ok
-        (pass_all first second third c.put_allow.new.block c.put.new.block piece body c.in_ok-put.ensures.ok c.in_ok-send.ensures.ok))
+    (pass_all first second third c.put_allow.new.block c.put.new.block piece body c.in_ok-put.ensures.ok c.in_ok-send.ensures.ok))

@@ -1,8 +1,7 @@
-use Rattle.std.proofs.Common.{◌≡◌, ◌≤◌, take, length, refl, sym, ◌∙◌, ap, subst, arith, length-append}
-use Rattle.std.proofs.lemmas.Bool.{eqb-true}
+use Rattle.std.proofs.Common.{◌≤◌, length, refl, sym, ◌∙◌, ap, subst, arith, length-append}
 use Rattle.std.proofs.KnownBytes.{Keeps-refl, Keeps-trans}
 use Rattle.sn_http.specs.Heads.{HasNoHead, NeverHasHead}
-use Rattle.sn_http.proofs.Finding.{no_less, blank_front, blank_on, not_full, positive, headless_over, none_in_nothing, front_length, seen_in_front, longer, none_in_front, never_behind, headless, headless_at_end, front_whole, seen_on}
+use Rattle.sn_http.proofs.Finding.{no_less, blank_front, blank_on, not_full, positive, headless_over, none_in_nothing, front_length, seen_in_front, longer, none_in_front, never_behind, headless, front_whole, seen_on}
 use Rattle.sn_http.proofs.message.read_head.Goals as goal
 
 pub reads-init : goal.reads-init

@@ -1,4 +1,4 @@
-use Rattle.std.proofs.Common.{ℕ, List, take, arith}
+use Rattle.std.proofs.Common.{arith}
 use Rattle.sn_http.proofs.Taking.{message_map, head_whole, takes_kept, check_kept, stays_kept}
 use Rattle.sn_http.proofs.message.read_message.Goals as goal
 

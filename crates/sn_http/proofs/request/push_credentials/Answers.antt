@@ -1,4 +1,4 @@
-use Rattle.std.proofs.Common.{◌≡◌, ◌<◌, List, ℕ, ◌++◌, codes, length, sym, ap, ◌∙◌, arith}
+use Rattle.std.proofs.Common.{◌<◌, List, ℕ, ◌++◌, codes, length, sym, ap, ◌∙◌, arith}
 use Rattle.sn_http.proofs.Writing.{pushed, credentials_line}
 use Rattle.sn_http.proofs.request.push_credentials.Goals as goal
 

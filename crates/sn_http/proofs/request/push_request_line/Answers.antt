@@ -1,4 +1,4 @@
-use Rattle.std.proofs.Common.{◌≡◌, List, ℕ, ◌++◌, codes, ap, ◌∙◌}
+use Rattle.std.proofs.Common.{List, ℕ, ◌++◌, codes, ap, ◌∙◌}
 use Rattle.sn_http.proofs.Writing.{pushed}
 use Rattle.sn_http.proofs.request.push_request_line.Goals as goal
 

@@ -1,21 +1,7 @@
-use Rattle.std.proofs.Common.{⊎_elim}
-use Rattle.sn_disk.specs.Moments.{weaker}
-use Rattle.sn_table.specs.Batches.{IsStore, IsAllOrNothing}
-use Rattle.sn_table.proofs.TableLemmas.{same_store, same_either, same_loaded, either_loaded}
 use Rattle.sn_table.proofs.loading.load.Goals as goal
 
-pub returns-clause-same : goal.returns-clause-same
-returns-clause-same g c = λ told batches images.
-    let file = g.D.Disk.seen c.args.disk in
-    let store : IsStore c.args.owner file batches = images file (g.met.D.Disk.seen_may_stay told c.args.disk) in (
-      same_loaded c.args.owner file batches c.open_table.result (c.open_table.ensures.loaded told) store,
-      weaker g.D.Disk.moment g.D.Disk.left_since c.args.disk _ _ _ (c.open_table.ensures.any_moment told) (λ f left. ⊎_elim (images f) (same_store c.args.owner file f batches store) left),
-    )
+pub returns-in-Ok-clause-same : goal.returns-in-Ok-clause-same
+returns-in-Ok-clause-same g c = λ told batches images. rw (c.opened.ensures.log, c.opened.ensures.rows) (c.in-Ok.ensures.same told batches images)
 
-pub returns-clause-either : goal.returns-clause-either
-returns-clause-either g c = λ told batches changes images.
-    let file = g.D.Disk.seen c.args.disk in
-    let store : IsAllOrNothing c.args.owner batches changes file = images file (g.met.D.Disk.seen_may_stay told c.args.disk) in (
-      either_loaded c.args.owner file batches changes c.open_table.result (c.open_table.ensures.loaded told) store,
-      weaker g.D.Disk.moment g.D.Disk.left_since c.args.disk _ _ _ (c.open_table.ensures.any_moment told) (λ f left. ⊎_elim (images f) (same_either c.args.owner file f batches changes store) left),
-    )
+pub returns-in-Ok-clause-either : goal.returns-in-Ok-clause-either
+returns-in-Ok-clause-either g c = λ told batches changes images. rw (c.opened.ensures.log, c.opened.ensures.rows) (c.in-Ok.ensures.either told batches changes images)

@@ -1,10 +1,10 @@
-use Rattle.std.proofs.Common.{◌≡◌, ◌<◌, ◌^◌, length, take}
-use Rattle.sn_journal.specs.Image.{contents, front}
-use Rattle.sn_table.specs.Reading.{AreRead}
+use Rattle.std.proofs.Common.{length}
+use Rattle.sn_row_map.specs.RowMaps.{IsTidy}
+use Rattle.sn_table.specs.Reading.{AreTaken}
 use Rattle.sn_table.proofs.reading.rows_of.Given as goal
 
 abbrev pub invariant-payloads : goal.invariant-payloads
-invariant-payloads l = record {
-  read : AreRead l.owner (contents (take l.payload-index l.payloads)) l.rows;
-  gate : length (front l.owner (contents l.payloads)) < 2 ^ 64 → l.gate ≡ length (front l.owner (contents (take l.payload-index l.payloads)));
-}
+invariant-payloads l = record { taken : AreTaken l.owner l.batches l.payloads l.rows l.gate; tidy : IsTidy l.rows }
+
+abbrev pub decreases-payloads : goal.decreases-payloads
+decreases-payloads l = length l.payloads
