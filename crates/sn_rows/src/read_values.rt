@@ -93,7 +93,7 @@ fn item_of<'a>(alloc: Global, at: At<'a>) -> Result<(Value, At<'a>), RowError>
     let row = ItemRow::packed(
         alloc, account, kind, created, updated, deleted, content, enc,
     )?;
-    Ok((Value::Item(Boxed::of(alloc, row)?), at))
+    Ok((Value::Item(row), at))
 }
 
 fn owner_of<'a>(alloc: Global, at: At<'a>) -> Result<(Value, At<'a>), RowError>

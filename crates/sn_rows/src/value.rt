@@ -16,7 +16,7 @@ pub enum Value {
     Store(StoreRow),
     Account(Boxed<AccountRow>),
     Generation(GenerationRow),
-    Item(Boxed<ItemRow>),
+    Item(ItemRow),
     Owner(Boxed<OwnerRow>),
     Set(Boxed<SetRow>),
     Local(Boxed<LocalItem>),

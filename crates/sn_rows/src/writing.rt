@@ -210,7 +210,7 @@ fn put_value(out: &mut Vec<u8>, value: &Value) -> Result<(), AllocError>
         Value::Store(row) => put_store(out, row),
         Value::Account(row) => put_account(out, row.get()),
         Value::Generation(row) => put_generation(out, row),
-        Value::Item(row) => put_item(out, row.get()),
+        Value::Item(row) => put_item(out, row),
         Value::Owner(row) => put_owner(out, row.get()),
         Value::Set(row) => put_set(out, row.get()),
         Value::Local(row) => put_local(out, row.get()),
