@@ -223,5 +223,5 @@ fits_row (body.Strings text key) sent kind content enc deleted fits short same k
     )
 
 -- so it can be made
-pub no_row : {A : Type 0} (made : Option ItemRow) → made ≡ None → IsSome made ↔ A → A → ⊥
+pub no_row : {R A : Type 0} (made : Option R) → made ≡ None → IsSome made ↔ A → A → ⊥
 no_row made none when fits = let some : is_some made ≡ true = when.1 fits in let not : is_some made ≡ false = ap is_some none in cc

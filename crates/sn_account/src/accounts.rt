@@ -100,7 +100,10 @@ fn first_account(
 {
     let identifier = params.identifier.twin(alloc)?;
     match AccountRow::new(identifier, 1, check_of(pw)) {
-        Some(row) => Ok(put_account(number, row)),
+        Some(row) => {
+            let change = put_account(alloc, number, row)?;
+            Ok(change)
+        }
         None => unreachable!(),
     }
 }

@@ -1,10 +1,12 @@
 //! Changes that put one row.
 
+ghost use Rattle.std.specs.Prelude.{IfOk};
 ghost use Rattle.sn_rows.specs.declared.key.Key.TheVariants as key;
 ghost use Rattle.sn_rows.specs.declared.value.Value.TheVariants as value;
 ghost use Rattle.sn_rows.specs.Table.{Puts};
 
-use sn_rows::{AccountRow, Change, GenerationRow, ItemRow, Key, Row, StoreRow, Value};
+use sn_rows::{AccountRow, Boxed, Change, GenerationRow, ItemRow, Key, Row, StoreRow, Value};
+use std::alloc::{AllocError, Global};
 use uuid::Uuid;
 
 pub(crate) fn put_store(row: StoreRow) -> Change
@@ -16,13 +18,18 @@ pub(crate) fn put_store(row: StoreRow) -> Change
     })
 }
 
-pub(crate) fn put_account(number: u64, row: AccountRow) -> Change
-    ensures { Puts result (key.Account number) (value.Account row) }
+pub(crate) fn put_account(
+    alloc: Global,
+    number: u64,
+    row: AccountRow,
+) -> Result<Change, AllocError>
+    ensures { IfOk result (λ change. Puts change (key.Account number) (value.Account row)) }
 {
-    Change::Put(Row {
+    let value = Value::Account(Boxed::of(alloc, row)?);
+    Ok(Change::Put(Row {
         key: Key::Account(number),
-        value: Value::Account(row),
-    })
+        value,
+    }))
 }
 
 pub(crate) fn put_generation(number: u64, generation: u64, row: GenerationRow) -> Change

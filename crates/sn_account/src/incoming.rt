@@ -21,7 +21,7 @@ use crate::taken::{Effect, Taken};
 use crate::taking::{add, none_taken, stored};
 use sn_rows::ItemRow;
 use sn_rows::server_rows::LAST_STAMP;
-use sn_string::{Params, StringError, Text, Twin, read, uuid_of};
+use sn_string::{Params, StringError, read, uuid_of};
 use sn_sync::{Body, Conflict, Item};
 use std::alloc::{AllocError, Global};
 use uuid::Uuid;
@@ -100,7 +100,7 @@ fn effect_on(
         → IfOk result (IsEffect present.now now number p item.now) }
     ensures bounded { IfOk result IsBounded }
 {
-    if row.account != number {
+    if row.account() != number {
         let unsaved = copy_of(alloc, item)?;
         return Ok(Effect::Unsaved(Conflict::Uuid { unsaved }));
     }
@@ -112,7 +112,7 @@ fn effect_on(
         let server = given(alloc, item.uuid, row)?;
         return Ok(Effect::Other(server, weight(row)));
     }
-    effect_of_news(alloc, Some(row.created), number, present, stamp, item)
+    effect_of_news(alloc, Some(row.created()), number, present, stamp, item)
 }
 
 // What becomes of a new item, or of another version than the stored one, which was first accepted at this stamp.
@@ -175,11 +175,14 @@ fn accepted_row(
     requires stamp { stamp ≤ last_stamp }
     ensures { IfOk result (IsAcceptedRow number created stamp item.now) }
 {
-    let kind = item.kind.twin(alloc)?;
+    let kind = item.kind.as_str();
     let deleted = is_deleted(&item.body);
-    let content = content_of(alloc, &item.body)?;
-    let enc = enc_of(alloc, &item.body)?;
-    match ItemRow::new(number, kind, created, stamp, deleted, content, enc) {
+    let content = content_of(&item.body);
+    let enc = enc_of(&item.body);
+    let found = ItemRow::new(
+        alloc, number, kind, created, stamp, deleted, content, enc,
+    )?;
+    match found {
         Some(row) => Ok(row),
         None => unreachable!(),
     }
@@ -195,22 +198,22 @@ fn is_deleted(body: &Body) -> bool
 }
 
 // The content of a body, empty where it is deleted.
-fn content_of(alloc: Global, body: &Body) -> Result<Text, AllocError>
-    ensures { IfOk result (λ text. text ≡ content_in body.now) }
+fn content_of(body: &Body) -> &str
+    ensures { result.now ≡ content_in body.now }
 {
     match body {
-        Body::Deleted => Text::of(alloc, ""),
-        Body::Strings { content, enc: _ } => content.twin(alloc),
+        Body::Deleted => "",
+        Body::Strings { content, enc: _ } => content.as_str(),
     }
 }
 
 // The item key of a body, empty where it is deleted.
-fn enc_of(alloc: Global, body: &Body) -> Result<Text, AllocError>
-    ensures { IfOk result (λ text. text ≡ enc_in body.now) }
+fn enc_of(body: &Body) -> &str
+    ensures { result.now ≡ enc_in body.now }
 {
     match body {
-        Body::Deleted => Text::of(alloc, ""),
-        Body::Strings { content: _, enc } => enc.twin(alloc),
+        Body::Deleted => "",
+        Body::Strings { content: _, enc } => enc.as_str(),
     }
 }
 

@@ -34,7 +34,7 @@ impl State {
         ensures none { IfNone result ((row : AccountRow) → ¬ (HasAccount (state_rows self.now) number row)) }
     {
         match self.get(&Key::Account(number)) {
-            Some(Value::Account(row)) => Some(row),
+            Some(Value::Account(row)) => Some(row.get()),
             _ => None,
         }
     }

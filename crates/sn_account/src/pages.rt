@@ -88,14 +88,14 @@ fn note(
 ) -> Result<(), AllocError>
     ensures { OnOk result (Notes number above first candidates.old uuid row.now candidates.new) }
 {
-    if row.account != number {
+    if row.account() != number {
         return Ok(());
     }
-    candidates.greatest = candidates.greatest.max(row.updated);
-    if row.updated <= above || (first && row.deleted) {
+    candidates.greatest = candidates.greatest.max(row.updated());
+    if row.updated() <= above || (first && row.is_deleted()) {
         return Ok(());
     }
-    match candidates.by_stamp.insert(row.updated, uuid) {
+    match candidates.by_stamp.insert(row.updated(), uuid) {
         Ok(_) => Ok(()),
         Err(_) => Err(AllocError),
     }

@@ -180,7 +180,7 @@ fn is_behind(
     ensures { IfOk result (λ behind. IsTrue behind
         ↔ ((item.now.account ≡ number) × (item.now.deleted ≡ false) × ¬ (Carries item.now present.now))) }
 {
-    if item.account != number || item.deleted {
+    if item.account() != number || item.is_deleted() {
         return Ok(false);
     }
     let carried = carries(alloc, item, present)?;
@@ -191,10 +191,10 @@ fn is_behind(
 fn carries(alloc: Global, item: &ItemRow, params: &Params) -> Result<bool, AllocError>
     ensures { IfOk result (λ carried. IsTrue carried ↔ Carries item.now params.now) }
 {
-    if !carries_text(alloc, item.content.as_str(), params)? {
+    if !carries_text(alloc, item.content(), params)? {
         return Ok(false);
     }
-    carries_text(alloc, item.enc.as_str(), params)
+    carries_text(alloc, item.enc(), params)
 }
 
 // Whether a text is a 003 string with these parameters.
@@ -268,11 +268,12 @@ fn replace_keys(
     };
     let generation = account.generation + 1;
     let account_row = next_account(alloc, account, generation, pw)?;
+    let account_change = put_account(alloc, number, account_row)?;
     let generation_row = next_generation(alloc, cost, nonce)?;
     let token = session_token(alloc, &store.secret, number, generation)?;
     let identifier = account.identifier.twin(alloc)?;
     let mut changes = Many::new(alloc);
-    changes.push(put_account(number, account_row))?;
+    changes.push(account_change)?;
     changes.push(put_generation(number, generation, generation_row))?;
     let uuid = account_uuid(number);
     let answer = Answer::Account {

@@ -17,12 +17,12 @@ pub(crate) fn is_same(row: &ItemRow, item: &Item) -> bool
     ensures { IsTrue result ↔ SameVersion row.now item.now }
 {
     match &item.body {
-        Body::Deleted => row.deleted,
+        Body::Deleted => row.is_deleted(),
         Body::Strings { content, enc } => {
-            !row.deleted
-                && row.kind.same(&item.kind)
-                && row.content.same(content)
-                && row.enc.same(enc)
+            !row.is_deleted()
+                && row.kind() == item.kind.as_str()
+                && row.content() == content.as_str()
+                && row.enc() == enc.as_str()
         }
     }
 }
@@ -35,7 +35,7 @@ pub(crate) fn names(item: &Item, row: &ItemRow) -> bool
         return false;
     };
     match Stamp::read(text.as_str()) {
-        Ok(stamp) => stamp == row.updated,
+        Ok(stamp) => stamp == row.updated(),
         Err(_) => false,
     }
 }
@@ -45,20 +45,20 @@ pub(crate) fn weight(row: &ItemRow) -> u64
     ensures is { result ≡ weight row.now }
     ensures bound { result ≤ most_weight }
 {
-    row.content.len() as u64 + row.enc.len() as u64
+    row.content().len() as u64 + row.enc().len() as u64
 }
 
 /// A stored item as an answer gives it.
 pub(crate) fn given(alloc: Global, uuid: Uuid, row: &ItemRow) -> Result<Item, AllocError>
     ensures { IfOk result (IsGiven uuid row.now) }
 {
-    let kind = row.kind.twin(alloc)?;
-    let stamp = Stamp::text(alloc, row.updated)?;
+    let kind = Text::of(alloc, row.kind())?;
+    let stamp = Stamp::text(alloc, row.updated())?;
     let body = body_of(alloc, row)?;
     Ok(Item {
         uuid,
         kind,
-        created: Some(row.created),
+        created: Some(row.created()),
         updated_at: Some(Text::of_string(stamp)),
         body,
     })
@@ -67,11 +67,11 @@ pub(crate) fn given(alloc: Global, uuid: Uuid, row: &ItemRow) -> Result<Item, Al
 fn body_of(alloc: Global, row: &ItemRow) -> Result<Body, AllocError>
     ensures { IfOk result (λ body. body ≡ body_of row.now) }
 {
-    if row.deleted {
+    if row.is_deleted() {
         return Ok(Body::Deleted);
     }
-    let content = row.content.twin(alloc)?;
-    let enc = row.enc.twin(alloc)?;
+    let content = Text::of(alloc, row.content())?;
+    let enc = Text::of(alloc, row.enc())?;
     Ok(Body::Strings { content, enc })
 }
 

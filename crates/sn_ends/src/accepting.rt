@@ -105,10 +105,11 @@ pub(crate) fn accept_one(
     let Some(RowBody::Sealed(strings)) = sent_of(item) else {
         unreachable!();
     };
-    let kind = item.kind.twin(alloc)?;
-    let content = strings.content.twin(alloc)?;
-    let enc = strings.enc.twin(alloc)?;
-    match ItemRow::new(account, kind, stamp, stamp, false, content, enc) {
+    let kind = item.kind.as_str();
+    let content = strings.content.as_str();
+    let enc = strings.enc.as_str();
+    let found = ItemRow::new(alloc, account, kind, stamp, stamp, false, content, enc)?;
+    match found {
         Some(row) => Ok(put_item(item.uuid, row)),
         None => unreachable!(),
     }

@@ -1,14 +1,16 @@
 //! Changes that put one row.
 
+ghost use Rattle.std.specs.Prelude.{IfOk};
 ghost use Rattle.sn_rows.specs.declared.key.Key.TheVariants as key;
 ghost use Rattle.sn_rows.specs.declared.key.Slot.TheVariants.{Present};
 ghost use Rattle.sn_rows.specs.declared.value.Value.TheVariants as value;
 ghost use Rattle.sn_rows.specs.Table.{Puts};
 
 use sn_rows::{
-    AccountRow, Change, GenerationRow, ItemRow, Key, LocalItem, OwnerRow, Row, SetRow, Slot,
+    AccountRow, Boxed, Change, GenerationRow, ItemRow, Key, LocalItem, OwnerRow, Row, SetRow, Slot,
     StoreRow, Value,
 };
+use std::alloc::{AllocError, Global};
 use uuid::Uuid;
 
 pub(crate) fn put_store(row: StoreRow) -> Change
@@ -20,13 +22,18 @@ pub(crate) fn put_store(row: StoreRow) -> Change
     })
 }
 
-pub(crate) fn put_account(number: u64, row: AccountRow) -> Change
-    ensures { Puts result (key.Account number) (value.Account row) }
+pub(crate) fn put_account(
+    alloc: Global,
+    number: u64,
+    row: AccountRow,
+) -> Result<Change, AllocError>
+    ensures { IfOk result (λ change. Puts change (key.Account number) (value.Account row)) }
 {
-    Change::Put(Row {
+    let value = Value::Account(Boxed::of(alloc, row)?);
+    Ok(Change::Put(Row {
         key: Key::Account(number),
-        value: Value::Account(row),
-    })
+        value,
+    }))
 }
 
 pub(crate) fn put_generation(number: u64, generation: u64, row: GenerationRow) -> Change
@@ -47,29 +54,36 @@ pub(crate) fn put_item(uuid: Uuid, row: ItemRow) -> Change
     })
 }
 
-pub(crate) fn put_owner(row: OwnerRow) -> Change
-    ensures { Puts result key.Owner (value.Owner row) }
+pub(crate) fn put_owner(alloc: Global, row: OwnerRow) -> Result<Change, AllocError>
+    ensures { IfOk result (λ change. Puts change key.Owner (value.Owner row)) }
 {
-    Change::Put(Row {
+    let value = Value::Owner(Boxed::of(alloc, row)?);
+    Ok(Change::Put(Row {
         key: Key::Owner,
-        value: Value::Owner(row),
-    })
+        value,
+    }))
 }
 
-pub(crate) fn put_present(row: SetRow) -> Change
-    ensures { Puts result (key.Set Present) (value.Set row) }
+pub(crate) fn put_present(alloc: Global, row: SetRow) -> Result<Change, AllocError>
+    ensures { IfOk result (λ change. Puts change (key.Set Present) (value.Set row)) }
 {
-    Change::Put(Row {
+    let value = Value::Set(Boxed::of(alloc, row)?);
+    Ok(Change::Put(Row {
         key: Key::Set(Slot::Present),
-        value: Value::Set(row),
-    })
+        value,
+    }))
 }
 
-pub(crate) fn put_local(number: u64, row: LocalItem) -> Change
-    ensures { Puts result (key.Local number) (value.Local row) }
+pub(crate) fn put_local(
+    alloc: Global,
+    number: u64,
+    row: LocalItem,
+) -> Result<Change, AllocError>
+    ensures { IfOk result (λ change. Puts change (key.Local number) (value.Local row)) }
 {
-    Change::Put(Row {
+    let value = Value::Local(Boxed::of(alloc, row)?);
+    Ok(Change::Put(Row {
         key: Key::Local(number),
-        value: Value::Local(row),
-    })
+        value,
+    }))
 }

@@ -42,7 +42,7 @@ impl PlainDevice {
         ensures { option_copied result ≡ owner_in (rows_of_batches self.now.store key.Owner) }
     {
         match self.store.get(&Key::Owner) {
-            Some(Value::Owner(owner)) => Some(owner),
+            Some(Value::Owner(owner)) => Some(owner.get()),
             _ => None,
         }
     }
@@ -52,7 +52,7 @@ impl PlainDevice {
         ensures { option_copied result ≡ set_in (rows_of_batches self.now.store (key.Set Present)) }
     {
         match self.store.get(&Key::Set(Slot::Present)) {
-            Some(Value::Set(set)) => Some(set),
+            Some(Value::Set(set)) => Some(set.get()),
             _ => None,
         }
     }
@@ -62,7 +62,7 @@ impl PlainDevice {
         ensures { option_copied result ≡ local_in (rows_of_batches self.now.store (key.Local number)) }
     {
         match self.store.get(&Key::Local(number)) {
-            Some(Value::Local(item)) => Some(item),
+            Some(Value::Local(item)) => Some(item.get()),
             _ => None,
         }
     }

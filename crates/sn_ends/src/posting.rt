@@ -68,5 +68,6 @@ fn posted_change(alloc: Global, number: u64, item: &LocalItem) -> Result<Change,
 {
     let mut sent = item.twin(alloc)?;
     sent.posted = item.latest.twin(alloc)?;
-    Ok(put_local(number, sent))
+    let change = put_local(alloc, number, sent)?;
+    Ok(change)
 }

@@ -63,9 +63,10 @@ pub(crate) fn put_changes(
     let set = key_set(alloc, owner, keys)?;
     let strings = sealed_strings(alloc, words, uuid, &set, text)?;
     let item = new_item(alloc, uuid, strings)?;
+    let row = put_local(alloc, owner.next, item)?;
     let next = with_next(alloc, owner, owner.next + 1)?;
     let mut changes = Many::new(alloc);
-    changes.push(put_local(owner.next, item))?;
+    changes.push(row)?;
     changes.push(next)?;
     Ok(changes)
 }
@@ -88,5 +89,6 @@ pub(crate) fn with_next(alloc: Global, owner: &OwnerRow, next: u64) -> Result<Ch
 {
     let mut row = owner.twin(alloc)?;
     row.next = next;
-    Ok(put_owner(row))
+    let change = put_owner(alloc, row)?;
+    Ok(change)
 }

@@ -35,8 +35,8 @@ pub(crate) fn first_changes(
 ) -> Result<Many<Change>, AllocError>
     ensures { IfOk result (IsFirstRows set.now) }
 {
-    let owner = put_owner(first_owner(alloc, account, set)?);
-    let present = put_present(first_set(alloc, set)?);
+    let owner = put_owner(alloc, first_owner(alloc, account, set)?)?;
+    let present = put_present(alloc, first_set(alloc, set)?)?;
     let mut changes = Many::new(alloc);
     changes.push(owner)?;
     changes.push(present)?;

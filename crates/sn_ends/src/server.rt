@@ -150,7 +150,7 @@ pub(crate) fn account_changes(
     let identifier = set.params.identifier.twin(alloc)?;
     let check = check_of(&set.pw);
     let nonce = set.params.pw_nonce.twin(alloc)?;
-    let account = match AccountRow::new(identifier, 1, check) {
+    let account_row = match AccountRow::new(identifier, 1, check) {
         Some(row) => row,
         None => unreachable!(),
     };
@@ -158,8 +158,9 @@ pub(crate) fn account_changes(
         Some(row) => row,
         None => unreachable!(),
     };
+    let account = put_account(alloc, number, account_row)?;
     let mut changes = Many::new(alloc);
-    changes.push(put_account(number, account))?;
+    changes.push(account)?;
     changes.push(put_generation(number, 1, generation))?;
     changes.push(store)?;
     Ok(changes)

@@ -89,7 +89,10 @@ fn settled_change(
     let kind = item.kind.twin(alloc)?;
     let body = sent_copy(alloc, item)?;
     match LocalItem::new(item.uuid, kind, Some(stamp), false, body, None, None) {
-        Some(row) => Ok(put_local(number, row)),
+        Some(row) => {
+            let change = put_local(alloc, number, row)?;
+            Ok(change)
+        }
         None => unreachable!(),
     }
 }

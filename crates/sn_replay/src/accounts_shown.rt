@@ -80,7 +80,7 @@ fn account_row(server: &PlainServer, number: u64) -> Option<&AccountRow>
     ensures { option_copied result ≡ account_in (rows_of_batches server.now.store (key.Account number)) }
 {
     match server.store.get(&Key::Account(number)) {
-        Some(Value::Account(row)) => Some(row),
+        Some(Value::Account(row)) => Some(row.get()),
         _ => None,
     }
 }
@@ -113,8 +113,8 @@ fn add_item(
     let Some(body) = body_of(alloc, row, uuid, sets)? else {
         return Ok(());
     };
-    let line = item_line(alloc, labels, uuid, row.updated, &body)?;
-    add_line(lists, row.account, line)
+    let line = item_line(alloc, labels, uuid, row.updated(), &body)?;
+    add_line(lists, row.account(), line)
 }
 
 // Adds a line to the list of the account of this number; where there is none, to no list.
@@ -139,13 +139,13 @@ fn body_of(
     ensures { (list : List KeySet) (body : Body) → HasSet (get nat_cmp sets.now row.now.account) list
         → ShowsStrings list uuid.now row.now body → IfOk result (λ found. found ≡ Some body) }
 {
-    if row.deleted {
+    if row.is_deleted() {
         return Ok(Some(Body::Gone));
     }
-    let Some(set) = sets.get(&row.account) else {
+    let Some(set) = sets.get(&row.account()) else {
         return Ok(None);
     };
-    match opened(alloc, &row.content, &row.enc, uuid, set)? {
+    match opened(alloc, row.content(), row.enc(), uuid, set)? {
         Some(text) => Ok(Some(Body::Under(text, 1))),
         None => Ok(None),
     }

@@ -98,8 +98,8 @@ fn content_of(
         RowBody::Deleted => Ok(Some(Content::Deleted)),
         RowBody::Sealed(strings) => match opened(
             alloc,
-            &strings.content,
-            &strings.enc,
+            strings.content.as_str(),
+            strings.enc.as_str(),
             uuid,
             set,
         )? {

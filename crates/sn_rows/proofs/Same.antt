@@ -64,7 +64,7 @@ generation_same a b e0 e1 =
     let same : (a.pw_cost, a.pw_nonce) ≡ (b.pw_cost, b.pw_nonce) = cc in
     subst P same (λ g0 g1. λ i. record { pw_cost = a.pw_cost; pw_nonce = a.pw_nonce; cost_fits = p0 a.cost_fits g0 i; nonce_fits = p1 a.nonce_fits g1 i }) b.cost_fits b.nonce_fits
 
-item_same : (a b : ItemRow) → a.account ≡ b.account → a.kind ≡ b.kind → a.created ≡ b.created → a.updated ≡ b.updated → a.deleted ≡ b.deleted → a.content ≡ b.content → a.enc ≡ b.enc → a ≡ b
+pub item_same : (a b : ItemRow) → a.account ≡ b.account → a.kind ≡ b.kind → a.created ≡ b.created → a.updated ≡ b.updated → a.deleted ≡ b.deleted → a.content ≡ b.content → a.enc ≡ b.enc → a ≡ b
 item_same a b e0 e1 e2 e3 e4 e5 e6 =
     let P : (ℕ × List ℕ × ℕ × ℕ × Bool × List ℕ × List ℕ) → Type 0 = λ t. (g0 : IsTrue (is_type_or_empty t.1)) → (g1 : (t.4 ≡ false → 1 ≤ length t.1)) → (g2 : t.2 ≤ last_stamp) → (g3 : t.3 ≤ last_stamp) → (g4 : IsTrue (is_server_string t.5)) → (g5 : IsTrue (is_server_string t.6)) → a ≡ record { account = t.0; kind = t.1; created = t.2; updated = t.3; deleted = t.4; content = t.5; enc = t.6; kind_fits = g0; kind_stands = g1; created_fits = g2; updated_fits = g3; content_fits = g4; enc_fits = g5 } in
     let p0 : IsProp (IsTrue (is_type_or_empty a.kind)) = hlevel props in

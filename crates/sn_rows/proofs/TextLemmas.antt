@@ -1,9 +1,9 @@
 -- The tests of texts, and the facts that they stand for.
-use Rattle.std.proofs.Common.{◌≡◌, ℕ, zero, suc, ◌+◌, ◌^◌, ◌-◌, ◌<◌, ◌≤◌, Bool, true, false, ◌||◌, inl, inr, List, [], ◌∷◌, length, drop, get_or, refl, arith}
-use Rattle.std.specs.Prelude.{nat_le}
-use Rattle.std.specs.Str.{IsUtf8, is_utf8}
+use Rattle.std.proofs.Common.{◌≡◌, ℕ, zero, suc, ◌+◌, ◌^◌, ◌-◌, ◌<◌, ◌≤◌, Bool, true, false, ◌||◌, inl, inr, List, [], ◌∷◌, length, drop, take, get_or, refl, sym, ap, subst, ◌∙◌, length-drop, arith}
+use Rattle.std.specs.Prelude.{nat_le, ◌&&◌, IsTrue}
+use Rattle.std.specs.Str.{IsCharBoundary, IsUtf8, is_utf8}
 use Rattle.std.proofs.lemmas.Bool.{le-leb, leb-true, eq-eqb, cases_Bool, and_parts}
-use Rattle.std.proofs.lemmas.Str.{is_utf8-from_IsUtf8, IsUtf8-from_is_utf8}
+use Rattle.std.proofs.lemmas.Str.{is_utf8-from_IsUtf8, IsUtf8-from_is_utf8, IsCharBoundary-from_take, IsUtf8-drop}
 use Rattle.sn_rows.specs.Bounds.{is_text_of, is_device_string, has_device_lengths, has_colon, is_colon, before_colon, after_colon}
 
 pub within : (t : List ℕ) (least most : ℕ) → IsUtf8 t → least ≤ length t → nat_le (length t) most ≡ is_text_of least most t
@@ -73,3 +73,20 @@ device_short t e =
     let p = and_parts (is_utf8 t) (has_device_lengths t) e in
     let q = and_parts (nat_le (length (before_colon t)) 1048576) (nat_le (length (after_colon t)) 8192) p.1 in
     omega (arith, colon_parts t, leb-true (length (before_colon t)) 1048576 q.0, leb-true (length (after_colon t)) 8192 q.1)
+
+-- a text may be cut behind a part of it that is a text
+pub cut_at : (t u : List ℕ) (i least most : ℕ) → u ≡ t → IsUtf8 u → i ≤ length t → IsTrue (is_text_of least most (take i t)) → IsCharBoundary u i
+cut_at t u i least most e utf8 le fits =
+    let part : is_utf8 (take i t) ≡ true = (and_parts (is_utf8 (take i t)) (nat_le least (length (take i t)) && nat_le (length (take i t)) most) fits).0 in
+    let P : List ℕ → Type 0 = λ x. IsUtf8 x → IsCharBoundary x i in
+    subst P (sym e) (λ v. IsCharBoundary-from_take t i v le (IsUtf8-from_is_utf8 (take i t) part)) utf8
+
+-- and so may what stands behind the first part
+pub cut_behind : (t u : List ℕ) (k : ℕ) (rest : List ℕ) (i : ℕ) → u ≡ t → IsUtf8 u → k + i ≤ length t → rest ≡ drop k u
+    → IsTrue (is_text_of 0 255 (take k t)) → IsTrue (is_text_of 0 1048576 (take i (drop k t))) → IsCharBoundary rest i
+cut_behind t u k rest i e utf8 le back first second =
+    let cut : IsCharBoundary u k = cut_at t u k 0 255 e utf8 (omega (arith, le)) first in
+    let behind : IsUtf8 (drop k u) = IsUtf8-drop u k utf8 cut in
+    let P : List ℕ → Type 0 = λ x. IsUtf8 x in
+    let room : i ≤ length (drop k t) = rw (length-drop k t) (omega (arith, le)) in
+    cut_at (drop k t) rest i 0 1048576 (back ∙ ap (drop k) e) (subst P (sym back) behind) room second

@@ -6,6 +6,7 @@ pub mod Faults
 pub mod Kinds
 pub mod Laws
 pub mod Order
+pub mod Packed
 pub mod Reading
 pub mod Spelling
 pub mod Table

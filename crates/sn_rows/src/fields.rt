@@ -247,10 +247,10 @@ pub(crate) fn device_text_of<'a>(alloc: Global, at: At<'a>) -> Result<(Text, At<
 
 /// The type of an item on the server.
 #[tactic(auto, unfolding(crate::specs::Reading::type_at))]
-pub(crate) fn type_of<'a>(alloc: Global, at: At<'a>) -> Result<(Text, At<'a>), RowError>
-    ensures gives { Gives (λ x. (x.0, spot x.1.place x.1.rest.now)) result (type_at (spot at.entry.place at.entry.rest.now)) }
-    ensures fits { IfOk result (λ x. IsTrue (is_type_or_empty x.0)) }
-    ensures stands { IfOk result (λ x. ((length x.0 == 0) && is_undeleted x.1.rest.now) ≡ false) }
+pub(crate) fn type_of<'a>(at: At<'a>) -> Result<(&'a str, At<'a>), RowError>
+    ensures gives { Gives (λ x. (x.0.now, spot x.1.place x.1.rest.now)) result (type_at (spot at.entry.place at.entry.rest.now)) }
+    ensures fits { IfOk result (λ x. IsTrue (is_type_or_empty x.0.now)) }
+    ensures stands { IfOk result (λ x. ((length x.0.now == 0) && is_undeleted x.1.rest.now) ≡ false) }
 {
     let (count, at) = u32_of(at)?;
     let place = at.place;
@@ -261,7 +261,7 @@ pub(crate) fn type_of<'a>(alloc: Global, at: At<'a>) -> Result<(Text, At<'a>), R
     if bytes.is_empty() && is_undeleted(at.rest) {
         return Err(RowError::Range { place });
     }
-    Ok((Text::of(alloc, text)?, at))
+    Ok((text, at))
 }
 
 // Whether the flag behind two stamps says that the item is not deleted.

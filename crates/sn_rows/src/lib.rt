@@ -3,10 +3,12 @@
 
 mod at;
 pub mod body;
+pub mod boxed;
 pub mod change;
 pub mod device_rows;
 pub mod error;
 mod fields;
+pub mod item_columns;
 pub mod key;
 pub mod kind;
 mod laws;
@@ -18,9 +20,11 @@ pub mod value;
 mod writing;
 
 pub use body::{RowBody, RowStrings};
+pub use boxed::Boxed;
 pub use change::{Change, Row};
 pub use device_rows::{LocalItem, OwnerRow, SetRow};
 pub use error::RowError;
+pub use item_columns::ItemColumns;
 pub use key::{Key, Slot};
 pub use kind::RowKind;
 pub use laws::{

@@ -8,10 +8,11 @@ ghost use Rattle.sn_rows.specs.declared.kind.RowKind.TheVariants as kind;
 ghost use Rattle.sn_rows.specs.declared.value.Value.TheVariants as value;
 
 use crate::at::At;
+use crate::boxed::Boxed;
 use crate::device_rows::{LocalItem, OwnerRow, SetRow};
 use crate::error::RowError;
 use crate::fields::{
-    array_of, base_of, body_of, cost_of, flag_of, stamp_of, text_of, token_of, type_of, u64_of,
+    array_of, base_of, body_of, cost_of, flag_of, stamp_of, str_of, text_of, token_of, type_of, u64_of,
 };
 use crate::kind::RowKind;
 use crate::server_rows::{AccountRow, GenerationRow, ItemRow, StoreRow};
@@ -66,7 +67,7 @@ fn account_of<'a>(alloc: Global, at: At<'a>) -> Result<(Value, At<'a>), RowError
         generation,
         check,
     };
-    Ok((Value::Account(row), at))
+    Ok((Value::Account(Boxed::of(alloc, row)?), at))
 }
 
 fn generation_of<'a>(alloc: Global, at: At<'a>) -> Result<(Value, At<'a>), RowError>
@@ -83,21 +84,15 @@ fn item_of<'a>(alloc: Global, at: At<'a>) -> Result<(Value, At<'a>), RowError>
     ensures kind { IfOk result (λ x. value_kind x.0 ≡ kind.Item) }
 {
     let (account, at) = u64_of(at)?;
-    let (kind, at) = type_of(alloc, at)?;
+    let (kind, at) = type_of(at)?;
     let (created, at) = stamp_of(at)?;
     let (updated, at) = stamp_of(at)?;
     let (deleted, at) = flag_of(at)?;
-    let (content, at) = text_of(alloc, at, 0, 1_048_576)?;
-    let (enc, at) = text_of(alloc, at, 0, 1_048_576)?;
-    let row = ItemRow {
-        account,
-        kind,
-        created,
-        updated,
-        deleted,
-        content,
-        enc,
-    };
+    let (content, at) = str_of(at, 0, 1_048_576)?;
+    let (enc, at) = str_of(at, 0, 1_048_576)?;
+    let row = ItemRow::packed(
+        alloc, account, kind, created, updated, deleted, content, enc,
+    )?;
     Ok((Value::Item(row), at))
 }
 
@@ -119,7 +114,7 @@ fn owner_of<'a>(alloc: Global, at: At<'a>) -> Result<(Value, At<'a>), RowError>
         cursor_token,
         next,
     };
-    Ok((Value::Owner(row), at))
+    Ok((Value::Owner(Boxed::of(alloc, row)?), at))
 }
 
 fn set_of<'a>(alloc: Global, at: At<'a>) -> Result<(Value, At<'a>), RowError>
@@ -138,7 +133,7 @@ fn set_of<'a>(alloc: Global, at: At<'a>) -> Result<(Value, At<'a>), RowError>
         mk,
         ak,
     };
-    Ok((Value::Set(row), at))
+    Ok((Value::Set(Boxed::of(alloc, row)?), at))
 }
 
 fn local_of<'a>(alloc: Global, at: At<'a>) -> Result<(Value, At<'a>), RowError>
@@ -161,5 +156,5 @@ fn local_of<'a>(alloc: Global, at: At<'a>) -> Result<(Value, At<'a>), RowError>
         latest,
         posted,
     };
-    Ok((Value::Local(row), at))
+    Ok((Value::Local(Boxed::of(alloc, row)?), at))
 }

@@ -1,11 +1,13 @@
 //! The rows of a server.
 
-ghost use Rattle.std.specs.Prelude.{◌≡◌, ◌↔◌, ◌≤◌, IsSome, IfSome, IsTrue, false, length};
+ghost use Rattle.std.specs.Prelude.{◌≡◌, ◌↔◌, ◌≤◌, ◌<◌, ◌+◌, ◌++◌, ◌^◌, IsSome, IfSome, IfOk, IsTrue, false, length, string_bytes};
 ghost use Rattle.sn_rows.specs.Bounds.{HasLength, is_identifier, is_nonce, is_server_string, is_type_or_empty, last_stamp};
+ghost use Rattle.sn_rows.specs.Packed.{kind_in, content_in, enc_in};
 
-use crate::texts::is_text_within;
+use crate::texts::{is_str_within, is_text_within};
 use sn_string::{Text, Twin};
 use std::alloc::{AllocError, Global};
+use std::marker::Model;
 
 /// The last microsecond of the year 9999, counted from the first of 1970: the greatest stamp.
 pub const LAST_STAMP: u64 = 253_402_300_799_999_999;
@@ -121,88 +123,219 @@ impl Twin for GenerationRow {
     }
 }
 
-/// An item on the server, of the account with this number. The type has 1 to 255 bytes, and may be
-/// empty in a deleted item; a string has at most 1,048,576.
+/// An item on the server, of the account with this number. A contract sees its columns. The type has 1 to 255 bytes, and
+/// may be empty in a deleted item; a string has at most 1,048,576.
 #[derive(Drop)]
 pub struct ItemRow {
-    pub account: u64,
-    /// The item's type.
-    pub kind: Text,
-    /// The stamp of the first acceptance.
-    pub created: u64,
-    /// The stamp of the last acceptance.
-    pub updated: u64,
-    pub deleted: bool,
-    /// The sealed content.
-    pub content: Text,
-    /// The sealed item key.
-    pub enc: Text,
-    pub ghost kind_fits: { IsTrue (is_type_or_empty kind) },
-    pub ghost kind_stands: { deleted ≡ false → 1 ≤ length kind },
-    pub ghost created_fits: { created ≤ last_stamp },
-    pub ghost updated_fits: { updated ≤ last_stamp },
-    pub ghost content_fits: { IsTrue (is_server_string content) },
-    pub ghost enc_fits: { IsTrue (is_server_string enc) },
+    account: u64,
+    created: u64,
+    updated: u64,
+    // Type, content and item key, one behind the other: they take memory once.
+    texts: String,
+    content_len: u32,
+    kind_len: u8,
+    deleted: bool,
+    ghost kind_fits: { IsTrue (is_type_or_empty (kind_in kind_len (string_bytes texts))) },
+    ghost kind_stands: { deleted ≡ false → 1 ≤ length (kind_in kind_len (string_bytes texts)) },
+    ghost created_fits: { created ≤ last_stamp },
+    ghost updated_fits: { updated ≤ last_stamp },
+    ghost content_fits: { IsTrue (is_server_string (content_in kind_len content_len (string_bytes texts))) },
+    ghost enc_fits: { IsTrue (is_server_string (enc_in kind_len content_len (string_bytes texts))) },
+    ghost lengths: { kind_len + content_len ≤ length (string_bytes texts) },
+}
+
+impl Model for ItemRow {
+    ghost use Rattle.std.specs.Prelude.{string_bytes};
+    ghost use Rattle.sn_rows.specs.Packed.{kind_in, content_in, enc_in};
+    ghost use Rattle.sn_rows.specs.declared.item_columns.ItemColumns.{ItemColumns};
+
+    ghost Value = { ItemColumns };
+
+    ghost view = { λ r. record {
+        account = r.account;
+        kind = kind_in r.kind_len (string_bytes r.texts);
+        created = r.created;
+        updated = r.updated;
+        deleted = r.deleted;
+        content = content_in r.kind_len r.content_len (string_bytes r.texts);
+        enc = enc_in r.kind_len r.content_len (string_bytes r.texts);
+        kind_fits = r.kind_fits;
+        kind_stands = r.kind_stands;
+        created_fits = r.created_fits;
+        updated_fits = r.updated_fits;
+        content_fits = r.content_fits;
+        enc_fits = r.enc_fits
+    } };
 }
 
 impl ItemRow {
-    /// The row, where type, stamps and strings are within their bounds.
+    /// The row, where type, stamps and strings are within their bounds. Takes memory for the three texts at once.
     pub fn new(
+        alloc: Global,
         account: u64,
-        kind: Text,
+        kind: &str,
         created: u64,
         updated: u64,
         deleted: bool,
-        content: Text,
-        enc: Text,
-    ) -> Option<ItemRow>
-        ensures within { IsSome result ↔ (HasLength 0 255 kind × (deleted ≡ false → 1 ≤ length kind)
+        content: &str,
+        enc: &str,
+    ) -> Result<Option<ItemRow>, AllocError>
+        ensures within { IfOk result (λ found. IsSome found ↔ (HasLength 0 255 kind.now × (deleted ≡ false → 1 ≤ length kind.now)
             × (created ≤ last_stamp) × (updated ≤ last_stamp)
-            × HasLength 0 1048576 content × HasLength 0 1048576 enc) }
-        ensures parts { IfSome result (λ r. (r.account ≡ account) × (r.kind ≡ kind)
+            × HasLength 0 1048576 content.now × HasLength 0 1048576 enc.now)) }
+        ensures parts { IfOk result (λ found. IfSome found (λ r. (r.account ≡ account) × (r.kind ≡ kind.now)
             × (r.created ≡ created) × (r.updated ≡ updated) × (r.deleted ≡ deleted)
-            × (r.content ≡ content) × (r.enc ≡ enc)) }
+            × (r.content ≡ content.now) × (r.enc ≡ enc.now))) }
     {
-        if !is_text_within(&kind, 0, 255) {
-            return None;
+        if !is_str_within(kind, 0, 255) {
+            return Ok(None);
         }
         if kind.is_empty() && !deleted {
-            return None;
+            return Ok(None);
         }
         if created > LAST_STAMP || updated > LAST_STAMP {
-            return None;
+            return Ok(None);
         }
-        if !is_text_within(&content, 0, 1_048_576) {
-            return None;
+        if !is_str_within(content, 0, 1_048_576) {
+            return Ok(None);
         }
-        if !is_text_within(&enc, 0, 1_048_576) {
-            return None;
+        if !is_str_within(enc, 0, 1_048_576) {
+            return Ok(None);
         }
-        Some(ItemRow {
+        let row = ItemRow::packed(
+            alloc, account, kind, created, updated, deleted, content, enc,
+        )?;
+        Ok(Some(row))
+    }
+
+    /// The row of columns that are within their bounds.
+    pub(crate) fn packed(
+        alloc: Global,
+        account: u64,
+        kind: &str,
+        created: u64,
+        updated: u64,
+        deleted: bool,
+        content: &str,
+        enc: &str,
+    ) -> Result<ItemRow, AllocError>
+        requires kind { IsTrue (is_type_or_empty kind.now) }
+        requires stands { deleted ≡ false → 1 ≤ length kind.now }
+        requires created { created ≤ last_stamp }
+        requires updated { updated ≤ last_stamp }
+        requires content { IsTrue (is_server_string content.now) }
+        requires enc { IsTrue (is_server_string enc.now) }
+        ensures account { IfOk result (λ r. r.account ≡ account) }
+        ensures kind { IfOk result (λ r. r.kind ≡ kind.now) }
+        ensures created { IfOk result (λ r. r.created ≡ created) }
+        ensures updated { IfOk result (λ r. r.updated ≡ updated) }
+        ensures deleted { IfOk result (λ r. r.deleted ≡ deleted) }
+        ensures content { IfOk result (λ r. r.content ≡ content.now) }
+        ensures enc { IfOk result (λ r. r.enc ≡ enc.now) }
+    {
+        let kind_len = kind.len() as u8;
+        let content_len = content.len() as u32;
+        let texts = joined(alloc, kind, content, enc)?;
+        Ok(ItemRow {
             account,
-            kind,
             created,
             updated,
+            texts,
+            content_len,
+            kind_len,
             deleted,
-            content,
-            enc,
         })
+    }
+
+    /// The number of the account.
+    pub fn account(&self) -> u64
+        ensures { result ≡ self.now.account }
+    {
+        self.account
+    }
+
+    /// The item's type.
+    pub fn kind(&self) -> &str
+        ensures { result.now ≡ self.now.kind }
+    {
+        let (kind, _, _) = self.texts();
+        kind
+    }
+
+    /// The stamp of the first acceptance.
+    pub fn created(&self) -> u64
+        ensures { result ≡ self.now.created }
+    {
+        self.created
+    }
+
+    /// The stamp of the last acceptance.
+    pub fn updated(&self) -> u64
+        ensures { result ≡ self.now.updated }
+    {
+        self.updated
+    }
+
+    pub fn is_deleted(&self) -> bool
+        ensures { result ≡ self.now.deleted }
+    {
+        self.deleted
+    }
+
+    /// The sealed content.
+    pub fn content(&self) -> &str
+        ensures { result.now ≡ self.now.content }
+    {
+        let (_, content, _) = self.texts();
+        content
+    }
+
+    /// The sealed item key.
+    pub fn enc(&self) -> &str
+        ensures { result.now ≡ self.now.enc }
+    {
+        let (_, _, enc) = self.texts();
+        enc
+    }
+
+    // Type, content and item key.
+    fn texts(&self) -> (&str, &str, &str)
+        ensures kind { result.0.now ≡ self.now.kind }
+        ensures content { result.1.now ≡ self.now.content }
+        ensures enc { result.2.now ≡ self.now.enc }
+    {
+        let texts = self.texts.as_str();
+        let (kind, strings) = texts.split_at(self.kind_len as usize);
+        let (content, enc) = strings.split_at(self.content_len as usize);
+        (kind, content, enc)
     }
 }
 
 impl Twin for ItemRow {
     fn twin(&self, alloc: Global) -> Result<ItemRow, AllocError> {
-        let kind = self.kind.twin(alloc)?;
-        let content = self.content.twin(alloc)?;
-        let enc = self.enc.twin(alloc)?;
-        Ok(ItemRow {
-            account: self.account,
+        let (kind, content, enc) = self.texts();
+        let row = ItemRow::packed(
+            alloc,
+            self.account(),
             kind,
-            created: self.created,
-            updated: self.updated,
-            deleted: self.deleted,
+            self.created(),
+            self.updated(),
+            self.is_deleted(),
             content,
             enc,
-        })
+        )?;
+        Ok(row)
     }
+}
+
+// The three texts, one behind the other.
+fn joined(alloc: Global, kind: &str, content: &str, enc: &str) -> Result<String, AllocError>
+    requires { length kind.now + length content.now + length enc.now < 2 ^ 32 }
+    ensures { IfOk result (λ texts. string_bytes texts ≡ kind.now ++ (content.now ++ enc.now)) }
+{
+    let mut texts = String::with_capacity(alloc, kind.len() + content.len() + enc.len())?;
+    texts.push_str(kind)?;
+    texts.push_str(content)?;
+    texts.push_str(enc)?;
+    Ok(texts)
 }

@@ -12,7 +12,14 @@ pub(crate) fn is_text_within(text: &Text, least: usize, most: usize) -> bool
     ensures within { IsTrue result ↔ HasLength least most text.now }
     ensures test { result ≡ is_text_of least most text.now }
 {
-    let text = text.as_str();
+    is_str_within(text.as_str(), least, most)
+}
+
+/// Whether the text has so many bytes.
+pub(crate) fn is_str_within(text: &str, least: usize, most: usize) -> bool
+    ensures within { IsTrue result ↔ HasLength least most text.now }
+    ensures test { result ≡ is_text_of least most text.now }
+{
     least <= text.len() && text.len() <= most
 }
 

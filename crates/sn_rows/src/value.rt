@@ -3,22 +3,23 @@
 ghost use Rattle.std.specs.Prelude.{◌≡◌};
 ghost use Rattle.sn_rows.specs.Kinds.{value_kind};
 
+use crate::boxed::Boxed;
 use crate::device_rows::{LocalItem, OwnerRow, SetRow};
 use crate::kind::RowKind;
 use crate::server_rows::{AccountRow, GenerationRow, ItemRow, StoreRow};
 use sn_string::Twin;
 use std::alloc::{AllocError, Global};
 
-/// The value of a row.
+/// The value of a row. What is large stands in a place of its own, so that each value takes memory for what it holds.
 #[derive(Drop)]
 pub enum Value {
     Store(StoreRow),
-    Account(AccountRow),
+    Account(Boxed<AccountRow>),
     Generation(GenerationRow),
     Item(ItemRow),
-    Owner(OwnerRow),
-    Set(SetRow),
-    Local(LocalItem),
+    Owner(Boxed<OwnerRow>),
+    Set(Boxed<SetRow>),
+    Local(Boxed<LocalItem>),
 }
 
 impl Value {

@@ -117,13 +117,13 @@ fn put_item(out: &mut Vec<u8>, row: &ItemRow) -> Result<(), AllocError>
     ensures ok { OnOk result (out.new.items ≡ out.old.items ++ cells_bytes (value_cells (value.Item row.now))) }
     ensures form { OnOk result (Framed (value_columns kind.Item) (value_cells (value.Item row.now))) }
 {
-    put_u64(out, row.account)?;
-    put_counted(out, row.kind.as_str().as_bytes())?;
-    put_u64(out, row.created)?;
-    put_u64(out, row.updated)?;
-    put_byte(out, flag_byte(row.deleted))?;
-    put_counted(out, row.content.as_str().as_bytes())?;
-    put_counted(out, row.enc.as_str().as_bytes())?;
+    put_u64(out, row.account())?;
+    put_counted(out, row.kind().as_bytes())?;
+    put_u64(out, row.created())?;
+    put_u64(out, row.updated())?;
+    put_byte(out, flag_byte(row.is_deleted()))?;
+    put_counted(out, row.content().as_bytes())?;
+    put_counted(out, row.enc().as_bytes())?;
     Ok(())
 }
 
@@ -208,12 +208,12 @@ fn put_value(out: &mut Vec<u8>, value: &Value) -> Result<(), AllocError>
 {
     match value {
         Value::Store(row) => put_store(out, row),
-        Value::Account(row) => put_account(out, row),
+        Value::Account(row) => put_account(out, row.get()),
         Value::Generation(row) => put_generation(out, row),
         Value::Item(row) => put_item(out, row),
-        Value::Owner(row) => put_owner(out, row),
-        Value::Set(row) => put_set(out, row),
-        Value::Local(row) => put_local(out, row),
+        Value::Owner(row) => put_owner(out, row.get()),
+        Value::Set(row) => put_set(out, row.get()),
+        Value::Local(row) => put_local(out, row.get()),
     }
 }
 

@@ -7,7 +7,7 @@ use crate::{Committed, Table, TableError, are_of, load};
 use sn_disk::{CrashImage, Disk, MemDisk, Stop};
 use sn_io::Failed;
 use sn_journal::Owner;
-use sn_rows::{Change, Key, Row, RowKind, SetRow, Slot, Value};
+use sn_rows::{Boxed, Change, Key, Row, RowKind, SetRow, Slot, Value};
 use sn_string::Text;
 use std::alloc::Global;
 use std::test::Fail;
@@ -129,7 +129,7 @@ fn put(alloc: Global, slot: Slot, cost: u32) -> Result<Change, Fail> {
     match SetRow::new(cost, nonce, [1; 32], [2; 32], [3; 32]) {
         Some(row) => Ok(Change::Put(Row {
             key: Key::Set(slot),
-            value: Value::Set(row),
+            value: Value::Set(Boxed::of(alloc, row)?),
         })),
         None => Err(Failed.into()),
     }
@@ -138,7 +138,7 @@ fn put(alloc: Global, slot: Slot, cost: u32) -> Result<Change, Fail> {
 // The cost of a key set, or 0.
 fn cost_of(table: &Table<MemDisk>, slot: Slot) -> u32 {
     match table.get(&Key::Set(slot)) {
-        Some(Value::Set(row)) => row.pw_cost,
+        Some(Value::Set(row)) => row.get().pw_cost,
         _ => 0,
     }
 }

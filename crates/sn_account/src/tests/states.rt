@@ -4,7 +4,7 @@ ghost use Rattle.std.specs.Prelude.{IfOk};
 ghost use Rattle.sn_account.specs.States.{IsUnmarked};
 
 use crate::state::State;
-use sn_rows::{AccountRow, Change, Key, Row, StoreRow, Value};
+use sn_rows::{AccountRow, Boxed, Change, Key, Row, StoreRow, Value};
 use sn_string::{Many, Text};
 use std::alloc::Global;
 use std::test::Fail;
@@ -13,9 +13,10 @@ fn store(accounts: u64) -> Result<StoreRow, Fail> {
     Ok(StoreRow::new([7; 32], 1000, accounts).ok_or("stamp")?)
 }
 
-fn account(alloc: Global, identifier: &str) -> Result<AccountRow, Fail> {
+fn account(alloc: Global, identifier: &str) -> Result<Boxed<AccountRow>, Fail> {
     let identifier = Text::of(alloc, identifier)?;
-    Ok(AccountRow::new(identifier, 1, [9; 32]).ok_or("identifier")?)
+    let row = AccountRow::new(identifier, 1, [9; 32]).ok_or("identifier")?;
+    Ok(Boxed::of(alloc, row)?)
 }
 
 // The store's row, and one account.
@@ -55,7 +56,7 @@ fn identifier(state: &State, number: u64) -> Option<&str>
     requires { IsUnmarked state.now }
 {
     match state.get(&Key::Account(number)) {
-        Some(Value::Account(row)) => Some(row.identifier.as_str()),
+        Some(Value::Account(row)) => Some(row.get().identifier.as_str()),
         _ => None,
     }
 }

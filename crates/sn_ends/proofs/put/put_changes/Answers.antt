@@ -4,8 +4,8 @@ use Rattle.sn_ends.proofs.put.put_changes.Goals as goal
 pub returns : goal.returns
 returns c = record {
   item = c.in_ok-item.item;
-  row = c.put_local.result;
-  row_puts = c.put_local.ensures;
+  row = c.in_ok-row.row;
+  row_puts = c.in_ok-row.ensures;
   strings = c.in_ok-strings.strings;
   new = c.in_ok-item.ensures;
   set = c.in_ok-set.set;
@@ -13,5 +13,5 @@ returns c = record {
   opens = c.in_ok-strings.ensures;
   next = c.in_ok-next.next;
   next_puts = c.in_ok-next.ensures;
-  changes_are = c.in_ok-push-2.ensures.ok ∙ ap (λ xs. xs ++ c.in_ok-next.next ∷ []) (c.in_ok-push.ensures.ok ∙ ap (λ xs. xs ++ c.put_local.result ∷ []) c.new-changes.ensures);
+  changes_are = c.in_ok-push-2.ensures.ok ∙ ap (λ xs. xs ++ c.in_ok-next.next ∷ []) (c.in_ok-push.ensures.ok ∙ ap (λ xs. xs ++ c.in_ok-row.row ∷ []) c.new-changes.ensures);
 }

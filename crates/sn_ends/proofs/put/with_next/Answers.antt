@@ -4,7 +4,7 @@ use Rattle.sn_ends.proofs.put.with_next.Goals as goal
 pub returns : goal.returns
 returns c = record {
   row = _;
-  puts = c.put_owner.ensures;
+  puts = c.in_ok-change.ensures;
   identifier = ap (λ r. r.identifier) c.in_ok-row.ensures;
   next_is = refl;
 }

@@ -1,6 +1,7 @@
-use Rattle.std.proofs.Common.{◌≡◌, sym}
+use Rattle.std.proofs.Common.{◌≡◌, ℕ, sym, ap, ◌∙◌}
 use Rattle.std.specs.BTreeMap.{get}
 use Rattle.std.specs.Ordering.{nat_cmp}
+use Rattle.sn_report.specs.Showing.{item_text}
 use Rattle.sn_rows.specs.Table.{rows_of_batches}
 use Rattle.sn_ends.proofs.FindLemmas.{never, one_found}
 use Rattle.sn_replay.proofs.AccountLines.{IsRowOf, item_absent, item_added_on, line_of, row_of, row_set}
@@ -26,5 +27,6 @@ returns c = λ accounts front h sets is.
     one_found c.in_ok-body.field-0 c.in-Some-2.body r.version.body c.in-Some-2.is (c.in_ok-body.ensures r.account.sets r.version.body has r.strings) in
     item_added_on c.add_line.result accounts c.args.labels.now front c.args.uuid.now c.in-Some.row.now c.in_ok-line.line c.args.lists.now.items
     c.add_line.new.lists.items r is
-    (line_of accounts c.args.labels.now c.args.uuid.now c.in-Some.row.now c.in-Some-2.body c.in_ok-line.line r body c.in_ok-line.ensures)
-    c.add_line.ensures
+    (line_of accounts c.args.labels.now c.args.uuid.now c.in-Some.row.now c.in-Some-2.body c.in_ok-line.line r body
+    (c.in_ok-line.ensures ∙ ap (λ (n : ℕ). item_text c.args.labels.now c.args.uuid.now n c.in-Some-2.body) c.updated.ensures))
+    (λ index is_at there. c.add_line.ensures index (c.account.ensures ∙ is_at) there)

@@ -6,12 +6,12 @@ use Rattle.sn_replay.proofs.drafts_shown.content_of.Goals as goal
 pub returns-in-Some : goal.returns-in-Some
 returns-in-Some c = λ sets content at shows.
     let h = opened_content sets c.args.set.now c.in-Sealed.strings c.args.uuid.now c.args.latest.now content c.in-Sealed.is at shows in
-    let found : Some c.in-Some.text ≡ Some h.text = sym c.in-Some.is ∙ c.in_ok-text-in-Sealed.ensures h.text h.opens in
+    let found : Some c.in-Some.text ≡ Some h.text = sym c.in-Some.is ∙ c.in_ok-text-in-Sealed.ensures h.text (rw (c.as_str.ensures, c.as_str-in-Sealed.ensures) h.opens) in
     let same : c.in-Some.text ≡ h.text = cc in
     ap (λ t. Some (Plain t)) same ∙ sym (ap (λ x. Some x) h.shown_is)
 
 pub returns-in-None : goal.returns-in-None
 returns-in-None c = λ sets content at shows.
     let h = opened_content sets c.args.set.now c.in-Sealed.strings c.args.uuid.now c.args.latest.now content c.in-Sealed.is at shows in
-    let none : None ≡ Some h.text = sym c.in-None.is ∙ c.in_ok-text-in-Sealed.ensures h.text h.opens in
+    let none : None ≡ Some h.text = sym c.in-None.is ∙ c.in_ok-text-in-Sealed.ensures h.text (rw (c.as_str.ensures, c.as_str-in-Sealed.ensures) h.opens) in
     absurd (cc)
