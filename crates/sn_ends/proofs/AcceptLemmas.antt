@@ -1,12 +1,12 @@
 -- Items that are accepted.
 use Rattle.std.proofs.Common.{◌≡◌, ◌≢◌, ◌⊎◌, ◌<◌, ◌≤◌, ℕ, suc, ◌+◌, ◌-◌, List, [], ◌∷◌, length, map, Option, Some, None, Bool, true, false, refl, sym, ap, ◌∙◌, subst, inl, inr, ⊎_elim, arith}
 use Rattle.std.specs.Prelude.{IsSome, IsTrue, find, if◌then◌else◌}
-use Rattle.sn_laws.proofs.EachLemmas.{same_text}
-use Rattle.sn_laws.proofs.KeptLemmas.{keeps_step}
+use Rattle.sn_laws.proofs.Facts.{keeps_step, same_text}
 use Rattle.sn_laws.specs.Each.{One}
 use Rattle.sn_laws.specs.Laws.{Keeps}
 use Rattle.sn_laws.specs.Lookups.{Bytes, account_named, account_of, device_named, draft_at, greatest, has_item, is_account, is_of}
-use Rattle.sn_laws.specs.Moves.{after, allows, body_under, last_stamp, sent_content, version_of}
+use Rattle.sn_laws.specs.Moves.{after, allows, body_under, sent_content, version_of}
+use Rattle.sn_string.specs.Bounds.{last_stamp}
 use Rattle.sn_laws.specs.Runs.{LegalFrom, end_from}
 use Rattle.sn_laws.specs.declared.ideal.Account.{Account}
 use Rattle.sn_laws.specs.declared.ideal.Body.{Body}

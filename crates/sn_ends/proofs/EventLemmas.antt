@@ -2,7 +2,7 @@
 use Rattle.std.proofs.Common.{◌≡◌, ◌≢◌, ◌<◌, ◌≤◌, ℕ, zero, suc, List, [], ◌∷◌, length, Option, Some, None, Bool, true, false, refl, sym, ap, ◌∙◌, subst, ⊎_elim, arith}
 use Rattle.std.specs.Prelude.{◌||◌, nat_le, slice_get}
 use Rattle.std.specs.List.{list_any}
-use Rattle.sn_laws.proofs.EachLemmas.{at_most, is_at_most, is_false, same_text, text_same}
+use Rattle.sn_laws.proofs.Facts.{at_most, is_at_most, is_false, same_text, text_same}
 use Rattle.sn_laws.specs.Lookups.{Bytes, device_named, is_account}
 use Rattle.sn_laws.specs.Runs.{LegalFrom, end_from}
 use Rattle.sn_laws.specs.declared.ideal.Account.{Account}

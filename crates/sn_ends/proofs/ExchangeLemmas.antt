@@ -1,7 +1,7 @@
 -- Whole exchanges.
 use Rattle.std.proofs.Common.{◌≡◌, ◌<◌, ℕ, suc, List, [], ◌∷◌, ◌++◌, length, Option, Some, None, Bool, true, false, refl, sym, ap, ◌∙◌, subst, inl, inr, ⊎_elim, arith}
 use Rattle.std.specs.Prelude.{cond, find, nat_le}
-use Rattle.sn_laws.proofs.RunLemmas.{end_from-append}
+use Rattle.sn_laws.proofs.Facts.{end_from-append}
 use Rattle.sn_laws.specs.Each.{One}
 use Rattle.sn_laws.specs.Lookups.{Bytes, account_of, device_named, draft_at, greatest, is_device}
 use Rattle.sn_laws.specs.Moves.{after}

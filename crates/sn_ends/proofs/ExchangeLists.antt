@@ -2,7 +2,7 @@
 use Rattle.std.proofs.Common.{◌≡◌, ℕ, zero, suc, List, [], ◌∷◌, length, Option, Some, None, Bool, true, false, refl, ap, subst, inl, inr, ⊎_elim}
 use Rattle.std.specs.Prelude.{cond, if◌then◌else◌, find, reverse, slice_get, map}
 use mathlib.Core.List.{reverse-cons}
-use Rattle.sn_laws.proofs.EachLemmas.{found_passes}
+use Rattle.sn_laws.proofs.Facts.{found_passes}
 use Rattle.sn_laws.specs.Each.{One}
 use Rattle.sn_laws.specs.Lookups.{Bytes, account_for, account_named, account_of, device_named, is_account, is_of, last_of}
 use Rattle.sn_laws.specs.Moves.{accepted, version_of}

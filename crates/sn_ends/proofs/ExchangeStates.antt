@@ -1,7 +1,7 @@
 -- What holds inside an exchange, and what a device's row says of its draft.
 use Rattle.std.proofs.Common.{◌≡◌, ◌≢◌, ◌⊎◌, ◌<◌, ◌≤◌, ℕ, suc, List, [], ◌∷◌, length, Option, Some, None, refl, sym, ap, ◌∙◌, subst, inl, inr, ⊎_elim, arith}
 use Rattle.std.specs.Prelude.{IsSome}
-use Rattle.sn_laws.proofs.EachLemmas.{found_passes}
+use Rattle.sn_laws.proofs.Facts.{found_passes}
 use Rattle.sn_laws.specs.Each.{One}
 use Rattle.sn_laws.specs.Lookups.{Bytes, account_named, device_named, draft_at, greatest, is_device}
 use Rattle.sn_laws.specs.Relation.{IsPlain}

@@ -1,12 +1,6 @@
 -- The laws that an exchange stands on: what each commit's rows show, and what each move makes of a regular state.
 use Rattle.sn_shows.specs.Laws.{AcceptedLast, AcceptedShows, AcceptKeeps, PostKeeps, PostedShows, SettleKeeps, SettledShows, StoreShows, TokensShow}
-use Rattle.sn_shows.proofs.DeviceDrafts.{posted_shows, settled_shows}
-use Rattle.sn_shows.proofs.DeviceKeeps.{post_keeps, settle_keeps}
-use Rattle.sn_shows.proofs.DeviceOwners.{tokens_show}
-use Rattle.sn_shows.proofs.ServersAccept.{accepted_shows}
-use Rattle.sn_shows.proofs.ServersKeep.{accept_keeps}
-use Rattle.sn_shows.proofs.ServersLast.{accepted_last}
-use Rattle.sn_shows.proofs.ServersStore.{store_shows}
+use Rattle.sn_shows.proofs.Facts.{accept_keeps, accepted_last, accepted_shows, post_keeps, posted_shows, settle_keeps, settled_shows, store_shows, tokens_show}
 use Rattle.sn_ends.specs.Regular.{AcceptRegular, PostRegular, SentIsContent, SettleRegular}
 use Rattle.sn_ends.proofs.RegularAccept.{accept_regular}
 use Rattle.sn_ends.proofs.RegularPost.{post_regular, sent_is_content, settle_regular}

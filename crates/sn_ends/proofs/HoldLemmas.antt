@@ -5,7 +5,7 @@ use Rattle.std.specs.List.{flat_map, list_any}
 use Rattle.std.proofs.lemmas.List.Folds.{list_any-append}
 use Rattle.sn_laws.specs.Each.{Each, One}
 use Rattle.sn_laws.specs.Moves.{changed_where, without}
-use Rattle.sn_laws.proofs.EachLemmas.{each_back, each_front, found_passes}
+use Rattle.sn_laws.proofs.Facts.{each_back, each_front, found_passes}
 
 -- Each
 

@@ -6,7 +6,7 @@ use Rattle.std.specs.Map.{update}
 use Rattle.std.specs.Str.{bytes_eq}
 use Rattle.std.proofs.lemmas.Bool.{eqb-true, eq-eqb}
 use Rattle.std.proofs.lemmas.List.{append-nil}
-use Rattle.sn_laws.proofs.EachLemmas.{clash, same_text, text_same}
+use Rattle.sn_laws.proofs.Facts.{clash, same_text, text_same}
 use Rattle.sn_laws.specs.Lookups.{Bytes}
 use Rattle.sn_rows.specs.Table.{Rows, changed, row_after, rows_after, rows_of_batches}
 use Rattle.sn_rows.specs.declared.change.Change.{Change}

@@ -9,6 +9,7 @@ pub mod ExchangeLemmas
 pub mod ExchangeLists
 pub mod ExchangeRows
 pub mod ExchangeStates
+pub mod Facts
 pub mod FindLemmas
 pub mod GivenLaws
 pub mod GivenSync

@@ -18,8 +18,7 @@ use Rattle.sn_laws.specs.Lookups.{Bytes, account_for, account_named, account_of,
 use Rattle.sn_laws.specs.Moves.{accepted, after, allows, changed_where, edited, joined, posted_under, version_of}
 use Rattle.sn_laws.specs.Relation.{MayAccept, MayPost}
 use Rattle.sn_laws.specs.Runs.{LegalFrom, end_from}
-use Rattle.sn_laws.proofs.EachLemmas.{and_both, found_passes, is_false, same_text, text_same}
-use Rattle.sn_laws.proofs.RelatedLemmas.{allowed_from}
+use Rattle.sn_laws.proofs.Facts.{allowed_from, and_both, found_passes, is_false, same_text, text_same}
 use Rattle.sn_ends.proofs.FindLemmas.{changed, find_before, find_changed, find_changed_other, find_changed_own, find_new, find_same, find_without_other, find_without_own, found_changed, found_or_not, never, none_found}
 
 -- who is who

@@ -3,7 +3,7 @@ use Rattle.std.proofs.Common.{◌≡◌, ◌≢◌, ◌<◌, ◌≤◌, ℕ, Lis
 use Rattle.std.specs.Prelude.{◌==◌, find, if◌then◌else◌, nat_lt, not}
 use Rattle.rand_chacha.specs.ChaCha.{ChaCha}
 use Rattle.sn_items.specs.Objects.{is_object}
-use Rattle.sn_laws.proofs.EachLemmas.{below, found_passes, is_below, is_false, not_false, number_same, same_number}
+use Rattle.sn_laws.proofs.Facts.{below, found_passes, is_below, is_false, not_false, number_same, same_number}
 use Rattle.sn_laws.specs.Lookups.{Bytes, device_named}
 use Rattle.sn_laws.specs.Moves.{longest_text}
 use Rattle.sn_laws.specs.Runs.{LegalFrom, end_from}

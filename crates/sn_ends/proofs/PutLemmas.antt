@@ -3,7 +3,7 @@ use Rattle.std.proofs.Common.{◌++◌, ◌≡◌, ◌≢◌, ◌⊎◌, ◌<◌
 use Rattle.std.specs.Prelude.{IsSome, codes}
 use Rattle.sn_items.specs.Items.{OpensItem}
 use Rattle.sn_items.specs.declared.sealed.Sealed.{Sealed}
-use Rattle.sn_laws.proofs.EachLemmas.{clash, found_passes}
+use Rattle.sn_laws.proofs.Facts.{clash, found_passes}
 use Rattle.sn_laws.specs.Each.{Each, One}
 use Rattle.sn_laws.specs.Lookups.{Bytes, draft_at, greatest, is_account}
 use Rattle.sn_laws.specs.Moves.{after}
@@ -25,15 +25,12 @@ use Rattle.sn_rows.specs.declared.key.Slot.TheVariants.{Present}
 use Rattle.sn_rows.specs.declared.value.Value.{Value}
 use Rattle.sn_rows.specs.declared.value.Value.TheVariants as value
 use Rattle.sn_rows.specs.Facts.{neither_put, put_elsewhere, put_or_not, second_put}
-use Rattle.sn_string.proofs.Unique.{same_params}
+use Rattle.sn_string.proofs.Facts.{same_keys}
 use Rattle.sn_string.specs.declared.params.KeySet.{KeySet}
 use Rattle.sn_shows.specs.Devices.{IsSetRow, ShowsBase, ShowsDevice, ShowsDrafted, ShowsHolder, ShowsLocal, sealed_of}
 use Rattle.sn_shows.specs.Sets.{OpensUnder}
 use Rattle.sn_shows.specs.Laws.{HasAccount, IsNewAt, PutsItem, PutsTokens}
-use Rattle.sn_shows.proofs.DeviceDrafts.{edited_shows}
-use Rattle.sn_shows.proofs.DeviceKeeps.{edit_keeps}
-use Rattle.sn_shows.proofs.DeviceOwners.{tokens_show}
-use Rattle.sn_shows.proofs.DeviceStates.{holder_of}
+use Rattle.sn_shows.proofs.Facts.{edit_keeps, edited_shows, holder_of, tokens_show}
 use Rattle.sn_ends.specs.Batches.{next_in, next_number}
 use Rattle.sn_ends.specs.Changes.{IsSetOf, PutsNew}
 use Rattle.sn_ends.specs.Synced.{StandsOn}
@@ -44,17 +41,10 @@ use Rattle.sn_ends.proofs.HoldLemmas.{each_one}
 use Rattle.sn_ends.proofs.RecordLemmas.{none_is, rows_more, same_or_apart, some_is}
 
 -- a set is the one that a device's rows stand for
-same_set : (a : Account) (number : ℕ) (owner : OwnerRow) (keys : SetRow) (set : KeySet) → owner.identifier ≡ a.identifier → (is : IsSetRow a number keys)
+pub same_set : (a : Account) (number : ℕ) (owner : OwnerRow) (keys : SetRow) (set : KeySet) → owner.identifier ≡ a.identifier → (is : IsSetRow a number keys)
     → IsSetOf owner keys set → set ≡ is.set
 same_set a number owner keys set own is of =
-    let identifier : set.params.identifier ≡ is.set.params.identifier = of.identifier ∙ own ∙ sym is.identifier in
-    let cost : set.params.pw_cost ≡ is.set.params.pw_cost = of.cost ∙ is.cost in
-    let nonce : set.params.pw_nonce ≡ is.set.params.pw_nonce = of.nonce ∙ is.nonce in
-    let params : set.params ≡ is.set.params = same_params set.params is.set.params identifier cost nonce in
-    let pw : set.pw ≡ is.set.pw = of.pw ∙ is.pw in
-    let mk : set.mk ≡ is.set.mk = of.mk ∙ is.mk in
-    let ak : set.ak ≡ is.set.ak = of.ak ∙ is.ak in
-    λ i. record { params = params i; pw = pw i; mk = mk i; ak = ak i }
+    same_keys set is.set (of.identifier ∙ own ∙ sym is.identifier) (of.cost ∙ is.cost) (of.nonce ∙ is.nonce) (of.pw ∙ is.pw) (of.mk ∙ is.mk) (of.ak ∙ is.ak)
 
 opens_under : (a : Account) (number : ℕ) (owner : OwnerRow) (keys : SetRow) (set : KeySet) (sealed : Sealed) (uuid text : Bytes)
     → owner.identifier ≡ a.identifier → IsSetRow a number keys → IsSetOf owner keys set → OpensItem sealed uuid set text
@@ -74,7 +64,7 @@ module _ (labels : Labels) (s : Ideal) (name : Bytes) (number : ℕ) (d : Device
   base_labelled : (base : Option ℕ) → item.latest ≡ None → ShowsBase a item base → is_labelled labels item.uuid ≡ true
   base_labelled None none shown = absurd (none_is item.latest none shown.1)
   base_labelled (Some stamp) none shown =
-      subst (λ (u : Bytes). is_labelled labels u ≡ true) shown.item_is (version_labelled shown.version shown.among)
+      subst (λ (u : Bytes). is_labelled labels u ≡ true) shown.listed.item_is (version_labelled shown.listed.version shown.listed.among)
 
   item_labelled : ShowsLocal s name number a item → is_labelled labels item.uuid ≡ true
   item_labelled shown = at (draft_at s name item.uuid) refl shown.draft

@@ -17,7 +17,7 @@ use Rattle.sn_rows.specs.declared.value.Value.TheVariants as value
 use Rattle.sn_rows.specs.Facts.{batch_follows, last_counts}
 use Rattle.sn_shows.specs.Devices.{ShowsHolder}
 use Rattle.sn_shows.specs.Servers.{ShowsAccount, ShowsStore}
-use Rattle.sn_shows.proofs.DeviceStates.{holder_of}
+use Rattle.sn_shows.proofs.Facts.{holder_of}
 use Rattle.sn_ends.specs.Answers.{PutIsReady, SyncIsReady, SyncKeepsIndex, SyncsNothing}
 use Rattle.sn_ends.specs.Changes.{Accepts, IsAccountOf, count_in}
 use Rattle.sn_ends.specs.Index.{IsIndex}

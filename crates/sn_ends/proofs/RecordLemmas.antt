@@ -2,7 +2,7 @@
 use Rattle.std.proofs.Common.{◌≡◌, ◌≢◌, ◌⊎◌, List, [], ◌∷◌, ◌++◌, Option, Some, None, Bool, true, false, refl, inl, inr}
 use Rattle.std.specs.Prelude.{IsSome}
 use Rattle.std.specs.Str.{bytes_eq}
-use Rattle.sn_laws.proofs.EachLemmas.{clash, same_text, text_same}
+use Rattle.sn_laws.proofs.Facts.{clash, same_text, text_same}
 use Rattle.sn_laws.specs.Lookups.{Bytes}
 use Rattle.sn_rows.specs.Table.{Rows, rows_after, rows_of_batches}
 use Rattle.sn_rows.specs.declared.change.Change.{Change}

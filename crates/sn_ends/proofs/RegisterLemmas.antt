@@ -5,8 +5,7 @@ use Rattle.std.specs.List.{flat_map, list_any}
 use Rattle.std.proofs.lemmas.Grind.{flat_map-append}
 use Rattle.std.proofs.lemmas.List.{append-nil}
 use Rattle.std.proofs.lemmas.List.Concat.{flat_map-cons}
-use Rattle.sn_laws.proofs.EachLemmas.{text_same}
-use Rattle.sn_laws.proofs.KeptLemmas.{find_before}
+use Rattle.sn_laws.proofs.Facts.{find_before, text_same}
 use Rattle.sn_laws.specs.Each.{One}
 use Rattle.sn_laws.specs.Lookups.{Bytes, account_named, device_named, greatest, is_account, is_device}
 use Rattle.sn_laws.specs.Moves.{after, allows, joined, registered}
@@ -27,13 +26,7 @@ use Rattle.sn_string.specs.declared.params.KeySet.{KeySet}
 use Rattle.sn_shows.specs.Devices.{ShowsDevice, ShowsDeviceAs, ShowsNothing}
 use Rattle.sn_shows.specs.Laws.{HasAccount, PutsAccount, PutsOwner, PutsStore}
 use Rattle.sn_shows.specs.Servers.{ShowsAccounts, ShowsServer, ShowsStore, stamps_in}
-use Rattle.sn_shows.proofs.DeviceKeeps.{join_keeps}
-use Rattle.sn_shows.proofs.DeviceLookups.{find_new, find_past_new}
-use Rattle.sn_shows.proofs.DeviceOwners.{joined_shows}
-use Rattle.sn_shows.proofs.DeviceStates.{not_device}
-use Rattle.sn_shows.proofs.ServersKeep.{register_keeps}
-use Rattle.sn_shows.proofs.ServersRegister.{new_account, registered_shows}
-use Rattle.sn_shows.proofs.ServersStore.{store_shows}
+use Rattle.sn_shows.proofs.Facts.{find_new, find_past_new, join_keeps, joined_shows, new_account, not_device, register_keeps, registered_shows, store_shows}
 use Rattle.sn_ends.specs.Batches.{next_in, next_number}
 use Rattle.sn_ends.specs.Changes.{IsStart, Registers, count_in, last_in}
 use Rattle.sn_ends.specs.Synced.{StandsOn}

@@ -3,7 +3,8 @@ use Rattle.std.proofs.Common.{◌≡◌, ◌≢◌, ◌<◌, ◌≤◌, ℕ, zer
 use Rattle.std.specs.Prelude.{IsTrue, if◌then◌else◌}
 use Rattle.sn_laws.specs.Each.{Each, One}
 use Rattle.sn_laws.specs.Lookups.{Bytes, account_named, account_of, device_named, draft_at, greatest, has_item, is_account, is_of, last_of}
-use Rattle.sn_laws.specs.Moves.{after, allows, changed_where, last_stamp, version_of}
+use Rattle.sn_laws.specs.Moves.{after, allows, changed_where, version_of}
+use Rattle.sn_string.specs.Bounds.{last_stamp}
 use Rattle.sn_laws.specs.Relation.{IsOnLast, IsPlain, IsSaid}
 use Rattle.sn_laws.specs.declared.ideal.Account.{Account}
 use Rattle.sn_laws.specs.declared.ideal.Content.{Content}
@@ -14,8 +15,7 @@ use Rattle.sn_laws.specs.declared.ideal.Ideal.{Ideal}
 use Rattle.sn_laws.specs.declared.ideal.Posted.{Posted}
 use Rattle.sn_laws.specs.declared.ideal.Version.{Version}
 use Rattle.sn_laws.specs.declared.moves.Move.TheVariants.{Accept}
-use Rattle.sn_laws.proofs.EachLemmas.{none_from, text_same}
-use Rattle.sn_laws.proofs.RelatedLemmas.{allowed_to}
+use Rattle.sn_laws.proofs.Facts.{allowed_to, none_from, text_same}
 use Rattle.sn_report.specs.Labels.{Labels, is_labelled}
 use Rattle.sn_shows.specs.Laws.{AreApart}
 use Rattle.sn_shows.specs.Servers.{account_at, stamps_in}

@@ -12,8 +12,7 @@ use Rattle.sn_laws.specs.declared.ideal.Posted.{Posted}
 use Rattle.sn_laws.specs.declared.ideal.Version.{Version}
 use Rattle.sn_laws.specs.declared.moves.Move.TheVariants.{Post, Settle}
 use Rattle.sn_laws.specs.Relation.{IsPlain}
-use Rattle.sn_laws.proofs.EachLemmas.{and_both, text_same}
-use Rattle.sn_laws.proofs.RelatedLemmas.{allowed_to}
+use Rattle.sn_laws.proofs.Facts.{allowed_to, and_both, text_same}
 use Rattle.sn_report.specs.Labels.{Labels}
 use Rattle.sn_ends.specs.Regular.{IsNewDraft, IsRegular, IsVersionOf}
 use Rattle.sn_ends.proofs.FindLemmas.{never}

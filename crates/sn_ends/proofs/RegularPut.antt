@@ -14,8 +14,7 @@ use Rattle.sn_laws.specs.declared.ideal.Draft.{Draft}
 use Rattle.sn_laws.specs.declared.ideal.Ideal.{Ideal}
 use Rattle.sn_laws.specs.declared.ideal.Version.{Version}
 use Rattle.sn_laws.specs.declared.moves.Move.TheVariants.{Edit}
-use Rattle.sn_laws.proofs.EachLemmas.{clash, none_to, same_text, text_same}
-use Rattle.sn_laws.proofs.RelatedLemmas.{allowed_to}
+use Rattle.sn_laws.proofs.Facts.{allowed_to, clash, none_to, same_text, text_same}
 use Rattle.sn_report.specs.Labels.{Labels, is_labelled, labelled}
 use Rattle.sn_ends.specs.Regular.{IsNewDraft, IsNoItem, IsRegular}
 use Rattle.sn_ends.proofs.FindLemmas.{found_old_or_new, found_or_not, never}

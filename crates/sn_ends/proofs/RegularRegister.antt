@@ -11,7 +11,7 @@ use Rattle.sn_laws.specs.declared.ideal.Device.{Device}
 use Rattle.sn_laws.specs.declared.ideal.Ideal.{Ideal}
 use Rattle.sn_laws.specs.declared.ideal.Version.{Version}
 use Rattle.sn_laws.specs.declared.moves.Move.TheVariants.{Register, Join}
-use Rattle.sn_laws.proofs.EachLemmas.{found_passes, none_from, same_text, text_same}
+use Rattle.sn_laws.proofs.Facts.{found_passes, none_from, same_text, text_same}
 use Rattle.sn_report.specs.Labels.{Labels, is_labelled}
 use Rattle.sn_shows.specs.Laws.{AreApart}
 use Rattle.sn_shows.specs.Servers.{account_at}

@@ -10,9 +10,7 @@ use Rattle.sn_items.specs.Items.{OpensItem, encryption_half, authentication_half
 use Rattle.sn_items.specs.Opens.{Opens}
 use Rattle.sn_items.specs.declared.sealed.Sealed.{Sealed}
 use Rattle.sn_rows.specs.Bounds.{HasDeviceLengths, HasLength, has_colon, is_colon, before_colon, after_colon}
-use Rattle.sn_string.proofs.Base64Facts.{length-base64_text}
-use Rattle.sn_string.proofs.Colons.{HasNoColon-base64}
-use Rattle.sn_string.proofs.Places.{ciphertext_place}
+use Rattle.sn_string.proofs.Facts.{HasNoColon-base64, ciphertext_place, length-base64_text}
 use Rattle.sn_string.specs.Base64.{IsBase64, base64_text}
 use Rattle.sn_string.specs.Grammar.{Reading, Is003, colon, joined, version}
 use Rattle.sn_string.specs.Hex.{IsLowerHex}

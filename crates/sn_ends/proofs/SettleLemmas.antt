@@ -113,16 +113,18 @@ module _ (given : GivenLaws) (devices : Bytes → Rows) (labels : Labels) (name 
 
     base : IsBase own p.settled stamp
     base = record {
-      version = accepted;
-      among = among;
-      item_is = uuid_is ∙ sym p.uuid_is;
-      kind_is = sym has.kind_is ∙ sym p.kind_is;
-      stamp_is = refl;
-      strings = has.strings;
-      body_is = p.on ∙ has.sent;
-      text = has.text;
-      number = 1;
-      live = live;
+      listed = record {
+        version = accepted;
+        among = among;
+        item_is = uuid_is ∙ sym p.uuid_is;
+        kind_is = sym has.kind_is ∙ sym p.kind_is;
+        stamp_is = refl;
+        strings = has.strings;
+        body_is = p.on ∙ has.sent;
+        text = has.text;
+        number = 1;
+        live = live;
+      };
       opens = subst (λ (u : Bytes). OpensUnder own.sets 1 u (sealed_of has.strings) has.text) (sym p.uuid_is) has.opens;
     }
 

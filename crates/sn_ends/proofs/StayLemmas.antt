@@ -16,10 +16,7 @@ use Rattle.sn_laws.specs.declared.ideal.Ideal.{Ideal}
 use Rattle.sn_laws.specs.declared.ideal.Version.{Version}
 use Rattle.sn_laws.specs.declared.moves.Move.{Move}
 use Rattle.sn_laws.specs.declared.moves.Move.TheVariants.{Register, Join, Edit, Post, Accept, Settle}
-use Rattle.sn_laws.proofs.KeptLemmas.{keeps_step}
-use Rattle.sn_laws.proofs.RelatedLemmas.{allowed_from, one_there}
-use Rattle.sn_laws.proofs.RunLemmas.{end_from-append, legal_after}
-use Rattle.sn_laws.proofs.StampLemmas.{last_among}
+use Rattle.sn_laws.proofs.Facts.{allowed_from, end_from-append, keeps_step, last_among, legal_after, one_there}
 use Rattle.sn_ends.specs.Kept.{IsAccepted, IsDrafted, IsWritten}
 use Rattle.sn_ends.proofs.FindLemmas.{changed, found_or_not}
 use Rattle.sn_ends.proofs.HoldLemmas.{one_before}

@@ -1,6 +1,6 @@
 -- A device whose drafts are all settled is synced.
 use Rattle.std.proofs.Common.{◌≡◌, ◌<◌, ℕ, ◌+◌, [], ◌∷◌, length, Option, Some, None, sym, ap, ◌∙◌, subst, ⊎_elim, arith}
-use Rattle.sn_laws.proofs.StampLemmas.{last_among}
+use Rattle.sn_laws.proofs.Facts.{last_among}
 use Rattle.sn_laws.specs.Each.{Each, One}
 use Rattle.sn_laws.specs.Lookups.{Bytes, account_named, device_named, draft_at, greatest, is_account, is_device, last_of}
 use Rattle.sn_laws.specs.Relation.{IsLive}
@@ -17,7 +17,7 @@ use Rattle.sn_rows.specs.declared.key.Key.TheVariants as key
 use Rattle.sn_rows.specs.declared.value.Value.TheVariants as value
 use Rattle.sn_shows.specs.Devices.{HasRow, ShowsBase, ShowsDrafted, ShowsHolder, ShowsLocal}
 use Rattle.sn_shows.specs.Laws.{HasAccount}
-use Rattle.sn_shows.proofs.DeviceStates.{holder_of}
+use Rattle.sn_shows.proofs.Facts.{holder_of}
 use Rattle.sn_ends.specs.Batches.{next_number}
 use Rattle.sn_ends.specs.Synced.{IsSynced, StandsOn}
 use Rattle.sn_ends.specs.Opened.{AreOpen}
@@ -87,10 +87,10 @@ module _ (server : Record) (devices : Bytes → Record) (labels : Labels) (s : I
       → (v : Version) × (last_of item.uuid account.versions ≡ Some v) × IsLive v.body × (base ≡ Some v.stamp)
   on_last item None free shown = absurd (none_is item.latest free shown.1)
   on_last item (Some stamp) free shown = (
-    shown.version,
-    subst (λ (u : Bytes). last_of u account.versions ≡ Some shown.version) shown.item_is (last_is shown.version shown.among),
-    subst (λ (b : Body). IsLive b) (sym shown.live) tt,
-    ap (λ (n : ℕ). Some n) (sym shown.stamp_is),
+    shown.listed.version,
+    subst (λ (u : Bytes). last_of u account.versions ≡ Some shown.listed.version) shown.listed.item_is (last_is shown.listed.version shown.listed.among),
+    subst (λ (b : Body). IsLive b) (sym shown.listed.live) tt,
+    ap (λ (n : ℕ). Some n) (sym shown.listed.stamp_is),
   )
 
   no_other : (number : ℕ) (item : LocalItem) → rows (key.Local number) ≡ Some (value.Local item)

@@ -3,7 +3,7 @@ use Rattle.std.proofs.Common.{◌≡◌, ◌≢◌, ℕ, suc, ◌+◌, ◌-◌, 
 use Rattle.std.specs.Prelude.{map}
 use Rattle.std.specs.Str.{bytes_eq}
 use Rattle.std.proofs.lemmas.List.{append-nil}
-use Rattle.sn_laws.proofs.EachLemmas.{text_same}
+use Rattle.sn_laws.proofs.Facts.{text_same}
 use Rattle.sn_laws.specs.Each.{Each}
 use Rattle.sn_laws.specs.Lookups.{Bytes, greatest}
 use Rattle.sn_laws.specs.Moves.{after}

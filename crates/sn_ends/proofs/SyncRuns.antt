@@ -3,7 +3,7 @@ use Rattle.std.proofs.Common.{◌≡◌, ◌≢◌, ◌<◌, ◌≤◌, ℕ, zer
 use Rattle.std.proofs.lemmas.List.{append-nil, append_assoc, length-append}
 use Rattle.sn_laws.specs.Each.{Each}
 use Rattle.sn_laws.specs.Lookups.{Bytes}
-use Rattle.sn_laws.specs.Moves.{last_stamp}
+use Rattle.sn_string.specs.Bounds.{last_stamp}
 use Rattle.sn_laws.specs.declared.moves.Move.{Move}
 use Rattle.sn_report.specs.declared.report.DeviceRefusal.TheVariants as refusal
 use Rattle.sn_report.specs.declared.report.Last.TheVariants as last

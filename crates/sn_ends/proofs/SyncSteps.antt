@@ -2,10 +2,9 @@
 use Rattle.std.proofs.Common.{◌≡◌, ◌<◌, ◌≤◌, ℕ, zero, suc, ◌+◌, ◌-◌, List, [], ◌∷◌, ◌++◌, length, Some, None, Bool, false, refl, sym, ap, ◌∙◌, subst, ⊎_elim, arith, if◌then◌else◌}
 use Rattle.std.specs.Prelude.{find, nat_lt}
 use Rattle.std.proofs.lemmas.List.{append_assoc}
-use Rattle.sn_laws.proofs.EachLemmas.{below, is_false}
-use Rattle.sn_laws.proofs.RunLemmas.{end_from-append}
+use Rattle.sn_laws.proofs.Facts.{below, end_from-append, is_false}
 use Rattle.sn_laws.specs.Lookups.{Bytes, device_named, is_device}
-use Rattle.sn_laws.specs.Moves.{last_stamp}
+use Rattle.sn_string.specs.Bounds.{last_stamp}
 use Rattle.sn_laws.specs.Runs.{LegalFrom, end_from}
 use Rattle.sn_laws.specs.declared.ideal.Device.{Device}
 use Rattle.sn_laws.specs.declared.ideal.Ideal.{Ideal}

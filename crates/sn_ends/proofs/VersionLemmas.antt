@@ -5,8 +5,7 @@ use Rattle.sn_laws.specs.Lookups.{Bytes, account_named, empty}
 use Rattle.sn_laws.specs.Runs.{Legal, end}
 use Rattle.sn_laws.specs.declared.ideal.Account.{Account}
 use Rattle.sn_laws.specs.declared.moves.Move.{Move}
-use Rattle.sn_laws.proofs.KeptLemmas.{keeps}
-use Rattle.sn_laws.proofs.RunLemmas.{legal_before}
+use Rattle.sn_laws.proofs.Facts.{keeps, legal_before}
 
 pub kept_stays : (moves before later : List Move) (identifier : Bytes) (a : Account)
     → Legal moves → moves ≡ before ++ later → account_named (end before) identifier ≡ Some a

@@ -2,7 +2,7 @@
 use Rattle.std.specs.Prelude.{◌≡◌, ◌≢◌, ℕ, suc, ◌+◌, ◌-◌, ◌≤◌, List, [], ◌∷◌, ◌++◌, length, false, Option, Some, None, codes}
 use Rattle.sn_items.specs.Items.{OpensItem}
 use Rattle.sn_laws.specs.Lookups.{Bytes}
-use Rattle.sn_laws.specs.Moves.{last_stamp}
+use Rattle.sn_string.specs.Bounds.{last_stamp}
 use Rattle.sn_rows.specs.Table.{Puts, Rows, rows_of_batches}
 use Rattle.sn_rows.specs.declared.body.RowBody.{RowBody}
 use Rattle.sn_rows.specs.declared.body.RowBody.TheVariants as body

@@ -5,7 +5,8 @@ use Rattle.rand_chacha.specs.ChaCha.{ChaCha}
 use Rattle.sn_items.specs.Objects.{is_object}
 use Rattle.sn_keys.specs.Keys.{AreKeysOf}
 use Rattle.sn_laws.specs.Lookups.{Bytes, device_named, greatest, is_account}
-use Rattle.sn_laws.specs.Moves.{last_stamp, longest_text}
+use Rattle.sn_laws.specs.Moves.{longest_text}
+use Rattle.sn_string.specs.Bounds.{last_stamp}
 use Rattle.sn_laws.specs.declared.ideal.Content.TheVariants.{Plain}
 use Rattle.sn_laws.specs.declared.ideal.Device.{Device}
 use Rattle.sn_laws.specs.declared.ideal.Ideal.{Ideal}

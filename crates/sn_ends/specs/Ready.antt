@@ -1,7 +1,7 @@
 -- What a sync finds of the account of a device.
 use Rattle.std.specs.Prelude.{◌≡◌, ℕ, ◌+◌, ◌<◌, List, ◌++◌, length, Option, Some}
 use Rattle.sn_laws.specs.Lookups.{Bytes}
-use Rattle.sn_laws.specs.Moves.{last_stamp}
+use Rattle.sn_string.specs.Bounds.{last_stamp}
 use Rattle.sn_laws.specs.declared.moves.Move.{Move}
 use Rattle.sn_rows.specs.Table.{rows_of_batches}
 use Rattle.sn_rows.specs.declared.device_rows.OwnerRow.{OwnerRow}

@@ -5,7 +5,8 @@ use Rattle.std.specs.List.{list_any}
 use Rattle.sn_items.specs.Objects.{is_object}
 use Rattle.sn_laws.specs.Each.{Each, One}
 use Rattle.sn_laws.specs.Lookups.{Bytes, account_named, account_of, device_named, draft_at, greatest, has_item, is_account, last_of}
-use Rattle.sn_laws.specs.Moves.{after, allows, is_content_of, last_stamp, longest_text, version_of}
+use Rattle.sn_laws.specs.Moves.{after, allows, is_content_of, longest_text, version_of}
+use Rattle.sn_string.specs.Bounds.{last_stamp}
 use Rattle.sn_laws.specs.Relation.{IsPlain}
 use Rattle.sn_laws.specs.Runs.{LegalFrom, end_from}
 use Rattle.sn_laws.specs.declared.ideal.Account.{Account}

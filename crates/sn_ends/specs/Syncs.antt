@@ -1,7 +1,7 @@
 -- A whole sync, by what it makes of the records; and that it is what the line asks for.
 use Rattle.std.specs.Prelude.{◌≡◌, ◌⊎◌, ℕ, ◌+◌, ◌<◌, ◌≤◌, List, [], ◌∷◌, ◌++◌, length, Some}
 use Rattle.sn_laws.specs.Lookups.{Bytes, device_named}
-use Rattle.sn_laws.specs.Moves.{last_stamp}
+use Rattle.sn_string.specs.Bounds.{last_stamp}
 use Rattle.sn_laws.specs.Runs.{LegalFrom, end_from}
 use Rattle.sn_laws.specs.declared.ideal.Device.{Device}
 use Rattle.sn_laws.specs.declared.ideal.Ideal.{Ideal}

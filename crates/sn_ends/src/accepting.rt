@@ -3,7 +3,7 @@
 ghost use Rattle.std.specs.Prelude.{◌≡◌, ◌≢◌, ◌<◌, ◌≤◌, ◌+◌, [], All, IfOk, IsSome, MatchOption, OnErr, length};
 ghost use Rattle.std.specs.BTreeMap.{get_by_text};
 ghost use Rattle.std.specs.Option.{option_copied};
-ghost use Rattle.sn_laws.specs.Moves.{last_stamp};
+ghost use Rattle.sn_string.specs.Bounds.{last_stamp};
 ghost use Rattle.sn_rows.specs.Table.{rows_of_batches};
 ghost use Rattle.sn_rows.specs.declared.key.Key.TheVariants as key;
 ghost use Rattle.sn_ends.specs.Batches.{sent_of};
@@ -16,11 +16,8 @@ ghost use Rattle.sn_ends.specs.Rows.{store_in};
 use crate::changes::put_item;
 use crate::server::{PlainServer, store_change};
 use sn_rows::{Change, ItemRow, LocalItem, RowBody};
-use sn_string::{Many, Twin};
+use sn_string::{LAST_STAMP, Many, Twin};
 use std::alloc::{AllocError, Global};
-
-// The last stamp: the last microsecond of the year 9999.
-const LAST_STAMP: u64 = 253_402_300_799_999_999;
 
 impl PlainServer {
     /// Accepts what is sent of some items, with the stamps in microseconds from the next one on, in
@@ -99,7 +96,7 @@ pub(crate) fn accept_one(
     item: &LocalItem,
 ) -> Result<Change, AllocError>
     requires sendable { IsSendable item.now }
-    requires stamp { stamp ≤ 253402300799999999 }
+    requires stamp { stamp ≤ last_stamp }
     ensures { IfOk result (λ change. PutsAccepted change account stamp item.now) }
 {
     let Some(RowBody::Sealed(strings)) = sent_of(item) else {

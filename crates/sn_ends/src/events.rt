@@ -24,14 +24,11 @@ use crate::server::PlainServer;
 use crate::settings::Settings;
 use sn_items::is_object;
 use sn_keys::derive;
-use sn_laws::{Content, Move};
+use sn_laws::{Content, LONGEST_TEXT, Move};
 use sn_report::{DeviceRefusal, Labels, Last, ServerRefusal};
 use sn_string::{KeySet, Many, Params, Text, Twin};
 use std::alloc::{AllocError, Global};
 use uuid::Uuid;
-
-/// The most bytes that a content has.
-const LONGEST_TEXT: usize = 700_000;
 
 /// The most accounts that a server has.
 const MOST_ACCOUNTS: u64 = 1_000_000;

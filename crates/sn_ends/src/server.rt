@@ -5,6 +5,7 @@ ghost use Rattle.std.specs.BTreeMap.{get_by_text};
 ghost use Rattle.std.specs.Option.{option_copied};
 ghost use Rattle.sn_rows.specs.Table.{rows_of_batches};
 ghost use Rattle.sn_rows.specs.declared.key.Key.TheVariants as key;
+ghost use Rattle.sn_string.specs.Bounds.{last_stamp};
 ghost use Rattle.sn_ends.specs.Changes.{Begins, IsAccountOf, IsRegistration, PutsStoreRow, Starts, count_in, last_in};
 ghost use Rattle.sn_ends.specs.Index.{IsIndex};
 ghost use Rattle.sn_ends.specs.Rows.{store_in};
@@ -50,7 +51,7 @@ impl PlainServer {
     /// The last stamp that was given; 0 before the first.
     pub(crate) fn last(&self) -> u64
         ensures is { result ≡ last_in (rows_of_batches self.now.store key.Store) }
-        ensures bounded { result ≤ 253402300799999999 }
+        ensures bounded { result ≤ last_stamp }
     {
         match self.row() {
             Some(row) => row.last,
@@ -127,7 +128,7 @@ impl PlainServer {
 
 /// The change that puts the store's row with this last stamp and number of accounts.
 pub(crate) fn store_change(secret: &[u8; 32], last: u64, accounts: u64) -> Change
-    requires { last ≤ 253402300799999999 }
+    requires { last ≤ last_stamp }
     ensures { PutsStoreRow result last accounts }
 {
     let secret = *secret;

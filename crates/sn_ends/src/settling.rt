@@ -5,6 +5,7 @@ ghost use Rattle.sn_rows.specs.Table.{rows_of_batches};
 ghost use Rattle.sn_rows.specs.declared.device_rows.OwnerRow.{OwnerRow};
 ghost use Rattle.sn_rows.specs.declared.key.Key.TheVariants as key;
 ghost use Rattle.sn_rows.specs.declared.value.Value.TheVariants as value;
+ghost use Rattle.sn_string.specs.Bounds.{last_stamp};
 ghost use Rattle.sn_ends.specs.Batches.{sent_of};
 ghost use Rattle.sn_ends.specs.Changes.{AreSettled, PutsNext, PutsOnSent, Settles};
 ghost use Rattle.sn_ends.specs.Rows.{owner_in};
@@ -83,7 +84,7 @@ fn settled_change(
     stamp: u64,
     item: &LocalItem,
 ) -> Result<Change, AllocError>
-    requires stamp { stamp ≤ 253402300799999999 }
+    requires stamp { stamp ≤ last_stamp }
     ensures { IfOk result (λ change. PutsOnSent change number stamp item.now) }
 {
     let kind = item.kind.twin(alloc)?;

@@ -1,4 +1,5 @@
 pub mod EachLemmas
+pub mod Facts
 pub mod FollowLemmas
 pub mod KeptLemmas
 pub mod RelatedLemmas

@@ -14,6 +14,7 @@ use Rattle.sn_laws.specs.declared.ideal.Posted.{Posted}
 use Rattle.sn_laws.specs.declared.ideal.Draft.{Draft}
 use Rattle.sn_laws.specs.declared.ideal.Device.{Device}
 use Rattle.sn_laws.specs.declared.ideal.Ideal.{Ideal}
+use Rattle.sn_string.specs.Bounds.{last_stamp}
 use Rattle.sn_string.specs.declared.params.KeySet.{KeySet}
 use Rattle.sn_laws.specs.declared.moves.Move.{Move}
 use Rattle.sn_laws.specs.declared.moves.Move.TheVariants.{Register, Join, Edit, Post, Accept, Settle}
@@ -67,10 +68,6 @@ is_unsent None = true
 is_unsent (Some p) = is_none p.set
 
 -- stamps
-
--- the last microsecond of the year 9999
-abbrev pub last_stamp : ℕ
-last_stamp = 253402300799999999
 
 -- a stamp is new where it is above all stamps of all accounts, and none after the last
 abbrev pub all_below : ℕ → Account → Bool

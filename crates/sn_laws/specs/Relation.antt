@@ -3,7 +3,8 @@ use Rattle.std.specs.Prelude.{◌≡◌, ◌≢◌, ◌⊎◌, ◌<◌, ◌≤�
 use Rattle.sn_items.specs.Objects.{is_object}
 use Rattle.sn_laws.specs.Each.{Each, One}
 use Rattle.sn_laws.specs.Lookups.{Bytes, account_named, account_of, device_named, draft_at, last_of}
-use Rattle.sn_laws.specs.Moves.{after, last_stamp, longest_text}
+use Rattle.sn_laws.specs.Moves.{after, longest_text}
+use Rattle.sn_string.specs.Bounds.{last_stamp}
 use Rattle.sn_laws.specs.declared.ideal.Content.{Content}
 use Rattle.sn_laws.specs.declared.ideal.Content.TheVariants.{Plain, Deleted}
 use Rattle.sn_laws.specs.declared.ideal.Body.{Body}

@@ -13,20 +13,17 @@ use crate::lookups::{
 };
 use crate::moves::Move;
 use sn_items::is_object;
-use sn_string::Text;
+use sn_string::{LAST_STAMP, Text};
 use std::alloc::{AllocError, Global};
 use uuid::Uuid;
 
-// The last microsecond of the year 9999.
-const LAST_STAMP: u64 = 253402300799999999;
-
-// The longest content of an edit, in bytes.
-const LONGEST: usize = 700000;
+/// The longest content of an edit, in bytes.
+pub const LONGEST_TEXT: usize = 700_000;
 
 fn is_writable(alloc: Global, text: &Text) -> Result<bool, AllocError>
     ensures { IfOk result (λ found. found ≡ is_writable text.now) }
 {
-    if text.as_str().len() <= LONGEST {
+    if text.as_str().len() <= LONGEST_TEXT {
         is_object(alloc, text.as_str())
     } else {
         Ok(false)

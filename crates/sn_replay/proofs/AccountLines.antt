@@ -6,7 +6,7 @@ use Rattle.std.proofs.lemmas.List.{append-nil, length-map, map-append, take_all}
 use Rattle.std.proofs.lemmas.List.Concat.{flat_map-append}
 use Rattle.std.proofs.lemmas.List.Folds.{flat_map-map}
 use Rattle.std.proofs.lemmas.Option.{slice_get_within}
-use Rattle.sn_laws.proofs.EachLemmas.{found_passes, same_text}
+use Rattle.sn_laws.proofs.Facts.{found_passes, same_text}
 use Rattle.sn_laws.specs.Lookups.{Bytes, is_of, last_of}
 use Rattle.sn_laws.specs.declared.ideal.Account.{Account}
 use Rattle.sn_laws.specs.declared.ideal.Body.{Body}
@@ -21,7 +21,7 @@ use Rattle.sn_rows.specs.declared.value.Value.{Value}
 use Rattle.sn_shows.specs.Servers.{IsShown, ShowsIdentity, ShowsItem, ShowsServer, ShowsStore, ShowsStrings, account_at}
 use Rattle.sn_string.specs.declared.params.KeySet.{KeySet}
 use Rattle.sn_ends.specs.Changes.{count_in}
-use Rattle.sn_ends.proofs.FindLemmas.{never, one_found}
+use Rattle.sn_ends.proofs.Facts.{never, one_found}
 use Rattle.sn_replay.specs.Shown.{AreSets, HasSet, account_in, item_in, lines_so_far}
 use Rattle.sn_replay.proofs.PlaceLemmas.{at_place, map_at, map_same, map_set, taken, taken_at}
 

@@ -6,7 +6,7 @@ use Rattle.std.specs.List.{list_any}
 use Rattle.std.specs.Map.{update}
 use Rattle.std.specs.Str.{bytes_eq}
 use Rattle.std.proofs.lemmas.List.Folds.{list_any-append}
-use Rattle.sn_laws.proofs.EachLemmas.{same_text, text_same}
+use Rattle.sn_laws.proofs.Facts.{same_text, text_same}
 use Rattle.sn_laws.specs.Lookups.{Bytes}
 use Rattle.sn_laws.specs.Runs.{end}
 use Rattle.sn_report.specs.Labels.{Labels}
@@ -16,7 +16,7 @@ use Rattle.sn_ends.specs.Index.{IsIndex}
 use Rattle.sn_ends.specs.Stands.{Record, Stands}
 use Rattle.sn_ends.specs.declared.device.PlainDevice.{PlainDevice}
 use Rattle.sn_ends.specs.declared.server.PlainServer.{PlainServer}
-use Rattle.sn_ends.proofs.RecordLemmas.{some_is}
+use Rattle.sn_ends.proofs.Facts.{some_is}
 use Rattle.sn_replay.specs.Benches.{batches_of, record_of, server_record}
 use Rattle.sn_replay.specs.Headline.{Course, names_with}
 use Rattle.sn_replay.specs.Lines.{Begins, with_name}

@@ -4,7 +4,7 @@ use Rattle.std.specs.Prelude.{is_some, slice_get}
 use Rattle.std.specs.BTreeMap.{get_by_text}
 use Rattle.std.specs.List.{list_any}
 use Rattle.std.specs.Str.{bytes_eq}
-use Rattle.sn_laws.proofs.EachLemmas.{one_from, same_text}
+use Rattle.sn_laws.proofs.Facts.{one_from, same_text}
 use Rattle.sn_laws.specs.Each.{One}
 use Rattle.sn_laws.specs.Lookups.{Bytes, account_named, account_of, device_named}
 use Rattle.sn_laws.specs.Runs.{end}
@@ -16,10 +16,7 @@ use Rattle.sn_rows.specs.declared.key.Key.TheVariants as key
 use Rattle.sn_shows.specs.Devices.{ShowsDeviceAs, ShowsHolder}
 use Rattle.sn_shows.specs.Laws.{AreApart}
 use Rattle.sn_string.specs.declared.params.KeySet.{KeySet}
-use Rattle.sn_ends.proofs.ExchangeLists.{account_among}
-use Rattle.sn_ends.proofs.FindLemmas.{never}
-use Rattle.sn_ends.proofs.HoldLemmas.{each_weaker}
-use Rattle.sn_ends.proofs.MoveLemmas.{account_identifier, account_of-from}
+use Rattle.sn_ends.proofs.Facts.{account_among, account_identifier, account_of-from, each_weaker, never}
 use Rattle.sn_ends.specs.declared.device.PlainDevice.{PlainDevice}
 use Rattle.sn_replay.specs.Benches.{batches_of, device_rows}
 use Rattle.sn_replay.specs.Headline.{Course}

@@ -8,7 +8,7 @@ use Rattle.std.specs.Ordering.{nat_cmp}
 use Rattle.std.specs.Str.{bytes_eq}
 use Rattle.std.specs.String.{string_cmp}
 use Rattle.std.proofs.lemmas.Map.Text.{btree_map_updates_text}
-use Rattle.sn_laws.proofs.EachLemmas.{is_false, same_text, text_same}
+use Rattle.sn_laws.proofs.Facts.{is_false, same_text, text_same}
 use Rattle.sn_laws.specs.Lookups.{Bytes}
 use Rattle.sn_laws.specs.Runs.{end}
 use Rattle.sn_laws.specs.declared.moves.Move.{Move}
@@ -28,7 +28,7 @@ use Rattle.sn_ends.specs.Stands.{Others, Record}
 use Rattle.sn_ends.specs.declared.device.PlainDevice.{PlainDevice}
 use Rattle.sn_ends.specs.declared.server.PlainServer.{PlainServer}
 use Rattle.sn_ends.specs.declared.settings.Settings.{Settings}
-use Rattle.sn_ends.proofs.RecordLemmas.{some_is}
+use Rattle.sn_ends.proofs.Facts.{some_is}
 use Rattle.sn_replay.specs.Benches.{batches_of, record_of, server_record, server_rows}
 use Rattle.sn_replay.specs.Headline.{Course}
 use Rattle.sn_replay.specs.Lines.{AtDevice, IsCalled}

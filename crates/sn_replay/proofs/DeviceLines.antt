@@ -6,7 +6,7 @@ use Rattle.std.specs.List.{flat_map, list_any}
 use Rattle.std.specs.Str.{bytes_eq}
 use Rattle.std.proofs.lemmas.List.{append-nil, take_all, take_more}
 use Rattle.std.proofs.lemmas.List.Concat.{flat_map-append}
-use Rattle.sn_laws.proofs.EachLemmas.{clash, or_left, or_right, text_same}
+use Rattle.sn_laws.proofs.Facts.{clash, or_left, or_right, text_same}
 use Rattle.sn_laws.specs.Lookups.{Bytes, device_named, draft_at}
 use Rattle.sn_laws.specs.declared.ideal.Ideal.{Ideal}
 use Rattle.sn_report.specs.Labels.{Labels}

@@ -8,7 +8,7 @@ use Rattle.std.specs.Ordering.{nat_cmp}
 use Rattle.sn_laws.specs.Lookups.{Bytes, draft_at}
 use Rattle.sn_laws.specs.declared.ideal.Draft.{Draft}
 use Rattle.sn_laws.specs.declared.ideal.Ideal.{Ideal}
-use Rattle.sn_laws.proofs.EachLemmas.{clash, number_same, same_number}
+use Rattle.sn_laws.proofs.Facts.{clash, number_same, same_number}
 use Rattle.sn_report.specs.Labels.{Labels, is_labelled, label_from}
 use Rattle.sn_report.specs.Showing.{draft_lines, latest_text}
 use Rattle.sn_rows.specs.Table.{Rows}
@@ -19,8 +19,7 @@ use Rattle.sn_rows.specs.declared.value.Value.TheVariants as value
 use Rattle.sn_string.specs.declared.params.KeySet.{KeySet}
 use Rattle.sn_ends.specs.Batches.{next_number}
 use Rattle.sn_ends.specs.Rows.{local_in}
-use Rattle.sn_ends.proofs.FindLemmas.{never, one_found}
-use Rattle.sn_ends.proofs.MoveLemmas.{draft_found}
+use Rattle.sn_ends.proofs.Facts.{draft_found, never, one_found}
 use Rattle.sn_replay.specs.DraftsShown.{AddsLine, HasOpenRow, ShowsDrafts, line_of, with_line}
 use Rattle.sn_replay.proofs.LabelPlaces.{HasLabel, at_label, label_of, line_at, one_label}
 use Rattle.sn_replay.proofs.LineOrder.{in_order, lines, own_key, same_key}

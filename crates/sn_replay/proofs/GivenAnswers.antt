@@ -1,7 +1,6 @@
 -- The laws that a line stands on: a call at one device is what its line asks for, and what the calls ask for holds.
 use Rattle.sn_ends.specs.Answers.{PutAnswers, PutIsReady, RegisterAnswers, SyncAnswers, SyncIsReady, SyncKeepsIndex}
-use Rattle.sn_ends.proofs.AnswerLemmas.{put_answers, register_answers, sync_answers}
-use Rattle.sn_ends.proofs.ReadyLemmas.{put_is_ready, sync_is_ready, sync_keeps_index}
+use Rattle.sn_ends.proofs.Facts.{put_answers, put_is_ready, register_answers, sync_answers, sync_is_ready, sync_keeps_index}
 
 pub record GivenAnswers : Type 0 where
   pub register_answers : RegisterAnswers

@@ -5,8 +5,7 @@ use Rattle.std.specs.BTreeMap.{get_by_text}
 use Rattle.std.specs.List.{list_any}
 use Rattle.std.specs.Str.{bytes_eq}
 use Rattle.std.proofs.lemmas.List.{append-nil, take-append-le, take_all}
-use Rattle.sn_laws.proofs.EachLemmas.{clash, same_text, text_same}
-use Rattle.sn_laws.proofs.RunLemmas.{end_from-append}
+use Rattle.sn_laws.proofs.Facts.{clash, end_from-append, same_text, text_same}
 use Rattle.sn_laws.specs.Lookups.{Bytes, empty}
 use Rattle.sn_laws.specs.Runs.{end, end_from}
 use Rattle.sn_laws.specs.declared.ideal.Ideal.{Ideal}
@@ -22,8 +21,7 @@ use Rattle.sn_ends.specs.Stands.{Record, Stands}
 use Rattle.sn_ends.specs.Synced.{EndsWell}
 use Rattle.sn_ends.specs.declared.device.PlainDevice.{PlainDevice}
 use Rattle.sn_ends.specs.declared.settings.Settings.{Settings}
-use Rattle.sn_ends.proofs.MoveLemmas.{legal_append}
-use Rattle.sn_ends.proofs.RecordLemmas.{same_or_apart}
+use Rattle.sn_ends.proofs.Facts.{legal_append, same_or_apart}
 use Rattle.sn_replay.specs.Benches.{batches_of, device_rows_at, record_of, server_record}
 use Rattle.sn_replay.specs.Courses.{Grows}
 use Rattle.sn_replay.specs.Headline.{Course, Fits, Reported, device_of, labels_after_moves, names_with, past, rows_for, shown_by}

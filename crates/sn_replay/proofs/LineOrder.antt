@@ -8,7 +8,7 @@ use Rattle.std.specs.Map.{keys_of, lookup, values_of}
 use Rattle.std.specs.Ordering.{is_eq, nat_cmp}
 use Rattle.std.specs.declared.cmp.Ordering.TheVariants.{Less, Equal, Greater}
 use Rattle.std.proofs.lemmas.Map.Keys.{sorted_head, sorted_tail}
-use Rattle.sn_laws.proofs.EachLemmas.{below, clash, is_false, number_same, same_number}
+use Rattle.sn_laws.proofs.Facts.{below, clash, is_false, number_same, same_number}
 use Rattle.sn_laws.specs.Lookups.{Bytes}
 use Rattle.sn_report.specs.Labels.{Labels}
 use Rattle.sn_replay.proofs.LabelPlaces.{line_at, none_below}

@@ -18,8 +18,7 @@ use Rattle.sn_shows.specs.Ends.{Shows}
 use Rattle.sn_ends.specs.Kept.{IsAccepted, IsDrafted, IsWritten}
 use Rattle.sn_ends.specs.Settings.{settings_after}
 use Rattle.sn_ends.specs.declared.settings.Settings.{Settings}
-use Rattle.sn_ends.proofs.StayLemmas.{edits_stay}
-use Rattle.sn_ends.proofs.VersionLemmas.{kept_stays}
+use Rattle.sn_ends.proofs.Facts.{edits_stay, kept_stays}
 use Rattle.sn_replay.specs.Benches.{record_of, server_record}
 use Rattle.sn_replay.specs.Courses.{EventsWithin, MarksWithin, course_after}
 use Rattle.sn_replay.specs.Headline.{AreFirst, Carries, Course, Recounts, Recovers, Reported, at_first, past, report_moves, reported, reporting}

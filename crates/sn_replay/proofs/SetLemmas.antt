@@ -7,7 +7,7 @@ use Rattle.std.specs.Ordering.{is_eq, nat_cmp}
 use Rattle.std.specs.declared.cmp.Ordering.TheVariants.{Less, Equal, Greater}
 use Rattle.std.proofs.lemmas.Bool.{cases_eq}
 use Rattle.std.proofs.lemmas.List.{take_all}
-use Rattle.sn_laws.proofs.EachLemmas.{is_false, same_number}
+use Rattle.sn_laws.proofs.Facts.{is_false, same_number}
 use Rattle.sn_laws.specs.Each.{One}
 use Rattle.sn_laws.specs.Lookups.{Bytes, account_for, account_of, device_named, greatest, is_device}
 use Rattle.sn_laws.specs.declared.ideal.Account.{Account}
@@ -21,33 +21,17 @@ use Rattle.sn_rows.specs.declared.key.Slot.TheVariants.{Present}
 use Rattle.sn_shows.specs.Devices.{IsSetRow, ShowsDeviceAs}
 use Rattle.sn_shows.specs.Servers.{ShowsIdentity, account_at}
 use Rattle.sn_shows.specs.Sets.{set_at}
-use Rattle.sn_shows.proofs.ServersApart.{one_at}
-use Rattle.sn_string.proofs.Unique.{same_params}
+use Rattle.sn_shows.proofs.Facts.{one_at}
 use Rattle.sn_string.specs.declared.params.KeySet.{KeySet}
 use Rattle.sn_ends.specs.Changes.{IsSetOf}
 use Rattle.sn_ends.specs.Rows.{owner_in, set_in}
-use Rattle.sn_ends.proofs.FindLemmas.{never, one_found}
-use Rattle.sn_ends.proofs.HoldLemmas.{each_found, each_one, one_old_or_new}
-use Rattle.sn_ends.proofs.RecordLemmas.{some_is}
+use Rattle.sn_ends.proofs.Facts.{each_found, each_one, never, one_found, one_old_or_new, same_set, some_is}
 use Rattle.sn_ends.specs.declared.device.PlainDevice.{PlainDevice}
 use Rattle.sn_replay.specs.Benches.{batches_of, device_rows}
 use Rattle.sn_replay.specs.Shown.{AreHeldBy, AreSets, AreSetsOf, BenchShows, HasSet, IsSetOfAccount}
 use Rattle.sn_replay.specs.declared.bench.PlainBench.{PlainBench}
 use Rattle.sn_replay.proofs.BenchLemmas.{IsHolder, holder_at}
 use Rattle.sn_replay.proofs.PlaceLemmas.{place_of}
-
--- a set is the one that a device's rows stand for
-same_set : (a : Account) (number : ℕ) (owner : OwnerRow) (keys : SetRow) (set : KeySet) → owner.identifier ≡ a.identifier → (is : IsSetRow a number keys)
-    → IsSetOf owner keys set → set ≡ is.set
-same_set a number owner keys set own is of =
-    let identifier : set.params.identifier ≡ is.set.params.identifier = of.identifier ∙ own ∙ sym is.identifier in
-    let cost : set.params.pw_cost ≡ is.set.params.pw_cost = of.cost ∙ is.cost in
-    let nonce : set.params.pw_nonce ≡ is.set.params.pw_nonce = of.nonce ∙ is.nonce in
-    let params : set.params ≡ is.set.params = same_params set.params is.set.params identifier cost nonce in
-    let pw : set.pw ≡ is.set.pw = of.pw ∙ is.pw in
-    let mk : set.mk ≡ is.set.mk = of.mk ∙ is.mk in
-    let ak : set.ak ≡ is.set.ak = of.ak ∙ is.ak in
-    λ i. record { params = params i; pw = pw i; mk = mk i; ak = ak i }
 
 -- one device
 

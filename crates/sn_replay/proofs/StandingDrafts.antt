@@ -16,31 +16,13 @@ use Rattle.sn_rows.specs.declared.key.Key.TheVariants as key
 use Rattle.sn_rows.specs.declared.key.Slot.TheVariants.{Present}
 use Rattle.sn_rows.specs.declared.value.Value.TheVariants as value
 use Rattle.sn_shows.specs.Devices.{HasRow, IsSetRow, ShowsDeviceAs, ShowsDraft, ShowsDrafted, ShowsHolder, ShowsNothing}
-use Rattle.sn_string.proofs.Unique.{same_params}
 use Rattle.sn_string.specs.declared.params.KeySet.{KeySet}
 use Rattle.sn_ends.specs.Answers.{HasOpen}
 use Rattle.sn_ends.specs.Changes.{IsSetOf}
 use Rattle.sn_ends.specs.Rows.{owner_in, set_in}
 use Rattle.sn_ends.specs.Stands.{Record, Stands}
-use Rattle.sn_ends.proofs.ExchangeStates.{IsHolder, first_held, holder_is}
-use Rattle.sn_ends.proofs.FindLemmas.{never}
-use Rattle.sn_ends.proofs.HoldLemmas.{each_found}
-use Rattle.sn_ends.proofs.MoveLemmas.{account_identifier}
-use Rattle.sn_ends.proofs.RecordLemmas.{some_is}
+use Rattle.sn_ends.proofs.Facts.{IsHolder, account_identifier, each_found, first_held, holder_is, never, same_set, some_is}
 use Rattle.sn_replay.specs.DraftsShown.{AreDistinct, HasOpenRow, ShowsDrafts}
-
--- a set is the one that a device's rows stand for
-same_set : (a : Account) (number : ℕ) (owner : OwnerRow) (keys : SetRow) (set : KeySet) → owner.identifier ≡ a.identifier → (is : IsSetRow a number keys)
-    → IsSetOf owner keys set → set ≡ is.set
-same_set a number owner keys set own is of =
-    let identifier : set.params.identifier ≡ is.set.params.identifier = of.identifier ∙ own ∙ sym is.identifier in
-    let cost : set.params.pw_cost ≡ is.set.params.pw_cost = of.cost ∙ is.cost in
-    let nonce : set.params.pw_nonce ≡ is.set.params.pw_nonce = of.nonce ∙ is.nonce in
-    let params : set.params ≡ is.set.params = same_params set.params is.set.params identifier cost nonce in
-    let pw : set.pw ≡ is.set.pw = of.pw ∙ is.pw in
-    let mk : set.mk ≡ is.set.mk = of.mk ∙ is.mk in
-    let ak : set.ak ≡ is.set.ak = of.ak ∙ is.ak in
-    λ i. record { params = params i; pw = pw i; mk = mk i; ak = ak i }
 
 -- a device with an account
 pub record IsOwned (rows : Rows) (s : Ideal) (name : Bytes) : Type 0 where

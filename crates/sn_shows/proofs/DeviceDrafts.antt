@@ -19,11 +19,11 @@ use Rattle.sn_rows.specs.declared.key.Key.TheVariants as key
 use Rattle.sn_rows.specs.declared.value.Value.TheVariants as value
 use Rattle.sn_string.specs.declared.params.KeySet.{KeySet}
 use Rattle.sn_shows.specs.Sets.{OpensUnder}
-use Rattle.sn_shows.specs.Devices.{HasRow, ShowsBase, ShowsContent, ShowsDevice, ShowsDraft, ShowsDrafted, ShowsHolder, ShowsLocal, ShowsPosted, sealed_of}
+use Rattle.sn_shows.specs.Devices.{HasRow, ListsBase, ShowsBase, ShowsContent, ShowsDevice, ShowsDraft, ShowsDrafted, ShowsHolder, ShowsLocal, ShowsPosted, sealed_of}
 use Rattle.sn_shows.specs.Laws.{EditedShows, HasAccount, IsNewAt, PostedShows, PutsItem, PutsPosted, PutsSettled, SettledShows}
-use Rattle.sn_shows.proofs.DeviceItems.{IsPut, put_holder}
+use Rattle.sn_shows.proofs.DeviceItems.{IsPut, put_asks, put_holder}
 use Rattle.sn_shows.proofs.DeviceLookups.{find_changed, find_new, find_past_changed, find_past_new, find_past_without, find_without}
-use Rattle.sn_shows.proofs.DeviceStates.{draft_is, draft_passes, holder_from, holder_of, not_of_item, shows_of}
+use Rattle.sn_shows.proofs.DeviceStates.{asks_nothing, draft_is, draft_passes, holder_from, holder_of, not_of_item, shows_of}
 
 -- a new item
 
@@ -87,6 +87,7 @@ module _ (rows : Rows) (s : Ideal) (name uuid kind text : Bytes) (local : ℕ) (
       let none : draft_at s name uuid ≡ None = no_draft rows s name uuid local d a holder new in
       shows_of (rows_after rows (change ∷ [])) edit_next name d a (record { device = has.device; account = has.account })
       (put_holder rows s edit_next name d a change local p.item (new_put none new p) holder)
+      (put_asks rows s edit_next name d a change local p.item (new_put none new p) (asks_nothing rows s name d a h has))
 
 pub edited_shows : EditedShows
 edited_shows = edited_so
@@ -119,18 +120,21 @@ base_again : (a : Account) (item again : LocalItem) (base : Option ℕ) → agai
 base_again a item again None uuid kind same latest h =
     (same ∙ h.0, subst (λ (o : Option RowBody). IsSome o) (sym latest) h.1)
 base_again a item again (Some stamp) uuid kind same latest h =
+    let l : ListsBase a item stamp = h.listed in
     record {
-      version = h.version;
-      among = h.among;
-      item_is = h.item_is ∙ sym uuid;
-      kind_is = h.kind_is ∙ sym kind;
-      stamp_is = h.stamp_is;
-      strings = h.strings;
-      body_is = same ∙ h.body_is;
-      text = h.text;
-      number = h.number;
-      live = h.live;
-      opens = subst (λ (u : Bytes). OpensUnder a.sets h.number u (sealed_of h.strings) h.text) (sym uuid) h.opens;
+      listed = record {
+        version = l.version;
+        among = l.among;
+        item_is = l.item_is ∙ sym uuid;
+        kind_is = l.kind_is ∙ sym kind;
+        stamp_is = l.stamp_is;
+        strings = l.strings;
+        body_is = same ∙ l.body_is;
+        text = l.text;
+        number = l.number;
+        live = l.live;
+      };
+      opens = subst (λ (u : Bytes). OpensUnder a.sets l.number u (sealed_of l.strings) l.text) (sym uuid) h.opens;
     }
 
 module _ (rows : Rows) (s : Ideal) (name : Bytes) (local : ℕ) (item : LocalItem) (change : Change) (d : Device) (a : Account) where
@@ -195,6 +199,7 @@ module _ (rows : Rows) (s : Ideal) (name : Bytes) (local : ℕ) (item : LocalIte
       let holder : ShowsHolder rows s name d a = holder_of rows s name d a h has in
       shows_of (rows_after rows (change ∷ [])) post_next name d a (record { device = has.device; account = has.account })
       (put_holder rows s post_next name d a change local p.sent (sent_put holder stands some unsent p) holder)
+      (put_asks rows s post_next name d a change local p.sent (sent_put holder stands some unsent p) (asks_nothing rows s name d a h has))
 
 pub posted_shows : PostedShows
 posted_shows rows s name local item change h stands some unsent p =
@@ -227,3 +232,5 @@ settled_shows rows s name local item stamp d a change h has stands p =
     let holder : ShowsHolder rows s name d a = holder_of rows s name d a h has in
     shows_of (rows_after rows (change ∷ [])) (after s (Settle name item.uuid)) name d a (record { device = has.device; account = has.account })
     (put_holder rows s (after s (Settle name item.uuid)) name d a change local p.item (settled_put rows s name local item stamp d a change holder stands p) holder)
+    (put_asks rows s (after s (Settle name item.uuid)) name d a change local p.item (settled_put rows s name local item stamp d a change holder stands p)
+    (asks_nothing rows s name d a h has))

@@ -3,7 +3,7 @@ use Rattle.std.proofs.Common.{◌≡◌, ◌≢◌, ◌⊎◌, ℕ, [], ◌∷�
 use Rattle.std.specs.Prelude.{◌==◌, IsSome}
 use Rattle.std.specs.Str.{bytes_eq}
 use Rattle.std.proofs.lemmas.Bool.Decides.{eqb_tells}
-use Rattle.sn_laws.proofs.EachLemmas.{clash, same_text, text_same}
+use Rattle.sn_laws.proofs.Facts.{clash, same_text, text_same}
 use Rattle.sn_laws.specs.Lookups.{Bytes, draft_at, greatest}
 use Rattle.sn_laws.specs.declared.ideal.Account.{Account}
 use Rattle.sn_laws.specs.declared.ideal.Device.{Device}
@@ -18,7 +18,7 @@ use Rattle.sn_rows.specs.declared.key.Slot.TheVariants.{Present, Older, Asked}
 use Rattle.sn_rows.specs.declared.value.Value.{Value}
 use Rattle.sn_rows.specs.declared.value.Value.TheVariants as value
 use Rattle.sn_rows.specs.Facts.{put_elsewhere, put_or_not, put_here}
-use Rattle.sn_shows.specs.Devices.{HasRow, IsDeviceKey, ShowsHolder, ShowsLocal, ShowsOlder}
+use Rattle.sn_shows.specs.Devices.{AsksNothing, HasRow, IsDeviceKey, ShowsHolder, ShowsLocal, ShowsOlder}
 use Rattle.sn_shows.proofs.DeviceStates.{local_alike}
 
 -- the put row shows its item in the next state, the rows of other numbers are of other items, and their drafts are as before
@@ -110,9 +110,11 @@ module _ (rows : Rows) (s t : Ideal) (name : Bytes) (d : Device) (a : Account) (
         owner = record { owner = h.owner.owner; stands = away p key.Owner (λ e. cc) ∙ h.owner.stands; identifier = h.owner.identifier };
         present = record { row = h.present.row; stands = away p (key.Set Present) (λ e. cc) ∙ h.present.stands; is = h.present.is };
         older = subst (λ (found : Option Value). ShowsOlder a found d.held) (sym (away p (key.Set Older) (λ e. cc))) h.older;
-        asked = away p (key.Set Asked) (λ e. cc) ∙ h.asked;
         locals = locals p h;
         once = once p h;
         drafts = drafts p h;
         no_other = no_other p h;
       }
+
+  pub put_asks : IsPutHere → AsksNothing rows → AsksNothing later
+  put_asks p none = away p (key.Set Asked) (λ e. cc) ∙ none

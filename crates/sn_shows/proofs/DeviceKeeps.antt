@@ -1,7 +1,7 @@
 -- A device's moves leave what the rows of every other device show.
 use Rattle.std.proofs.Common.{◌≡◌, ◌≢◌, ℕ, List, [], ◌∷◌, ◌++◌, Option, Some, None, refl}
 use Rattle.std.specs.Prelude.{find}
-use Rattle.sn_laws.proofs.EachLemmas.{same_text}
+use Rattle.sn_laws.proofs.Facts.{same_text}
 use Rattle.sn_laws.specs.Lookups.{Bytes, device_named, draft_at, greatest, held_by, is_device, is_draft}
 use Rattle.sn_laws.specs.Moves.{after, edited, joined, posted_under}
 use Rattle.sn_laws.specs.declared.ideal.Content.TheVariants.{Plain}

@@ -2,7 +2,7 @@
 use Rattle.std.proofs.Common.{◌≡◌, ◌≢◌, ℕ, [], ◌∷◌, Option, Some, None, refl, sym, ap, ◌∙◌, subst, ⊎_elim, arith}
 use Rattle.std.specs.Prelude.{IsSome, find}
 use Rattle.std.proofs.lemmas.Bool.Decides.{nat_tests}
-use Rattle.sn_laws.proofs.EachLemmas.{text_same}
+use Rattle.sn_laws.proofs.Facts.{text_same}
 use Rattle.sn_laws.specs.Lookups.{Bytes, device_named, draft_at, greatest, is_device}
 use Rattle.sn_laws.specs.Moves.{after, joined}
 use Rattle.sn_laws.specs.declared.ideal.Account.{Account}
@@ -20,7 +20,7 @@ use Rattle.sn_rows.specs.Facts.{first_put, neither_put, put_elsewhere, put_or_no
 use Rattle.sn_shows.specs.Devices.{HasRow, IsDeviceKey, IsSetRow, ShowsDevice, ShowsDeviceAs, ShowsHolder, ShowsNothing, ShowsOlder}
 use Rattle.sn_shows.specs.Laws.{JoinedShows, PutsOwner, PutsTokens, TokensShow}
 use Rattle.sn_shows.proofs.DeviceLookups.{find_new}
-use Rattle.sn_shows.proofs.DeviceStates.{holder_of, shows_of}
+use Rattle.sn_shows.proofs.DeviceStates.{asks_nothing, holder_of, shows_of}
 
 -- the account's row put again
 
@@ -33,7 +33,6 @@ tokens_holder rows s name d a change h p =
       owner = record { owner = p.row; stands = put_here rows change key.Owner (value.Owner p.row) p.puts; identifier = p.identifier };
       present = record { row = h.present.row; stands = away (key.Set Present) (λ e. cc) ∙ h.present.stands; is = h.present.is };
       older = subst (λ (found : Option Value). ShowsOlder a found d.held) (sym (away (key.Set Older) (λ e. cc))) h.older;
-      asked = away (key.Set Asked) (λ e. cc) ∙ h.asked;
       locals = λ number item e. h.locals number item (sym (away (key.Local number) (λ k. cc)) ∙ e);
       once = λ number other item twin e k. h.once number other item twin (sym (away (key.Local number) (λ x. cc)) ∙ e) (sym (away (key.Local other) (λ x. cc)) ∙ k);
       drafts = λ uuid draft e.
@@ -49,6 +48,7 @@ tokens_holder rows s name d a change h p =
 pub tokens_show : TokensShow
 tokens_show rows s name d a change h has p =
     shows_of (rows_after rows (change ∷ [])) s name d a has (tokens_holder rows s name d a change (holder_of rows s name d a h has) p)
+    (put_elsewhere rows change key.Owner (key.Set Asked) (value.Owner p.row) p.puts (λ e. cc) ∙ asks_nothing rows s name d a h has)
 
 -- the first set
 
@@ -79,7 +79,6 @@ joined_holder rows s name identifier number a owner present h p =
         is = subst (λ (n : ℕ). IsSetRow a n p.set) (sym (greatest_one number)) p.set_is;
       };
       older = away (key.Set Older) (λ e. cc) (λ e. cc);
-      asked = away (key.Set Asked) (λ e. cc) (λ e. cc);
       locals = λ local item e. let none = away (key.Local local) (λ k. cc) (λ k. cc) in absurd (cc);
       once = λ local other item twin e. let none = away (key.Local local) (λ k. cc) (λ k. cc) in absurd (cc);
       drafts = λ uuid draft e. let none : draft_at s name uuid ≡ None = h.no_draft uuid in absurd (cc);
@@ -105,3 +104,5 @@ joined_shows rows s name identifier number a owner present h new named p =
     shows_of (rows_after rows (owner ∷ present ∷ [])) (after s (Join name identifier number)) name d a
     (record { device = device; account = named })
     (joined_holder rows s name identifier number a owner present (nothing_of rows s name h new) p)
+    (neither_put rows owner present key.Owner (key.Set Present) (key.Set Asked) (value.Owner p.row) (value.Set p.set) p.owner_puts p.present_puts
+    (λ e. cc) (λ e. cc) ∙ (nothing_of rows s name h new).none (key.Set Asked))

@@ -2,7 +2,7 @@
 use Rattle.std.proofs.Common.{◌≡◌, ◌≢◌, ℕ, Option, Some, None, true, false, refl, sym, ◌∙◌, subst}
 use Rattle.std.specs.Str.{bytes_eq}
 use Rattle.std.proofs.lemmas.Bool.{and_parts}
-use Rattle.sn_laws.proofs.EachLemmas.{and_both, is_false, same_text, text_same}
+use Rattle.sn_laws.proofs.Facts.{and_both, is_false, same_text, text_same}
 use Rattle.sn_laws.specs.Lookups.{Bytes, account_named, device_named, draft_at, greatest, is_device, is_draft}
 use Rattle.sn_laws.specs.declared.ideal.Account.{Account}
 use Rattle.sn_laws.specs.declared.ideal.Device.{Device}
@@ -12,7 +12,7 @@ use Rattle.sn_rows.specs.Table.{Rows}
 use Rattle.sn_rows.specs.declared.device_rows.LocalItem.{LocalItem}
 use Rattle.sn_rows.specs.declared.key.Key.{Key}
 use Rattle.sn_rows.specs.declared.value.Value.{Value}
-use Rattle.sn_shows.specs.Devices.{ShowsDevice, ShowsDeviceAs, ShowsDrafted, ShowsHolder, ShowsLocal}
+use Rattle.sn_shows.specs.Devices.{AsksNothing, ShowsDevice, ShowsDeviceAs, ShowsDrafted, ShowsHolder, ShowsLocal}
 use Rattle.sn_shows.specs.Laws.{HasAccount}
 
 -- a draft passes for its own device and item
@@ -53,7 +53,6 @@ holder_alike rows s t name d a same h =
       owner = h.owner;
       present = h.present;
       older = h.older;
-      asked = h.asked;
       locals = λ number item e. local_alike s t name (greatest 0 d.held) a item (same item.uuid) (h.locals number item e);
       once = h.once;
       drafts = λ uuid draft e. h.drafts uuid draft (sym (same uuid) ∙ e);
@@ -68,7 +67,7 @@ shows_alike rows s t name device accounts same h =
   where
     at : (found : Option Device) → ShowsDeviceAs rows s name found → ShowsDeviceAs rows t name found
     at None shown = record { none = shown.none; no_draft = λ uuid. same uuid ∙ shown.no_draft uuid }
-    at (Some d) shown = (shown.0, accounts d.account ∙ shown.1, holder_alike rows s t name d shown.0 same shown.2)
+    at (Some d) shown = (shown.0, accounts d.account ∙ shown.1, holder_alike rows s t name d shown.0 same shown.2, shown.3)
 
 -- between the rows of a device and those of a device that has an account
 
@@ -80,9 +79,14 @@ holder_of rows s name d a h has =
     let same : shown.0 ≡ a = cc in
     subst (λ (b : Account). ShowsHolder rows s name d b) same shown.2
 
-pub shows_of : (rows : Rows) (t : Ideal) (name : Bytes) (d : Device) (a : Account) → HasAccount t name d a → ShowsHolder rows t name d a → ShowsDevice rows t name
-shows_of rows t name d a has h =
-    subst (λ (found : Option Device). ShowsDeviceAs rows t name found) (sym has.device) (a, has.account, h)
+pub shows_of : (rows : Rows) (t : Ideal) (name : Bytes) (d : Device) (a : Account) → HasAccount t name d a → ShowsHolder rows t name d a → AsksNothing rows → ShowsDevice rows t name
+shows_of rows t name d a has h none =
+    subst (λ (found : Option Device). ShowsDeviceAs rows t name found) (sym has.device) (a, has.account, h, none)
+
+pub asks_nothing : (rows : Rows) (s : Ideal) (name : Bytes) (d : Device) (a : Account) → ShowsDevice rows s name → HasAccount s name d a → AsksNothing rows
+asks_nothing rows s name d a h has =
+    let shown : ShowsDeviceAs rows s name (Some d) = subst (λ (found : Option Device). ShowsDeviceAs rows s name found) has.device h in
+    shown.3
 
 -- a device that has a row has an account
 pub holder_from : (rows : Rows) (s : Ideal) (name : Bytes) (key : Key) (v : Value) → ShowsDevice rows s name → rows key ≡ Some v

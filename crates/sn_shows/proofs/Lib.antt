@@ -4,6 +4,7 @@ pub mod DeviceKeeps
 pub mod DeviceLookups
 pub mod DeviceOwners
 pub mod DeviceStates
+pub mod Facts
 pub mod ServersAccept
 pub mod ServersApart
 pub mod ServersKeep

@@ -11,9 +11,7 @@ use Rattle.sn_laws.specs.declared.moves.Move.TheVariants.{Accept}
 use Rattle.sn_laws.specs.Lookups.{Bytes, account_of, draft_at, is_account, is_draft, last_of}
 use Rattle.sn_laws.specs.Moves.{accepted, after, allows, changed_where, version_of}
 use Rattle.sn_laws.specs.Relation.{IsOnLast, MayAccept}
-use Rattle.sn_laws.proofs.EachLemmas.{clash, found_passes, same_text, text_same}
-use Rattle.sn_laws.proofs.RelatedLemmas.{allowed_from, one_there}
-use Rattle.sn_laws.proofs.StampLemmas.{stands}
+use Rattle.sn_laws.proofs.Facts.{allowed_from, clash, found_passes, one_there, same_text, stands, text_same}
 use Rattle.sn_rows.specs.Table.{Rows, rows_after, same_key}
 use Rattle.sn_rows.specs.declared.change.Change.{Change}
 use Rattle.sn_rows.specs.declared.key.Key.{Key}

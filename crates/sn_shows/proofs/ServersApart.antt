@@ -12,7 +12,7 @@ use Rattle.sn_laws.specs.Lookups.{Bytes, account_of, draft_at, empty, is_account
 use Rattle.sn_laws.specs.Moves.{accepted, after, allows, changed_where, registered, version_of}
 use Rattle.sn_laws.specs.Relation.{MayRegister}
 use Rattle.sn_laws.specs.Runs.{Legal, LegalFrom, end, end_from}
-use Rattle.sn_laws.proofs.RelatedLemmas.{allowed_from}
+use Rattle.sn_laws.proofs.Facts.{allowed_from}
 use Rattle.sn_string.specs.declared.params.KeySet.{KeySet}
 use Rattle.sn_shows.specs.Servers.{account_at}
 use Rattle.sn_shows.specs.Laws.{AreApart}

@@ -10,7 +10,7 @@ use Rattle.sn_laws.specs.declared.ideal.Version.{Version}
 use Rattle.sn_laws.specs.declared.moves.Move.TheVariants.{Register, Accept}
 use Rattle.sn_laws.specs.Lookups.{Bytes, account_named, account_of, device_named, draft_at, greatest, is_account}
 use Rattle.sn_laws.specs.Moves.{accepted, after, allows, changed_where, version_of}
-use Rattle.sn_laws.proofs.KeptLemmas.{find_before}
+use Rattle.sn_laws.proofs.Facts.{find_before}
 use Rattle.sn_rows.specs.Table.{Rows}
 use Rattle.sn_rows.specs.declared.device_rows.LocalItem.{LocalItem}
 use Rattle.sn_rows.specs.declared.key.Key.TheVariants as key
@@ -18,7 +18,7 @@ use Rattle.sn_rows.specs.declared.key.Slot.TheVariants.{Older}
 use Rattle.sn_rows.specs.declared.device_rows.SetRow.{SetRow}
 use Rattle.sn_rows.specs.declared.value.Value.{Value}
 use Rattle.sn_string.specs.declared.params.KeySet.{KeySet}
-use Rattle.sn_shows.specs.Devices.{IsBase, IsSetRow, ShowsBase, ShowsDevice, ShowsDeviceAs, ShowsHolder, ShowsLocal, ShowsOlder}
+use Rattle.sn_shows.specs.Devices.{IsBase, IsSetRow, ListsBase, ShowsBase, ShowsDevice, ShowsDeviceAs, ShowsHolder, ShowsLocal, ShowsOlder}
 use Rattle.sn_shows.proofs.ServersLists.{more}
 use Rattle.sn_shows.proofs.ServersRegister.{new_account}
 
@@ -29,17 +29,20 @@ module _ (a : Account) (versions : List Version) (kept : (v : Version) → One (
 
   base_kept : (item : LocalItem) (stamp : ℕ) → IsBase a item stamp → IsBase grown item stamp
   base_kept item stamp h =
+      let l : ListsBase a item stamp = h.listed in
       record {
-        version = h.version;
-        among = kept h.version h.among;
-        item_is = h.item_is;
-        kind_is = h.kind_is;
-        stamp_is = h.stamp_is;
-        strings = h.strings;
-        body_is = h.body_is;
-        text = h.text;
-        number = h.number;
-        live = h.live;
+        listed = record {
+          version = l.version;
+          among = kept l.version l.among;
+          item_is = l.item_is;
+          kind_is = l.kind_is;
+          stamp_is = l.stamp_is;
+          strings = l.strings;
+          body_is = l.body_is;
+          text = l.text;
+          number = l.number;
+          live = l.live;
+        };
         opens = h.opens;
       }
 
@@ -65,7 +68,6 @@ module _ (a : Account) (versions : List Version) (kept : (v : Version) → One (
         owner = record { owner = h.owner.owner; stands = h.owner.stands; identifier = h.owner.identifier };
         present = record { row = h.present.row; stands = h.present.stands; is = set_kept (greatest 0 d.held) h.present.row h.present.is };
         older = older_kept (rows (key.Set Older)) d.held h.older;
-        asked = h.asked;
         locals = λ number item at.
             let shown : ShowsLocal s name (greatest 0 d.held) a item = h.locals number item at in
             record { draft = shown.draft; base = stands_kept item item.base shown.base };
@@ -86,7 +88,7 @@ device_kept : (rows : Rows) (s : Ideal) (accounts : List Account) (name : Bytes)
 device_kept rows s accounts name None found h = record { none = h.none; no_draft = h.no_draft }
 device_kept rows s accounts name (Some d) found h =
     let next : Found (find (is_account d.account) accounts) h.0 = found d.account h.0 h.1 in
-    (record h.0 { versions = next.versions }, next.is, holder_kept h.0 next.versions next.kept rows s accounts name d h.2)
+    (record h.0 { versions = next.versions }, next.is, holder_kept h.0 next.versions next.kept rows s accounts name d h.2, h.3)
 
 found_same : (found : Option Account) (a : Account) → found ≡ Some a → Found found a
 found_same found a e = record { versions = a.versions; is = e; kept = λ v h. h }

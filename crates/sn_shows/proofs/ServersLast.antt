@@ -12,9 +12,7 @@ use Rattle.sn_laws.specs.declared.moves.Move.TheVariants.{Accept}
 use Rattle.sn_laws.specs.Lookups.{Bytes, draft_at, greatest, is_account}
 use Rattle.sn_laws.specs.Moves.{accepted, after, allows, changed_where, version_of}
 use Rattle.sn_laws.specs.Relation.{MayAccept}
-use Rattle.sn_laws.proofs.EachLemmas.{clash, is_below, text_same}
-use Rattle.sn_laws.proofs.RelatedLemmas.{allowed_from}
-use Rattle.sn_laws.proofs.StampLemmas.{among}
+use Rattle.sn_laws.proofs.Facts.{allowed_from, among, clash, is_below, text_same}
 use Rattle.sn_shows.specs.Servers.{stamps_in}
 use Rattle.sn_shows.specs.Laws.{AreApart}
 use Rattle.sn_shows.proofs.ServersLists.{more}

@@ -10,7 +10,7 @@ use Rattle.sn_laws.specs.declared.ideal.Version.{Version}
 use Rattle.sn_laws.specs.declared.ideal.Account.{Account}
 use Rattle.sn_laws.specs.Lookups.{Bytes, is_of, last_of}
 use Rattle.sn_laws.specs.Moves.{changed_where}
-use Rattle.sn_laws.proofs.EachLemmas.{is_false, same_text, text_same}
+use Rattle.sn_laws.proofs.Facts.{is_false, same_text, text_same}
 use Rattle.sn_shows.specs.Servers.{account_at, first_of}
 
 -- a list with one element more

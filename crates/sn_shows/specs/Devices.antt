@@ -59,9 +59,8 @@ abbrev pub ShowsDrafted : List KeySet → ℕ → LocalItem → Option Draft →
 ShowsDrafted sets number item None = (item.latest ≡ None) × (item.posted ≡ None)
 ShowsDrafted sets number item (Some draft) = ShowsDraft sets number item draft
 
--- the version that a row stands on is an undeleted one of its item, type and stamp in the account, and its body opens to that
--- version's content under the version's set
-pub record IsBase (a : Account) (item : LocalItem) (stamp : ℕ) : Type 0 where
+-- the version that a row stands on is an undeleted one of its item, type and stamp in the account; the row has its strings
+pub record ListsBase (a : Account) (item : LocalItem) (stamp : ℕ) : Type 0 where
   pub version : Version
   pub among : One (λ v. v ≡ version) a.versions
   pub item_is : version.uuid ≡ item.uuid
@@ -72,7 +71,11 @@ pub record IsBase (a : Account) (item : LocalItem) (stamp : ℕ) : Type 0 where
   pub text : Bytes
   pub number : ℕ
   pub live : version.body ≡ Under text number
-  pub opens : OpensUnder a.sets number item.uuid (sealed_of strings) text
+
+-- and these open to the version's content under its set
+pub record IsBase (a : Account) (item : LocalItem) (stamp : ℕ) : Type 0 where
+  pub listed : ListsBase a item stamp
+  pub opens : OpensUnder a.sets listed.number item.uuid (sealed_of listed.strings) listed.text
 
 abbrev pub ShowsBase : Account → LocalItem → Option ℕ → Type 0
 ShowsBase a item None = (item.body ≡ None) × IsSome item.latest
@@ -94,8 +97,7 @@ pub record IsSetRow (a : Account) (number : ℕ) (row : SetRow) : Type 0 where
   pub mk : row.mk ≡ set.mk
   pub ak : row.ak ≡ set.ak
 
--- the sets in the three slots are those held: the greatest is present, one before it is the older one, and while a device's sets
--- are shown none is asked for
+-- the sets in the first two slots are those held: the greatest is present, one before it is the older one
 abbrev pub ShowsOlder : Account → Option Value → List ℕ → Type 0
 ShowsOlder a found (older ∷ present ∷ []) = (row : SetRow) × (found ≡ Some (value.Set row)) × IsSetRow a older row
 ShowsOlder a found held = found ≡ None
@@ -134,12 +136,15 @@ pub record ShowsHolder (rows : Rows) (s : Ideal) (name : Bytes) (d : Device) (a 
   pub owner : ShowsOwner rows a
   pub present : ShowsPresent rows a (greatest 0 d.held)
   pub older : ShowsOlder a (rows (key.Set Older)) d.held
-  pub asked : rows (key.Set Asked) ≡ None
   pub locals : (number : ℕ) (item : LocalItem) → rows (key.Local number) ≡ Some (value.Local item) → ShowsLocal s name (greatest 0 d.held) a item
   pub once : (number other : ℕ) (item twin : LocalItem) → rows (key.Local number) ≡ Some (value.Local item) → rows (key.Local other) ≡ Some (value.Local twin)
       → item.uuid ≡ twin.uuid → number ≡ other
   pub drafts : (uuid : Bytes) (draft : Draft) → draft_at s name uuid ≡ Some draft → HasRow rows uuid
   pub no_other : (key : Key) → IsSome (rows key) → IsDeviceKey key
+
+-- no set is asked for
+abbrev pub AsksNothing : Rows → Type 0
+AsksNothing rows = rows (key.Set Asked) ≡ None
 
 -- a device without an account has no rows and no drafts
 pub record ShowsNothing (rows : Rows) (s : Ideal) (name : Bytes) : Type 0 where
@@ -148,7 +153,7 @@ pub record ShowsNothing (rows : Rows) (s : Ideal) (name : Bytes) : Type 0 where
 
 abbrev pub ShowsDeviceAs : Rows → Ideal → Bytes → Option Device → Type 0
 ShowsDeviceAs rows s name None = ShowsNothing rows s name
-ShowsDeviceAs rows s name (Some d) = (a : Account) × (account_named s d.account ≡ Some a) × ShowsHolder rows s name d a
+ShowsDeviceAs rows s name (Some d) = (a : Account) × (account_named s d.account ≡ Some a) × ShowsHolder rows s name d a × AsksNothing rows
 
 -- a device's rows
 abbrev pub ShowsDevice : Rows → Ideal → Bytes → Type 0

@@ -3,7 +3,7 @@ use Rattle.std.specs.BTreeMap.{get}
 use Rattle.std.specs.Ordering.{nat_cmp}
 use Rattle.sn_report.specs.Showing.{item_text}
 use Rattle.sn_rows.specs.Table.{rows_of_batches}
-use Rattle.sn_ends.proofs.FindLemmas.{never, one_found}
+use Rattle.sn_ends.proofs.Facts.{never, one_found}
 use Rattle.sn_replay.proofs.AccountLines.{IsRowOf, item_absent, item_added_on, line_of, row_of, row_set}
 use Rattle.sn_replay.proofs.accounts_shown.add_item.Goals as goal
 

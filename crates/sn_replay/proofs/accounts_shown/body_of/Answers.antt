@@ -4,7 +4,7 @@ use Rattle.std.specs.Ordering.{nat_cmp}
 use Rattle.sn_laws.specs.Lookups.{Bytes}
 use Rattle.sn_laws.specs.declared.ideal.Body.{Body}
 use Rattle.sn_laws.specs.declared.ideal.Body.TheVariants.{Under}
-use Rattle.sn_ends.proofs.FindLemmas.{never, one_found}
+use Rattle.sn_ends.proofs.Facts.{never, one_found}
 use Rattle.sn_replay.proofs.ContentLemmas.{IsContent, content_of, the_set}
 use Rattle.sn_replay.proofs.accounts_shown.body_of.Goals as goal
 

@@ -1,0 +1,12 @@
+-- The facts on which the crates above may stand, beside the laws.
+pub use Rattle.sn_shows.proofs.DeviceDrafts.{edited_shows, posted_shows, settled_shows}
+pub use Rattle.sn_shows.proofs.DeviceKeeps.{edit_keeps, join_keeps, post_keeps, settle_keeps}
+pub use Rattle.sn_shows.proofs.DeviceLookups.{find_new, find_past_new}
+pub use Rattle.sn_shows.proofs.DeviceOwners.{joined_shows, tokens_show}
+pub use Rattle.sn_shows.proofs.DeviceStates.{holder_of, not_device}
+pub use Rattle.sn_shows.proofs.ServersAccept.{accepted_shows}
+pub use Rattle.sn_shows.proofs.ServersApart.{one_at}
+pub use Rattle.sn_shows.proofs.ServersKeep.{accept_keeps, register_keeps}
+pub use Rattle.sn_shows.proofs.ServersLast.{accepted_last}
+pub use Rattle.sn_shows.proofs.ServersRegister.{new_account, registered_shows}
+pub use Rattle.sn_shows.proofs.ServersStore.{store_shows}
