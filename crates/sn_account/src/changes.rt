@@ -18,11 +18,7 @@ pub(crate) fn put_store(row: StoreRow) -> Change
     })
 }
 
-pub(crate) fn put_account(
-    alloc: Global,
-    number: u64,
-    row: AccountRow,
-) -> Result<Change, AllocError>
+pub(crate) fn put_account(alloc: Global, number: u64, row: AccountRow) -> Result<Change, AllocError>
     ensures { IfOk result (λ change. Puts change (key.Account number) (value.Account row)) }
 {
     let value = Value::Account(Boxed::of(alloc, row)?);

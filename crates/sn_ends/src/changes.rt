@@ -22,11 +22,7 @@ pub(crate) fn put_store(row: StoreRow) -> Change
     })
 }
 
-pub(crate) fn put_account(
-    alloc: Global,
-    number: u64,
-    row: AccountRow,
-) -> Result<Change, AllocError>
+pub(crate) fn put_account(alloc: Global, number: u64, row: AccountRow) -> Result<Change, AllocError>
     ensures { IfOk result (λ change. Puts change (key.Account number) (value.Account row)) }
 {
     let value = Value::Account(Boxed::of(alloc, row)?);
@@ -74,11 +70,7 @@ pub(crate) fn put_present(alloc: Global, row: SetRow) -> Result<Change, AllocErr
     }))
 }
 
-pub(crate) fn put_local(
-    alloc: Global,
-    number: u64,
-    row: LocalItem,
-) -> Result<Change, AllocError>
+pub(crate) fn put_local(alloc: Global, number: u64, row: LocalItem) -> Result<Change, AllocError>
     ensures { IfOk result (λ change. Puts change (key.Local number) (value.Local row)) }
 {
     let value = Value::Local(Boxed::of(alloc, row)?);

@@ -103,6 +103,7 @@ pub struct SetRow {
     pub ak: [u8; 32],
     pub ghost cost_fits: { 1 ≤ pw_cost },
     pub ghost nonce_fits: { IsTrue (is_nonce pw_nonce) },
+    pub ghost cost_bounded: { pw_cost ≤ 4294967295 },
 }
 
 impl SetRow {

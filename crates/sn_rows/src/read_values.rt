@@ -12,7 +12,8 @@ use crate::boxed::Boxed;
 use crate::device_rows::{LocalItem, OwnerRow, SetRow};
 use crate::error::RowError;
 use crate::fields::{
-    array_of, base_of, body_of, cost_of, flag_of, stamp_of, str_of, text_of, token_of, type_of, u64_of,
+    array_of, base_of, body_of, cost_of, flag_of, stamp_of, str_of, text_of, token_of, type_of,
+    u64_of,
 };
 use crate::kind::RowKind;
 use crate::server_rows::{AccountRow, GenerationRow, ItemRow, StoreRow};

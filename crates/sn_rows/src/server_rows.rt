@@ -95,6 +95,7 @@ pub struct GenerationRow {
     pub pw_nonce: Text,
     pub ghost cost_fits: { 1 ≤ pw_cost },
     pub ghost nonce_fits: { IsTrue (is_nonce pw_nonce) },
+    pub ghost cost_bounded: { pw_cost ≤ 4294967295 },
 }
 
 impl GenerationRow {
@@ -152,19 +153,19 @@ impl Model for ItemRow {
     ghost Value = { ItemColumns };
 
     ghost view = { λ r. record {
-        account = r.account;
-        kind = kind_in r.kind_len (string_bytes r.texts);
-        created = r.created;
-        updated = r.updated;
-        deleted = r.deleted;
-        content = content_in r.kind_len r.content_len (string_bytes r.texts);
-        enc = enc_in r.kind_len r.content_len (string_bytes r.texts);
-        kind_fits = r.kind_fits;
-        kind_stands = r.kind_stands;
-        created_fits = r.created_fits;
-        updated_fits = r.updated_fits;
-        content_fits = r.content_fits;
-        enc_fits = r.enc_fits
+      account = r.account;
+      kind = kind_in r.kind_len (string_bytes r.texts);
+      created = r.created;
+      updated = r.updated;
+      deleted = r.deleted;
+      content = content_in r.kind_len r.content_len (string_bytes r.texts);
+      enc = enc_in r.kind_len r.content_len (string_bytes r.texts);
+      kind_fits = r.kind_fits;
+      kind_stands = r.kind_stands;
+      created_fits = r.created_fits;
+      updated_fits = r.updated_fits;
+      content_fits = r.content_fits;
+      enc_fits = r.enc_fits;
     } };
 }
 
