@@ -14,3 +14,9 @@ pub mod Room
 pub mod States
 pub mod Laws
 pub mod RuleLaws
+pub mod RuleUnique
+pub mod RuleBatch
+pub mod RuleTotal
+pub mod AnswerSize
+pub mod Tells
+pub mod AccountTells

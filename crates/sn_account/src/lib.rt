@@ -2,6 +2,7 @@
 #![tactic(auto)]
 
 pub mod accounts;
+pub mod answer_laws;
 pub mod answering;
 mod bounds;
 mod changes;
