@@ -5,6 +5,8 @@ mod handling;
 mod reply;
 mod routing;
 mod server;
+mod serving;
 
 pub use handling::Handled;
 pub use server::Server;
+pub use serving::{Ended, Session};
