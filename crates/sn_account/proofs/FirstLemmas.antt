@@ -1,5 +1,5 @@
 -- The rows of a server without accounts are sound.
-use Rattle.std.proofs.Common.{arith, ap, sym, subst, ◌≡◌, ◌∙◌, List, [], ◌∷◌, Some, Result, IfOk}
+use Rattle.std.proofs.Common.{arith, ap, sym, subst, ◌≡◌, ◌∙◌, ℕ, List, [], ◌∷◌, Some, Result, Ok, Err, IfOk}
 use Rattle.std.proofs.lemmas.Result.{IfOk-weaker}
 use Rattle.sn_rows.specs.Kinds.{key_kind, value_kind}
 use Rattle.sn_rows.specs.Table.{Rows, rows_after}
@@ -10,12 +10,8 @@ use Rattle.sn_rows.specs.declared.server_rows.StoreRow.{StoreRow}
 use Rattle.sn_rows.specs.declared.value.Value.{Value}
 use Rattle.sn_rows.specs.declared.value.Value.TheVariants as value
 use Rattle.sn_account.specs.Sound.{IsSound}
-use Rattle.sn_account.specs.States.{listed, state_rows}
+use Rattle.sn_account.specs.States.{first_rows, listed, state_rows}
 use Rattle.sn_account.specs.declared.state.State.{State}
-
--- the store's row is the only one
-abbrev pub first_rows : StoreRow → Rows
-first_rows store = listed ((key.Store, value.Store store) ∷ [])
 
 -- its kind is its key's
 first_kinds : (store : StoreRow) (k : Key) (v : Value) → first_rows store k ≡ Some v → key_kind k ≡ value_kind v
@@ -40,6 +36,7 @@ first_sound rows store none are = record {
   params = λ n g a is from to. (let no : first_rows store (key.Account n) ≡ Some (value.Account a) = sym (are (key.Account n)) ∙ is in cc);
   no_more = λ n g v is. (let no : first_rows store (key.Generation n g) ≡ Some v = sym (are (key.Generation n g)) ∙ is in cc);
   fresh = λ n g h r s is other same. (let no : first_rows store (key.Generation n g) ≡ Some (value.Generation r) = sym (are (key.Generation n g)) ∙ is in cc);
+  named = λ u i is. (let no : first_rows store (key.Item u) ≡ Some (value.Item i) = sym (are (key.Item u)) ∙ is in cc);
   owned = λ u i is. (let no : first_rows store (key.Item u) ≡ Some (value.Item i) = sym (are (key.Item u)) ∙ is in cc);
   items = λ u i is. (let no : first_rows store (key.Item u) ≡ Some (value.Item i) = sym (are (key.Item u)) ∙ is in cc);
   stamps = λ u w i j is other same. (let no : first_rows store (key.Item u) ≡ Some (value.Item i) = sym (are (key.Item u)) ∙ is in cc);
@@ -59,3 +56,12 @@ pub sound_after : (rows middle other : Rows) (changes : List Change) → IsSound
 sound_after rows middle other changes s marked kept =
     let same : rows_after rows changes ≡ other = λ i k. sym (kept k ∙ marked k) i in
     subst IsSound same s
+
+-- it has that row alone
+pub alone_state : {E : Type 0} (secret : List ℕ) (store : StoreRow) (rows : List (Key × Value)) (result : Result State E) → store.secret ≡ secret
+    → store.last ≡ 0 → store.accounts ≡ 0 → rows ≡ (key.Store, value.Store store) ∷ [] → IfOk result (λ state. (k : Key) → state_rows state k ≡ listed rows k)
+    → IfOk result (λ state. (row : StoreRow) × (row.secret ≡ secret) × (row.last ≡ 0) × (row.accounts ≡ 0)
+    × ((k : Key) → state_rows state k ≡ first_rows row k))
+alone_state secret store rows (Ok state) secret_is last none is are =
+    (store, secret_is, last, none, λ k. are k ∙ ap (λ (r : List (Key × Value)). listed r k) is)
+alone_state secret store rows (Err e) secret_is last none is are = tt

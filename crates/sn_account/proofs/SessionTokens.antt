@@ -24,7 +24,7 @@ around_colon secret uuid g =
     append_assoc uuid (codes ".") (encode_lower (hmac_sha256 secret (uuid ++ codes ":" ++ decimal g)))
     ∙ ap (λ (signed : List ℕ). uuid ++ 46 ∷ encode_lower (hmac_sha256 secret signed)) (append_assoc uuid (codes ":") (decimal g))
 
-session_token-parts : (secret : List ℕ) (n g : ℕ) → session_token secret n g ≡ uuid_text (account_uuid n) ++ 46 ∷ encode_lower (hmac_sha256 secret (uuid_text (account_uuid n) ++ 58 ∷ decimal g))
+pub session_token-parts : (secret : List ℕ) (n g : ℕ) → session_token secret n g ≡ uuid_text (account_uuid n) ++ 46 ∷ encode_lower (hmac_sha256 secret (uuid_text (account_uuid n) ++ 58 ∷ decimal g))
 unfolding session_token
 session_token-parts secret n g = around_colon secret (uuid_text (account_uuid n)) g
 
@@ -65,7 +65,7 @@ IsUuidText-front text front n h e =
     let cut = ap (take 36) h.is ∙ take_at (uuid_text (account_uuid n)) (46 ∷ h.rest) 36 (length-uuid_text (account_uuid n)) in
     subst (λ (t : List ℕ). IsUuidText t (account_uuid n)) (sym (e ∙ cut)) (IsUuidText-account n)
 
-same_uuid : (text a b : List ℕ) → IsUuidText text a → IsUuidText text b → a ≡ b
+pub same_uuid : (text a b : List ℕ) → IsUuidText text a → IsUuidText text b → a ≡ b
 same_uuid text a b h k = ap (λ (o : Option (List ℕ)). unwrap_or o []) (parsed-spelled text a h ∙ sym (parsed-spelled text b k))
 
 -- and no other

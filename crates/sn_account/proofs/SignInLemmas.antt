@@ -20,10 +20,10 @@ is_named : (rows : Rows) (identifier : Bytes) (n : ℕ) (account : AccountRow) �
 is_named rows identifier n account named has = ap (λ (a : AccountRow). a.identifier) (one_account rows n account named.0 has named.1) ∙ named.2
 
 -- another check value
-pub rejects : {E : Type 0} (rows : Rows) (store : StoreRow) (identifier pw : Bytes) (n : ℕ) (account : AccountRow) (same : Bool) (result : Result Answer E)
+pub rejects : (rows : Rows) (store : StoreRow) (identifier pw : Bytes) (n : ℕ) (account : AccountRow) (same : Bool) (given : Answer)
     → IsNamed rows identifier n → HasAccount rows n account → IsTrue same ↔ (account.check ≡ check_value pw) → same ≡ false
-    → IfOk result (λ given. given ≡ answer.Refused 401 (codes "bad-auth") more.Nothing) → IfOk result (SignsIn rows store identifier pw)
-rejects rows store identifier pw n account same result named has tells not refused =
+    → given ≡ answer.Refused 401 (codes "bad-auth") more.Nothing → SignsIn rows store identifier pw given
+rejects rows store identifier pw n account same given named has tells not refused =
     let apart : account.check ≢ check_value pw = λ is. (let wrong : same ≡ true = tells.1 is in cc) in
     let why : Rejects rows identifier pw = record {
       n = n;
@@ -32,8 +32,7 @@ rejects rows store identifier pw n account same result named has tells not refus
       named = is_named rows identifier n account named has;
       check = apart;
     } in
-    IfOk-weaker result (λ (given : Answer). given ≡ answer.Refused 401 (codes "bad-auth") more.Nothing) (SignsIn rows store identifier pw)
-    (λ given is. inr (inl (why, is))) refused
+    inr (inl (why, refused))
 
 -- the account's
 pub admits : {E : Type 0} (rows : Rows) (store row : StoreRow) (identifier pw : Bytes) (n : ℕ) (account : AccountRow) (same : Bool) (result : Result Answer E)

@@ -12,6 +12,7 @@ use Rattle.sn_rows.specs.declared.server_rows.StoreRow.{StoreRow}
 use Rattle.sn_rows.specs.declared.value.Value.{Value}
 use Rattle.sn_rows.specs.declared.value.Value.TheVariants as value
 use Rattle.sn_rows.specs.Facts.{keys_compare}
+use Rattle.sn_sync.specs.Laws.{AreBytes}
 use Rattle.sn_account.specs.Lookups.{Bytes, HasAccount, HasGeneration, HasItem}
 use Rattle.sn_account.specs.Sound.{IsSound, IsSoundItem, most_accounts, most_generations}
 use Rattle.sn_account.proofs.SoundSteps.{Steps, account_row, account_was, earlier_generation, generation_was, item_was, other_account, other_generation, own_account}
@@ -157,14 +158,17 @@ module _ (rows now : Rows) (s : IsSound rows) (store : StoreRow) (n : ℕ) (row 
   old_item : (u : Bytes) (i : ItemRow) → HasItem now u i → HasItem rows u i
   old_item u i h = sym (item_was rows now store n row made t u) ∙ h
 
+  named_kept : (u : Bytes) (i : ItemRow) → HasItem now u i → AreBytes 16 u
+  named_kept u i h = s.named u i (old_item u i h)
+
   owned_kept : (u : Bytes) (i : ItemRow) → HasItem now u i → (a : AccountRow) × HasAccount now i.account a
   owned_kept u i h =
       let old : (a : AccountRow) × HasAccount rows i.account a = s.owned u i (old_item u i h) in
       still_there i.account old.0 old.1
 
-  items_kept : (u : Bytes) (i : ItemRow) → HasItem now u i → IsSoundItem store u i
+  items_kept : (u : Bytes) (i : ItemRow) → HasItem now u i → IsSoundItem store.last u i
   items_kept u i h =
-      let old : IsSoundItem s.store u i = s.items u i (old_item u i h) in
+      let old : IsSoundItem s.store.last u i = s.items u i (old_item u i h) in
       record {
         first = old.first;
         later = old.later;
@@ -189,6 +193,7 @@ module _ (rows now : Rows) (s : IsSound rows) (store : StoreRow) (n : ℕ) (row 
     params = params_kept;
     no_more = no_more_kept;
     fresh = fresh_kept;
+    named = named_kept;
     owned = owned_kept;
     items = items_kept;
     stamps = stamps_kept;

@@ -24,7 +24,7 @@ module _ (rows : Rows) (s : IsSound rows) (params : Params) (pw : Bytes) (change
   abbrev next : ℕ
   next = suc s.store.accounts
 
-  begins_steps : Steps rows (rows_after rows (b.account ∷ b.generation ∷ b.count ∷ [])) b.count_puts.row next b.account_puts.row b.generation_puts.row
+  pub begins_steps : Steps rows (rows_after rows (b.account ∷ b.generation ∷ b.count ∷ [])) b.count_puts.row next b.account_puts.row b.generation_puts.row
   begins_steps =
       put_count rows (rows_after rows (b.account ∷ b.generation ∷ [])) s.store b.count_puts.row next b.account_puts.row b.generation_puts.row b.count b.count_puts.puts
       (put_both rows s.store next b.account_puts.row b.generation_puts.row b.account b.generation b.account_puts.puts

@@ -2,6 +2,15 @@ pub mod Lookups
 pub mod Sound
 pub mod Sessions
 pub mod Rules
+pub mod Stored
+pub mod Pages
+pub mod Incoming
+pub mod Syncs
+pub mod Taking
+pub mod Candidates
+pub mod Replies
+pub mod Rule
 pub mod Room
 pub mod States
 pub mod Laws
+pub mod RuleLaws

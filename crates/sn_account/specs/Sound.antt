@@ -11,6 +11,7 @@ use Rattle.sn_rows.specs.declared.server_rows.StoreRow.{StoreRow}
 use Rattle.sn_rows.specs.declared.value.Value.{Value}
 use Rattle.sn_string.specs.Grammar.{Is003, Reading}
 use Rattle.sn_string.specs.Uuids.{uuid_text}
+use Rattle.sn_sync.specs.Laws.{AreBytes}
 use Rattle.sn_account.specs.Lookups.{Bytes, HasAccount, HasGeneration, HasItem, HasStore}
 
 abbrev pub most_accounts : ℕ
@@ -23,16 +24,16 @@ most_generations = 1000000
 abbrev pub NamesItem : Bytes → Bytes → Type 0
 NamesItem text uuid = (reading : Reading) × Is003 text reading × (reading.uuid ≡ uuid_text uuid)
 
--- a deleted item has no strings, another's have the 003 form and its uuid
-pub record IsSoundItem (store : StoreRow) (uuid : Bytes) (item : ItemRow) : Type 0 where
+-- an item of a store with this last stamp: a deleted one has no strings, another's have the 003 form and its uuid
+pub record IsSoundItem (last : ℕ) (uuid : Bytes) (item : ItemRow) : Type 0 where
   pub first : 1 ≤ item.created
   pub later : item.created ≤ item.updated
-  pub given : item.updated ≤ store.last
+  pub given : item.updated ≤ last
   pub gone : item.deleted ≡ true → (item.content ≡ []) × (item.enc ≡ [])
   pub sealed : item.deleted ≡ false → NamesItem item.content uuid × NamesItem item.enc uuid
 
 -- each value is of its key's kind; accounts are numbered from 1, and so are the generations of each; identifiers differ, and so do the nonces of an account, and the stamps
--- of items
+-- of items, whose uuids have 16 bytes
 pub record IsSound (rows : Rows) : Type 0 where
   pub kinds : (k : Key) (v : Value) → rows k ≡ Some v → key_kind k ≡ value_kind v
   pub store : StoreRow
@@ -45,6 +46,7 @@ pub record IsSound (rows : Rows) : Type 0 where
   pub params : (n g : ℕ) (a : AccountRow) → HasAccount rows n a → 1 ≤ g → g ≤ a.generation → (r : GenerationRow) × HasGeneration rows n g r
   pub no_more : (n g : ℕ) (v : Value) → rows (key.Generation n g) ≡ Some v → (a : AccountRow) × HasAccount rows n a × (1 ≤ g) × (g ≤ a.generation)
   pub fresh : (n g h : ℕ) (r s : GenerationRow) → HasGeneration rows n g r → HasGeneration rows n h s → r.pw_nonce ≡ s.pw_nonce → g ≡ h
+  pub named : (u : Bytes) (i : ItemRow) → HasItem rows u i → AreBytes 16 u
   pub owned : (u : Bytes) (i : ItemRow) → HasItem rows u i → (a : AccountRow) × HasAccount rows i.account a
-  pub items : (u : Bytes) (i : ItemRow) → HasItem rows u i → IsSoundItem store u i
+  pub items : (u : Bytes) (i : ItemRow) → HasItem rows u i → IsSoundItem store.last u i
   pub stamps : (u w : Bytes) (i j : ItemRow) → HasItem rows u i → HasItem rows w j → i.updated ≡ j.updated → u ≡ w

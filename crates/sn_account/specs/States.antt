@@ -2,7 +2,10 @@
 use Rattle.std.specs.Prelude.{◌≡◌, List, [], ◌∷◌, Option, Some, None, if◌then◌else◌}
 use Rattle.sn_rows.specs.Table.{Rows, rows_after, same_key}
 use Rattle.sn_rows.specs.declared.key.Key.{Key}
+use Rattle.sn_rows.specs.declared.key.Key.TheVariants as key
+use Rattle.sn_rows.specs.declared.server_rows.StoreRow.{StoreRow}
 use Rattle.sn_rows.specs.declared.value.Value.{Value}
+use Rattle.sn_rows.specs.declared.value.Value.TheVariants as value
 use Rattle.sn_row_map.specs.RowMaps.{row_in}
 use Rattle.sn_account.specs.declared.state.State.{State}
 
@@ -14,6 +17,10 @@ listed_after found key ((k, v) ∷ rows) = listed_after (if same_key k key then 
 -- the rows of a list; of two of one key the later
 abbrev pub listed : List (Key × Value) → Rows
 listed rows key = listed_after None key rows
+
+-- the store's row alone
+abbrev pub first_rows : StoreRow → Rows
+first_rows store = listed ((key.Store, value.Store store) ∷ [])
 
 -- before the changes that are marked
 abbrev pub rows_before : State → Rows

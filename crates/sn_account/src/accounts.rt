@@ -43,7 +43,7 @@ pub fn register(
     ensures { (store : StoreRow) → HasStore (state_rows state.now) store
         → IfOk result (λ ruled. Registers (state_rows state.now) store params.now pw.now ruled.changes ruled.answer) }
 {
-    if let Some(answer) = register_cause(alloc, state, params)? {
+    if let Some(answer) = register_cause(state, params) {
         let changes = Many::new(alloc);
         return Ok(Ruled { changes, answer });
     }
@@ -51,27 +51,21 @@ pub fn register(
 }
 
 // The refusal of a registration with these parameters.
-fn register_cause(
-    alloc: Global,
-    state: &State,
-    params: &Params,
-) -> Result<Option<Answer>, AllocError>
+fn register_cause(state: &State, params: &Params) -> Option<Answer>
     requires unmarked { IsUnmarked state.now }
     requires sound { IsSound (state_rows state.now) }
     ensures { (store : StoreRow) → HasStore (state_rows state.now) store
-        → IfOk result (λ found. MatchOption found
+        → MatchOption result
         (IsUnknown (state_rows state.now) params.now.identifier × (store.accounts < most_accounts))
-        (λ given. (pw : Bytes) → Registers (state_rows state.now) store params.now pw [] given)) }
+        (λ given. (pw : Bytes) → Registers (state_rows state.now) store params.now pw [] given) }
 {
     if number_of(state, params.identifier.as_str()).is_some() {
-        let taken = refused(alloc, 409, "taken", More::Nothing)?;
-        return Ok(Some(taken));
+        return Some(refused(409, "taken", More::Nothing));
     }
     if store_of(state).accounts >= MOST_ACCOUNTS {
-        let full = refused(alloc, 409, "full", More::Number(MOST_ACCOUNTS))?;
-        return Ok(Some(full));
+        return Some(refused(409, "full", More::Number(MOST_ACCOUNTS)));
     }
-    Ok(None)
+    None
 }
 
 // The next account's rows and its token.
@@ -140,7 +134,7 @@ pub fn parameters(alloc: Global, state: &State, identifier: &str) -> Result<Answ
     ensures { IfOk result (TellsParams (state_rows state.now) identifier.now) }
 {
     let Some(number) = number_of(state, identifier) else {
-        return refused(alloc, 404, "unknown", More::Nothing);
+        return Ok(refused(404, "unknown", More::Nothing));
     };
     let params = present_params(alloc, state, number)?;
     Ok(Answer::Params(params))
@@ -195,11 +189,11 @@ pub fn sign_in(
         → IfOk result (SignsIn (state_rows state.now) store identifier.now pw.now) }
 {
     let Some(number) = number_of(state, identifier) else {
-        return refused(alloc, 404, "unknown", More::Nothing);
+        return Ok(refused(404, "unknown", More::Nothing));
     };
     let account = account_of(state, number);
     if !has_password(account, pw) {
-        return refused(alloc, 401, "bad-auth", More::Nothing);
+        return Ok(refused(401, "bad-auth", More::Nothing));
     }
     let secret = &store_of(state).secret;
     admitted(
@@ -278,8 +272,8 @@ fn account_of(state: &State, number: u64) -> &AccountRow
     }
 }
 
-// The store's own row, which a sound state has.
-fn store_of(state: &State) -> &StoreRow
+/// The store's own row, which a sound state has.
+pub(crate) fn store_of(state: &State) -> &StoreRow
     requires unmarked { IsUnmarked state.now }
     requires sound { IsSound (state_rows state.now) }
     ensures { HasStore (state_rows state.now) result.now }

@@ -1,9 +1,11 @@
 //! Changes that put one row.
+
 ghost use Rattle.sn_rows.specs.declared.key.Key.TheVariants as key;
 ghost use Rattle.sn_rows.specs.declared.value.Value.TheVariants as value;
 ghost use Rattle.sn_rows.specs.Table.{Puts};
 
-use sn_rows::{AccountRow, Change, GenerationRow, Key, Row, StoreRow, Value};
+use sn_rows::{AccountRow, Change, GenerationRow, ItemRow, Key, Row, StoreRow, Value};
+use uuid::Uuid;
 
 pub(crate) fn put_store(row: StoreRow) -> Change
     ensures { Puts result key.Store (value.Store row) }
@@ -29,5 +31,14 @@ pub(crate) fn put_generation(number: u64, generation: u64, row: GenerationRow) -
     Change::Put(Row {
         key: Key::Generation(number, generation),
         value: Value::Generation(row),
+    })
+}
+
+pub(crate) fn put_item(uuid: Uuid, row: ItemRow) -> Change
+    ensures { Puts result (key.Item uuid) (value.Item row) }
+{
+    Change::Put(Row {
+        key: Key::Item(uuid),
+        value: Value::Item(row),
     })
 }

@@ -2,17 +2,32 @@
 #![tactic(auto)]
 
 pub mod accounts;
+pub mod answering;
+mod bounds;
 mod changes;
+pub mod first;
+mod incoming;
 mod lookups;
 pub mod marking;
+pub mod page;
+mod pages;
 pub mod passwords;
 mod refusals;
+mod replies;
+pub mod rule_laws;
 pub mod session_laws;
 pub mod sessions;
 pub mod sound_laws;
 pub mod state;
+mod stored;
+mod sync;
+pub mod taken;
+mod taking;
+mod tokens;
 
 pub use accounts::{Ruled, parameters, register, sign_in};
+pub use answering::answer;
+pub use first::first_state;
 pub use passwords::change_password;
 pub use sessions::account_uuid;
 pub use state::State;

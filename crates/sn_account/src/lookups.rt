@@ -1,18 +1,18 @@
 //! The rows of a state, by their kinds.
 
-ghost use Rattle.std.specs.Prelude.{◌≡◌, IfNone, IfOk, IfSome};
+ghost use Rattle.std.specs.Prelude.{◌≡◌, IfNone, IfSome};
 ghost use Rattle.sn_account.specs.Lookups.{HasAccount, HasGeneration, HasStore};
 ghost use Rattle.sn_account.specs.States.{IsUnmarked, state_rows};
-ghost use Rattle.sn_rows.specs.declared.kind.RowKind.TheVariants as kind;
+ghost use Rattle.std.specs.Option.{option_copied};
+ghost use Rattle.sn_account.specs.Taking.{item_in};
+ghost use Rattle.sn_rows.specs.declared.key.Key.TheVariants as key;
 ghost use Rattle.sn_rows.specs.declared.server_rows.AccountRow.{AccountRow};
 ghost use Rattle.sn_rows.specs.declared.server_rows.GenerationRow.{GenerationRow};
 ghost use Rattle.sn_rows.specs.declared.server_rows.StoreRow.{StoreRow};
-ghost use Rattle.sn_row_map.specs.Ranges.{AreRowsOf};
 
 use crate::state::State;
-use sn_rows::{AccountRow, GenerationRow, Key, RowKind, StoreRow, Value};
-use sn_string::Many;
-use std::alloc::AllocError;
+use sn_rows::{AccountRow, GenerationRow, ItemRow, Key, StoreRow, Value};
+use uuid::Uuid;
 
 impl State {
     /// The store's own row.
@@ -51,10 +51,14 @@ impl State {
         }
     }
 
-    /// The rows of all items, in the order of their uuids.
-    pub(crate) fn items(&self) -> Result<Many<(Key, Value)>, AllocError>
-        ensures { IfOk result (AreRowsOf self.now.rows kind.Item) }
+    /// The item of this uuid.
+    pub(crate) fn item(&self, uuid: Uuid) -> Option<&ItemRow>
+        requires { IsUnmarked self.now }
+        ensures { option_copied result ≡ item_in (state_rows self.now (key.Item uuid)) }
     {
-        self.rows.range(self.alloc, RowKind::Item)
+        match self.get(&Key::Item(uuid)) {
+            Some(Value::Item(row)) => Some(row),
+            _ => None,
+        }
     }
 }

@@ -20,7 +20,7 @@ use crate::refusals::refused;
 use crate::sessions::{account_uuid, session, session_token};
 use crate::state::State;
 use sn_keys::check_of;
-use sn_rows::{AccountRow, GenerationRow, ItemRow, Key, Value};
+use sn_rows::{AccountRow, GenerationRow, ItemRow, Key, RowKind, Value};
 use sn_string::{Many, Params, StringError, Text, Twin, read};
 use sn_sync::{Answer, More};
 use std::alloc::{AllocError, Global};
@@ -48,21 +48,19 @@ pub fn change_password(
         ruled.changes ruled.answer) }
 {
     let Some(number) = session(alloc, state, token)? else {
-        let answer = refused(alloc, 401, "bad-auth", More::Nothing)?;
-        return Ok(unchanged(alloc, answer));
+        return Ok(unchanged(alloc, refused(401, "bad-auth", More::Nothing)));
     };
     let Some(account) = state.account(number) else {
         unreachable!();
     };
     if !has_password(account, current) {
-        let answer = refused(alloc, 401, "bad-auth", More::Nothing)?;
-        return Ok(unchanged(alloc, answer));
+        return Ok(unchanged(alloc, refused(401, "bad-auth", More::Nothing)));
     }
     change_keys(alloc, state, number, account, pw, cost, nonce)
 }
 
-// The answer alone.
-fn unchanged(alloc: Global, answer: Answer) -> Ruled
+/// The answer alone.
+pub(crate) fn unchanged(alloc: Global, answer: Answer) -> Ruled
     ensures changes { result.changes ≡ [] }
     ensures answer { result.answer ≡ answer }
 {
@@ -116,17 +114,14 @@ fn change_cause(
         × ¬ (IsUsed (state_rows state.now) number nonce.now) × (account.now.generation < most_generations))) }
 {
     if let Some(uuid) = least_behind(alloc, state, number, present)? {
-        let answer = refused(alloc, 409, "rekey-running", More::Uuid(uuid))?;
-        return Ok(Some(answer));
+        return Ok(Some(refused(409, "rekey-running", More::Uuid(uuid))));
     }
     if is_used(state, number, account, nonce) {
-        let answer = refused(alloc, 409, "nonce-used", More::Nothing)?;
-        return Ok(Some(answer));
+        return Ok(Some(refused(409, "nonce-used", More::Nothing)));
     }
     if account.generation >= MOST_GENERATIONS {
         let more = More::Number(MOST_GENERATIONS);
-        let answer = refused(alloc, 409, "changes-used", more)?;
-        return Ok(Some(answer));
+        return Ok(Some(refused(409, "changes-used", more)));
     }
     Ok(None)
 }
@@ -142,11 +137,12 @@ fn least_behind(
     ensures some { IfOk result (λ found. IfSome found (IsLeastBehind (state_rows state.now) number present.now)) }
     ensures none { IfOk result (λ found. IfNone found (NoneBehind (state_rows state.now) number present.now)) }
 {
-    let items = state.items()?;
-    'items: for (key, value) in items.as_slice() {
+    let mut found = state.rows.first(RowKind::Item);
+    'rows: while let Some((key, value)) = found {
         if let Some(uuid) = uuid_behind(alloc, key, value, number, present)? {
             return Ok(Some(uuid));
         }
+        found = state.rows.next_after(key);
     }
     Ok(None)
 }
@@ -211,8 +207,8 @@ fn carries_text(alloc: Global, text: &str, params: &Params) -> Result<bool, Allo
     }
 }
 
-// A refused text carries no parameters, unless memory was wanting.
-fn carries_none(error: StringError) -> Result<bool, AllocError>
+/// A refused text carries no parameters, unless memory was wanting.
+pub(crate) fn carries_none(error: StringError) -> Result<bool, AllocError>
     ensures { IfOk result (λ carried. (carried ≡ false) × (error ≢ Memory)) }
 {
     match error {

@@ -5,8 +5,9 @@ ghost use Rattle.sn_account.specs.Sound.{IsSound};
 ghost use Rattle.sn_account.specs.States.{IsUnmarked, state_rows};
 ghost use Rattle.sn_string.specs.Bounds.{IsNonce};
 
-use super::accounts::{alice, first_state};
+use super::accounts::alice;
 use crate::accounts::{parameters, register, sign_in};
+use crate::first::first_state;
 use crate::passwords::change_password;
 use crate::state::State;
 use sn_string::Text;
@@ -19,7 +20,7 @@ fn with_alice(alloc: Global) -> Result<State, Fail>
     ensures unmarked { IfOk result IsUnmarked }
     ensures sound { IfOk result (λ state. IsSound (state_rows state)) }
 {
-    let mut state = first_state(alloc)?;
+    let mut state = first_state(alloc, [0; 32])?;
     let ruled = register(alloc, &state, &alice(alloc)?, &[7; 32])?;
     state.apply(ruled.changes.as_slice())?;
     state.keep();

@@ -7,8 +7,8 @@ use Rattle.sn_account.proofs.accounts.register_cause.Goals as goal
 pub returns-then-is_some : goal.returns-then-is_some
 returns-then-is_some c =
     let there : is_some c.number_of.result ≡ true = search rules in
-    λ store stands pw. taken (state_rows c.args.state.now) store c.args.params.now c.as_str.result.now pw c.number_of.result c.in_ok-taken.taken
-    c.as_str.ensures c.number_of.ensures.some there c.in_ok-taken.ensures
+    λ store stands pw. taken (state_rows c.args.state.now) store c.args.params.now c.as_str.result.now pw c.number_of.result c.refused.result
+    c.as_str.ensures c.number_of.ensures.some there c.refused.ensures
 
 pub returns-then-store_of-ge-MOST_ACCOUNTS : goal.returns-then-store_of-ge-MOST_ACCOUNTS
 returns-then-store_of-ge-MOST_ACCOUNTS c =
@@ -16,8 +16,8 @@ returns-then-store_of-ge-MOST_ACCOUNTS c =
     let unknown = free (state_rows c.args.state.now) c.args.params.now c.as_str.result.now c.number_of.result c.as_str.ensures c.number_of.ensures.none
     gone
     in
-    λ store stands pw. full (state_rows c.args.state.now) store c.store_of.result.now c.args.params.now pw c.in_ok-full.full c.requires.sound stands
-    c.store_of.ensures unknown (omega arith) c.in_ok-full.ensures
+    λ store stands pw. full (state_rows c.args.state.now) store c.store_of.result.now c.args.params.now pw c.refused-then-store_of-ge-MOST_ACCOUNTS.result c.requires.sound stands
+    c.store_of.ensures unknown (omega arith) c.refused-then-store_of-ge-MOST_ACCOUNTS.ensures
 
 pub returns : goal.returns
 returns c =

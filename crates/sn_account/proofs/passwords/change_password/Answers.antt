@@ -10,7 +10,7 @@ returns-then-not-has_password c = λ store has.
     let other : c.in-Some-account.account.now.check ≢ check_value c.args.current.now =
     λ same. let holds = c.if-not-has_password.ensures.1 same in cc in
     let refuses : IsBadAuth c.unchanged-then-not-has_password.result.changes c.unchanged-then-not-has_password.result.answer =
-    (c.unchanged-then-not-has_password.ensures.changes, c.unchanged-then-not-has_password.ensures.answer ∙ c.in_ok-answer-2.ensures) in
+    (c.unchanged-then-not-has_password.ensures.changes, c.unchanged-then-not-has_password.ensures.answer ∙ c.refused-then-not-has_password.ensures) in
     inr (inl (
       c.in-Some.number,
       c.in-Some-account.account.now,

@@ -1,25 +1,35 @@
-use Rattle.std.proofs.Common.{◌<◌, sym, subst, arith}
-use Rattle.sn_rows.specs.declared.kind.RowKind.TheVariants as kind
+use Rattle.std.proofs.Common.{◌≡◌, Some, None, ap}
+use Rattle.sn_row_map.specs.Steps.{lent}
 use Rattle.sn_account.specs.States.{state_rows}
-use Rattle.sn_row_map.specs.Ranges.{AreRowsOf}
-use Rattle.sn_account.proofs.BehindLemmas.{current_more, found_behind, none_behind, unmarked_rows}
+use Rattle.sn_account.proofs.BehindLemmas.{unmarked_rows}
+use Rattle.sn_account.proofs.SearchLemmas.{search_first, search_found, search_more, search_none}
+use Rattle.sn_account.proofs.WalkLemmas.{walk_smaller}
 use Rattle.sn_account.proofs.passwords.least_behind.Goals as goal
 
-pub returns-in-Some-clause-some : goal.returns-in-Some-clause-some
-returns-in-Some-clause-some c =
-    found_behind c.args.state.now.rows (state_rows c.args.state.now) c.as_slice-key-items.result.now c.args.number c.args.present.now
-    (subst (AreRowsOf c.args.state.now.rows kind.Item) (sym c.as_slice-key-items.ensures) c.in_ok-items.ensures)
-    (unmarked_rows c.args.state.now c.requires) c.items.key-index c.items-item.result c.in-Some.uuid (omega arith) c.items-item.is
-    (rw c.in-Some.is at c.in_ok-uuid.ensures.some) c.items.invariant
+pub rows-init : goal.rows-init
+rows-init c = search_first c.args.state.now.rows c.args.number c.args.present.now (lent c.first-found.result) c.first-found.ensures.walk
 
-pub items-preserved : goal.items-preserved
-items-preserved c =
-    current_more c.as_slice-key-items.result.now c.args.number c.args.present.now c.items.key-index c.items-item.result (omega arith)
-    c.items-item.is c.items.invariant (rw c.in_default.is at c.in_ok-uuid.ensures.none)
+pub returns-in-Some-2-clause-some : goal.returns-in-Some-2-clause-some
+returns-in-Some-2-clause-some c =
+    let found : lent c.rows.found ≡ Some (c.in-Some.key.now, c.in-Some.value.now) = ap lent c.in-Some.is in
+    search_found c.args.state.now.rows (state_rows c.args.state.now) c.args.number c.args.present.now c.in-Some.key.now c.in-Some.value.now
+    (lent c.rows.found) c.in-Some-2.uuid c.rows.invariant c.first-found.ensures.rows (unmarked_rows c.args.state.now c.requires) found
+    (rw c.in-Some-2.is at c.in_ok-uuid.ensures.some)
+
+pub rows-preserved : goal.rows-preserved
+rows-preserved c =
+    let found : lent c.rows.found ≡ Some (c.in-Some.key.now, c.in-Some.value.now) = ap lent c.in-Some.is in
+    search_more c.args.state.now.rows c.args.number c.args.present.now c.in-Some.key.now c.in-Some.value.now (lent c.rows.found)
+    (lent c.next_after-found.result) c.rows.invariant found (rw c.in_default-2.is at c.in_ok-uuid.ensures.none) c.next_after-found.ensures.walk
+
+pub rows-smaller : goal.rows-smaller
+rows-smaller c =
+    let found : lent c.rows.found ≡ Some (c.in-Some.key.now, c.in-Some.value.now) = ap lent c.in-Some.is in
+    walk_smaller c.args.state.now.rows c.in-Some.key.now c.in-Some.value.now (lent c.rows.found) (lent c.next_after-found.result) found
+    c.next_after-found.ensures.walk
 
 pub returns-clause-none : goal.returns-clause-none
 returns-clause-none c =
-    none_behind c.args.state.now.rows (state_rows c.args.state.now) c.as_slice-key-items.result.now c.args.number c.args.present.now
-    (subst (AreRowsOf c.args.state.now.rows kind.Item) (sym c.as_slice-key-items.ensures) c.in_ok-items.ensures)
-    (unmarked_rows c.args.state.now c.requires)
-    (λ k d within. let below : k < c.items.key-index = omega arith in c.items.invariant k d below)
+    let none : lent c.rows.found ≡ None = ap lent c.in_default.is in
+    search_none c.args.state.now.rows (state_rows c.args.state.now) c.args.number c.args.present.now (lent c.rows.found) c.rows.invariant
+    c.first-found.ensures.rows (unmarked_rows c.args.state.now c.requires) none

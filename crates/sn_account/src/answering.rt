@@ -1,0 +1,79 @@
+//! The answer to any request.
+
+ghost use Rattle.std.specs.Prelude.{◌≢◌, ℕ, IfOk};
+ghost use Rattle.sn_account.specs.Rule.{Rule};
+ghost use Rattle.sn_account.specs.RuleLaws.{ActsFor, SparesAccount, status_of};
+ghost use Rattle.sn_account.specs.Sound.{IsSound};
+ghost use Rattle.sn_account.specs.States.{IsUnmarked, state_rows};
+ghost use Rattle.sn_rows.specs.Table.{rows_after};
+ghost use Rattle.sn_sync.specs.Laws.{FitsAnswer, FitsRequest};
+ghost use Rattle.sn_sync.specs.Requests.{route_of};
+
+use crate::accounts::{Ruled, parameters, register, sign_in};
+use crate::passwords::{change_password, unchanged};
+use crate::state::State;
+use crate::sync::sync;
+use sn_sync::Request;
+use std::alloc::{AllocError, Global};
+
+/// What a server changes for a request, and what it answers, at a moment in microseconds since 1970. It changes nothing itself.
+pub fn answer(
+    alloc: Global,
+    state: &State,
+    request: &Request,
+    now: u64,
+) -> Result<Ruled, AllocError>
+    requires unmarked { IsUnmarked state.now }
+    requires sound { IsSound (state_rows state.now) }
+    requires within { FitsRequest request.now }
+    ensures rule { IfOk result (λ ruled. Rule (state_rows state.now) request.now now ruled.changes ruled.answer) }
+    ensures sound { IfOk result (λ ruled. IsSound (rows_after (state_rows state.now) ruled.changes)) }
+    ensures spares { IfOk result (λ ruled. (m : ℕ) → ((n : ℕ) → ActsFor (state_rows state.now) request.now n → m ≢ n)
+        → SparesAccount (state_rows state.now) (rows_after (state_rows state.now) ruled.changes) m) }
+    ensures within { IfOk result (λ ruled. FitsAnswer (route_of request.now) (status_of ruled.answer) ruled.answer) }
+{
+    by_route(alloc, state, request, now)
+}
+
+// The rule of the request's route.
+fn by_route(alloc: Global, state: &State, request: &Request, now: u64) -> Result<Ruled, AllocError>
+    requires unmarked { IsUnmarked state.now }
+    requires sound { IsSound (state_rows state.now) }
+    requires within { FitsRequest request.now }
+    ensures { IfOk result (λ ruled. Rule (state_rows state.now) request.now now ruled.changes ruled.answer) }
+{
+    match request {
+        Request::Register { params, pw } => register(alloc, state, params, pw),
+        Request::Params { identifier } => {
+            let answer = parameters(alloc, state, identifier.as_str())?;
+            Ok(unchanged(alloc, answer))
+        }
+        Request::SignIn { identifier, pw } => {
+            let answer = sign_in(alloc, state, identifier.as_str(), pw)?;
+            Ok(unchanged(alloc, answer))
+        }
+        Request::ChangePw {
+            token,
+            current,
+            pw,
+            cost,
+            nonce,
+        } => change_password(alloc, state, token.as_str(), current, pw, *cost, nonce),
+        Request::Sync {
+            token,
+            items,
+            limit,
+            sync_token,
+            cursor_token,
+        } => sync(
+            alloc,
+            state,
+            token.as_str(),
+            items.as_slice(),
+            *limit,
+            sync_token,
+            cursor_token,
+            now,
+        ),
+    }
+}
