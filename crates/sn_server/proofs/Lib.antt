@@ -1,0 +1,6 @@
+pub mod Gaining
+pub mod Handles
+pub mod Owned
+pub mod Running
+pub mod Tokens
+pub mod Turning

@@ -1,0 +1,12 @@
+pub mod CheckBodies
+pub mod Gaining
+pub mod Handling
+pub mod Messages
+pub mod Outcomes
+pub mod Replies
+pub mod Routing
+pub mod Sending
+pub mod Sessions
+pub mod Steps
+pub mod Stores
+pub mod Turning
