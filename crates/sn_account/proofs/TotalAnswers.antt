@@ -39,8 +39,8 @@ use Rattle.sn_account.proofs.TotalPages.{has_greatest, has_page, has_retrieved, 
 use Rattle.sn_account.proofs.TotalRows.{has_present, named_or_unknown, put_of, session_or_not, stored_or_not, text_fits, used_or_not}
 
 -- some changes and an answer, of which this is so
-abbrev Some_answer : (List Change → Answer → Type 0) → Type 0
-Some_answer P = (changes : List Change) × (given : Answer) × P changes given
+abbrev HasAnswer : (List Change → Answer → Type 0) → Type 0
+HasAnswer P = (changes : List Change) × (given : Answer) × P changes given
 
 -- at most, or more
 at_most_or_more : (a b : ℕ) → (a ≤ b) ⊎ (b < a)
@@ -78,10 +78,10 @@ has_store_put store last accounts low =
 -- ---- requests about accounts
 
 module _ (rows : Rows) (sound : IsSound rows) where
-  registers : (params : Params) (pw : Bytes) → IsUtf8 params.identifier → IsUtf8 params.pw_nonce → Some_answer (Registers rows sound.store params pw)
+  registers : (params : Params) (pw : Bytes) → IsUtf8 params.identifier → IsUtf8 params.pw_nonce → HasAnswer (Registers rows sound.store params pw)
   registers params pw utf8 nonce = by_name (named_or_unknown rows sound params.identifier)
     where
-      begun : IsUnknown rows params.identifier → sound.store.accounts < most_accounts → Some_answer (Registers rows sound.store params pw)
+      begun : IsUnknown rows params.identifier → sound.store.accounts < most_accounts → HasAnswer (Registers rows sound.store params pw)
       begun unknown less =
           let n : ℕ = suc sound.store.accounts in
           let account : (c : Change) × PutsAccount c n params.identifier 1 (check_value pw) =
@@ -108,13 +108,13 @@ module _ (rows : Rows) (sound : IsSound rows) where
           )
 
       by_number : IsUnknown rows params.identifier → (most_accounts ≤ sound.store.accounts) ⊎ (sound.store.accounts < most_accounts)
-          → Some_answer (Registers rows sound.store params pw)
+          → HasAnswer (Registers rows sound.store params pw)
       by_number unknown (inl full) =
           let bound = sound.bound in
           ([], answer.Refused 409 (codes "full") (more.Number most_accounts), inr (inl (unknown, omega arith, (refl, refl))))
       by_number unknown (inr less) = begun unknown less
 
-      by_name : ((n : ℕ) × IsNamed rows params.identifier n) ⊎ IsUnknown rows params.identifier → Some_answer (Registers rows sound.store params pw)
+      by_name : ((n : ℕ) × IsNamed rows params.identifier n) ⊎ IsUnknown rows params.identifier → HasAnswer (Registers rows sound.store params pw)
       by_name (inl named) = ([], answer.Refused 409 (codes "taken") more.Nothing, inl (named, (refl, refl)))
       by_name (inr unknown) = by_number unknown (at_most_or_more most_accounts sound.store.accounts)
 
@@ -185,11 +185,11 @@ module _ (rows : Rows) (sound : IsSound rows) where
       by_search (inr none) = inr (λ u b. none u (sound.named u b.item b.there) b)
 
   changes_keys : (n : ℕ) (a : AccountRow) (present : Params) (pw : Bytes) (cost : ℕ) (nonce : Bytes) → HasAccount rows n a → IsCost cost → IsNonce nonce → IsUtf8 nonce
-      → Some_answer (ChangesKeys rows sound.store n a present pw cost nonce)
+      → HasAnswer (ChangesKeys rows sound.store n a present pw cost nonce)
   changes_keys n a present pw cost nonce has costs fits utf8 = by_behind (behind_or_none n present)
     where
       by_number : NoneBehind rows n present → (IsUsed rows n nonce → ⊥) → (most_generations ≤ a.generation) ⊎ (a.generation < most_generations)
-          → Some_answer (ChangesKeys rows sound.store n a present pw cost nonce)
+          → HasAnswer (ChangesKeys rows sound.store n a present pw cost nonce)
       by_number none fresh (inl full) =
           let bound = sound.generation n a has in
           ([], answer.Refused 409 (codes "changes-used") (more.Number most_generations), inr (inr (inl (none, fresh, omega arith, (refl, refl)))))
@@ -219,30 +219,30 @@ module _ (rows : Rows) (sound : IsSound rows) where
               let put : (c : Change) × Puts c (key.Account n) (value.Account row) = put_of (key.Account n) (value.Account row) refl in
               (put.0, record { row = row; puts = put.1; identifier_is = refl; generation_is = refl; check_is = refl })
 
-      by_nonce : NoneBehind rows n present → Decided (IsUsed rows n nonce) → Some_answer (ChangesKeys rows sound.store n a present pw cost nonce)
+      by_nonce : NoneBehind rows n present → Decided (IsUsed rows n nonce) → HasAnswer (ChangesKeys rows sound.store n a present pw cost nonce)
       by_nonce none (inl used) = ([], answer.Refused 409 (codes "nonce-used") more.Nothing, inr (inl (none, used, (refl, refl))))
       by_nonce none (inr fresh) = by_number none fresh (at_most_or_more most_generations a.generation)
 
-      by_behind : ((u : Bytes) × IsLeastBehind rows n present u) ⊎ NoneBehind rows n present → Some_answer (ChangesKeys rows sound.store n a present pw cost nonce)
+      by_behind : ((u : Bytes) × IsLeastBehind rows n present u) ⊎ NoneBehind rows n present → HasAnswer (ChangesKeys rows sound.store n a present pw cost nonce)
       by_behind (inl (u, least)) = ([], answer.Refused 409 (codes "rekey-running") (more.Uuid u), inl (u, least, (refl, refl)))
       by_behind (inr none) = by_nonce none (used_or_not rows sound n a has nonce)
 
   changes_password : HaveCosts rows → (token current pw : Bytes) (cost : ℕ) (nonce : Bytes) → IsCost cost → IsNonce nonce → IsUtf8 nonce
-      → Some_answer (ChangesPassword rows sound.store token current pw cost nonce)
+      → HasAnswer (ChangesPassword rows sound.store token current pw cost nonce)
   changes_password costs token current pw cost nonce low fits utf8 = by_session (session_or_not rows sound token)
     where
       by_keys : (n : ℕ) (a : AccountRow) → IsSession rows token n → HasAccount rows n a → a.check ≡ check_value current → (present : Params) × IsPresent rows n present
-          → Some_answer (ChangesPassword rows sound.store token current pw cost nonce)
+          → HasAnswer (ChangesPassword rows sound.store token current pw cost nonce)
       by_keys n a is has right (present, stands) =
-          let keys : Some_answer (ChangesKeys rows sound.store n a present pw cost nonce) = changes_keys n a present pw cost nonce has low fits utf8 in
+          let keys : HasAnswer (ChangesKeys rows sound.store n a present pw cost nonce) = changes_keys n a present pw cost nonce has low fits utf8 in
           (keys.0, keys.1, inr (inr (n, a, present, is, has, right, stands, keys.2)))
 
       by_check : (n : ℕ) (a : AccountRow) → IsSession rows token n → HasAccount rows n a → Decided (a.check ≡ check_value current)
-          → Some_answer (ChangesPassword rows sound.store token current pw cost nonce)
+          → HasAnswer (ChangesPassword rows sound.store token current pw cost nonce)
       by_check n a is has (inl right) = by_keys n a is has right (has_present rows sound costs n a has)
       by_check n a is has (inr wrong) = ([], answer.Refused 401 (codes "bad-auth") more.Nothing, inr (inl (n, a, is, has, wrong, (refl, refl))))
 
-      by_session : ((n : ℕ) × IsSession rows token n) ⊎ IsNoSession rows token → Some_answer (ChangesPassword rows sound.store token current pw cost nonce)
+      by_session : ((n : ℕ) × IsSession rows token n) ⊎ IsNoSession rows token → HasAnswer (ChangesPassword rows sound.store token current pw cost nonce)
       by_session (inl (n, is)) = by_check n is.account is is.there (same_list is.account.check (check_value current))
       by_session (inr none) = ([], answer.Refused 401 (codes "bad-auth") more.Nothing, inl (none, (refl, refl)))
 
@@ -330,7 +330,7 @@ has_changes store (c ∷ made) last low =
 
 module _ (rows : Rows) (sound : IsSound rows) (costs : HaveCosts rows) (items : List Item) (limit now : ℕ) (fits : All FitsSent items) (texts : All (λ i. IsUtf8 i.kind) items) where
   synced : (n : ℕ) (present : Params) (sync cursor : Option ℕ) → (a : AccountRow) × HasAccount rows n a → IsDone present now n (start rows sound.store) items
-      → Some_answer (Synced rows sound.store n present items limit sync cursor now)
+      → HasAnswer (Synced rows sound.store n present items limit sync cursor now)
   synced n present sync cursor there done =
       let before : Items rows sound.store.last n = items_of rows sound n there in
       let ran : Ran n (start rows sound.store) done.end = ran_all n now present (start rows sound.store) items done.end fits before done.taken in
@@ -360,55 +360,55 @@ module _ (rows : Rows) (sound : IsSound rows) (costs : HaveCosts rows) (items : 
       )
 
   serves : (n : ℕ) (sync cursor : Option ℕ) → (a : AccountRow) × HasAccount rows n a → NoneLong items
-      → Some_answer (Serves rows sound.store n items limit sync cursor now)
+      → HasAnswer (Serves rows sound.store n items limit sync cursor now)
   serves n sync cursor there short = by_present (has_present rows sound costs n there.0 there.1)
     where
       by_end : (present : Params) → IsPresent rows n present → IsDone present now n (start rows sound.store) items ⊎ RunsOut present now n (start rows sound.store) items
-          → Some_answer (Serves rows sound.store n items limit sync cursor now)
+          → HasAnswer (Serves rows sound.store n items limit sync cursor now)
       by_end present is (inl done) =
-          let s : Some_answer (Synced rows sound.store n present items limit sync cursor now) = synced n present sync cursor there done in
+          let s : HasAnswer (Synced rows sound.store n present items limit sync cursor now) = synced n present sync cursor there done in
           (s.0, s.1, (present, is, inr s.2))
       by_end present is (inr out) =
           ([], answer.Refused 409 (codes "stamps-used") (more.Number sound.store.last), (present, is, inl (out, (refl, refl))))
 
-      by_present : (p : Params) × IsPresent rows n p → Some_answer (Serves rows sound.store n items limit sync cursor now)
+      by_present : (p : Params) × IsPresent rows n p → HasAnswer (Serves rows sound.store n items limit sync cursor now)
       by_present (present, is) =
           by_end present is (done_or_out present now n (start rows sound.store) items (items_of rows sound n there) sound.store.last_fits fits texts short)
 
-  bounded : (n : ℕ) (sync cursor : Option ℕ) → (a : AccountRow) × HasAccount rows n a → Some_answer (ServesBounded rows sound.store n items limit sync cursor now)
+  bounded : (n : ℕ) (sync cursor : Option ℕ) → (a : AccountRow) × HasAccount rows n a → HasAnswer (ServesBounded rows sound.store n items limit sync cursor now)
   bounded n sync cursor there = by_number (at_most_or_more (length items) most_items)
     where
       by_length : length items ≤ most_items → ((uuid : Bytes) × ((size : ℕ) × IsFirstLong items uuid size)) ⊎ NoneLong items
-          → Some_answer (ServesBounded rows sound.store n items limit sync cursor now)
+          → HasAnswer (ServesBounded rows sound.store n items limit sync cursor now)
       by_length few (inl (uuid, (size, long))) =
           ([], answer.Refused 413 (codes "long") (more.Both size uuid), inr (inl (few, uuid, size, long, (refl, refl))))
       by_length few (inr short) =
-          let s : Some_answer (Serves rows sound.store n items limit sync cursor now) = serves n sync cursor there short in
+          let s : HasAnswer (Serves rows sound.store n items limit sync cursor now) = serves n sync cursor there short in
           (s.0, s.1, inr (inr (few, short, s.2)))
 
-      by_number : (length items ≤ most_items) ⊎ (most_items < length items) → Some_answer (ServesBounded rows sound.store n items limit sync cursor now)
+      by_number : (length items ≤ most_items) ⊎ (most_items < length items) → HasAnswer (ServesBounded rows sound.store n items limit sync cursor now)
       by_number (inl few) = by_length few (long_or_none items)
       by_number (inr wide) = ([], answer.Refused 413 (codes "wide") (more.Number (length items)), inl (wide, (refl, refl)))
 
   from_tokens : (n : ℕ) (sync_token cursor_token : Option Bytes) → (a : AccountRow) × HasAccount rows n a
-      → Some_answer (ServesFrom rows sound.store n items limit sync_token cursor_token now)
+      → HasAnswer (ServesFrom rows sound.store n items limit sync_token cursor_token now)
   from_tokens n sync_token cursor_token there = by_tokens (token_or_bad sync_token) (token_or_bad cursor_token)
     where
       by_tokens : ((s : Option ℕ) × IsStampOf sync_token s) ⊎ IsBadToken sync_token → ((s : Option ℕ) × IsStampOf cursor_token s) ⊎ IsBadToken cursor_token
-          → Some_answer (ServesFrom rows sound.store n items limit sync_token cursor_token now)
+          → HasAnswer (ServesFrom rows sound.store n items limit sync_token cursor_token now)
       by_tokens (inr bad) any = ([], answer.Refused 400 (codes "bad-token") (more.Name (codes "sync_token")), inl (bad, (refl, refl)))
       by_tokens (inl (sync, is)) (inr bad) =
           ([], answer.Refused 400 (codes "bad-token") (more.Name (codes "cursor_token")), inr (inl (sync, is, bad, (refl, refl))))
       by_tokens (inl (sync, is)) (inl (cursor, at)) =
-          let s : Some_answer (ServesBounded rows sound.store n items limit sync cursor now) = bounded n sync cursor there in
+          let s : HasAnswer (ServesBounded rows sound.store n items limit sync cursor now) = bounded n sync cursor there in
           (s.0, s.1, inr (inr (sync, cursor, is, at, s.2)))
 
-  syncs : (token : Bytes) (sync_token cursor_token : Option Bytes) → Some_answer (Syncs rows sound.store token items limit sync_token cursor_token now)
+  syncs : (token : Bytes) (sync_token cursor_token : Option Bytes) → HasAnswer (Syncs rows sound.store token items limit sync_token cursor_token now)
   syncs token sync_token cursor_token = by_session (session_or_not rows sound token)
     where
-      by_session : ((n : ℕ) × IsSession rows token n) ⊎ IsNoSession rows token → Some_answer (Syncs rows sound.store token items limit sync_token cursor_token now)
+      by_session : ((n : ℕ) × IsSession rows token n) ⊎ IsNoSession rows token → HasAnswer (Syncs rows sound.store token items limit sync_token cursor_token now)
       by_session (inl (n, is)) =
-          let s : Some_answer (ServesFrom rows sound.store n items limit sync_token cursor_token now) = from_tokens n sync_token cursor_token (is.account, is.there) in
+          let s : HasAnswer (ServesFrom rows sound.store n items limit sync_token cursor_token now) = from_tokens n sync_token cursor_token (is.account, is.there) in
           (s.0, s.1, inr (n, is, s.2))
       by_session (inr none) = ([], answer.Refused 401 (codes "bad-auth") more.Nothing, inl (none, (refl, refl)))
 
@@ -416,7 +416,7 @@ module _ (rows : Rows) (sound : IsSound rows) (costs : HaveCosts rows) (items : 
 
 pub each_is_answered : EachIsAnswered
 each_is_answered rows (request.Register params pw) now sound costs fits texts =
-    let s : Some_answer (Registers rows sound.store params pw) = registers rows sound params pw texts.0 texts.1 in
+    let s : HasAnswer (Registers rows sound.store params pw) = registers rows sound params pw texts.0 texts.1 in
     (s.0, s.1, (sound.store, sound.stands, s.2))
 each_is_answered rows (request.Params identifier) now sound costs fits texts =
     let t : (given : Answer) × TellsParams rows identifier given = tells rows sound costs identifier in
@@ -425,10 +425,10 @@ each_is_answered rows (request.SignIn identifier pw) now sound costs fits texts 
     let t : (given : Answer) × SignsIn rows sound.store identifier pw given = signs rows sound identifier pw in
     ([], t.0, (sound.store, sound.stands, (refl, t.1)))
 each_is_answered rows (request.ChangePw token current pw cost nonce) now sound costs (first, second, low, high) texts =
-    let s : Some_answer (ChangesPassword rows sound.store token current pw cost nonce) =
+    let s : HasAnswer (ChangesPassword rows sound.store token current pw cost nonce) =
     changes_password rows sound costs token current pw cost nonce low high texts in
     (s.0, s.1, (sound.store, sound.stands, s.2))
 each_is_answered rows (request.Sync token items limit sync_token cursor_token) now sound costs (fits, least, most) texts =
-    let s : Some_answer (Syncs rows sound.store token items limit sync_token cursor_token now) =
+    let s : HasAnswer (Syncs rows sound.store token items limit sync_token cursor_token now) =
     syncs rows sound costs items limit now fits texts token sync_token cursor_token in
     (s.0, s.1, (sound.store, sound.stands, s.2))
