@@ -198,9 +198,9 @@ def section(figures, rounds):
         TITLE,
         "",
         f"What a sync changes and what is answered to it, {now} UTC, Python {sys.version.split()[0]}, SQLite {sqlite3.sqlite_version}, "
-        f"load average {os.getloadavg()[0]:.1f}; processor time, the least of {rounds} rounds, the others' once. The proved rule and the "
-        "model read no message and write none but their own; the model reads the request's JSON and writes the answer's. sqlite3 looks "
-        "the items and the page up by an index and writes the rows, and compares nothing.",
+        f"load average {os.getloadavg()[0]:.1f}; processor time, the least of {rounds} rounds, the others' once. The proved rule "
+        "reads no message and writes none; the model reads the request's JSON and writes the answer's. sqlite3 looks the items and the "
+        "page up by an index and writes the rows, and compares nothing.",
         "",
         f"| what | {sizes} |",
         "|---|" + "---|" * len(SIZES),
