@@ -236,7 +236,7 @@ fn text_of(bytes: &[u8]) -> Option<&str>
     }
 }
 
-fn copied_to(bytes: &[u8], out: &mut [u8]) -> u64
+pub(crate) fn copied_to(bytes: &[u8], out: &mut [u8]) -> u64
     ensures { result < 2 ^ 64 - 1 → take result out.new ≡ bytes.now }
 {
     if bytes.len() > out.len() {

@@ -99,7 +99,7 @@ fn written_answer(alloc: Global, answer: &Answer) -> Option<String>
     }
 }
 
-fn route_of(number: u8) -> Option<Route>
+pub(crate) fn route_of(number: u8) -> Option<Route>
     ensures { IfSome result (λ on. number_of on ≡ number) }
 {
     match number {
