@@ -179,9 +179,7 @@ fn accepted_row(
     let deleted = is_deleted(&item.body);
     let content = content_of(&item.body);
     let enc = enc_of(&item.body);
-    let found = ItemRow::new(
-        alloc, number, kind, created, stamp, deleted, content, enc,
-    )?;
+    let found = ItemRow::new(alloc, number, kind, created, stamp, deleted, content, enc)?;
     match found {
         Some(row) => Ok(row),
         None => unreachable!(),

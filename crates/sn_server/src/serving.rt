@@ -187,7 +187,13 @@ fn send<O: Sink>(sink: &mut O, reply: &Reply) -> Result<(), WriteFault>
     ensures cause { HasCause (O.fault_count sink.old) (O.fault_count sink.new) result }
 {
     let body = reply.body.as_str().as_bytes();
-    write_answer(sink, reply.status, reply.allow.as_str(), reply.closing, body)
+    write_answer(
+        sink,
+        reply.status,
+        reply.allow.as_str(),
+        reply.closing,
+        body,
+    )
 }
 
 // Writes the answer to a message that fails a check.

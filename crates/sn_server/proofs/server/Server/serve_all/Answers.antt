@@ -17,9 +17,12 @@ pub messages-preserved : goal.messages-preserved
 messages-preserved g c = record {
   runs = λ kept stands.
       let (steps, run, count, stands_now) = c.messages.invariant.runs kept stands in
-      let (step, serves, stands_next, closes) = c.in-Served.ensures.ends (after_all kept steps) stands_now in
-      (steps ++ step ∷ [], run_more kept steps step _ _ _ run serves (sym closes ∙ c.if-closing.false), omega (arith, count, length-append steps (step ∷ [])),
-      subst (λ (k : Kept). IsOpen c.in-Served.next k) (sym (all_more kept steps step)) stands_next);
+      let (step, serves, stands_next, closes) = c.in-Served.ensures.ends (after_all kept steps) stands_now in (
+        steps ++ step ∷ [],
+        run_more kept steps step _ _ _ run serves (sym closes ∙ c.if-closing.false),
+        omega (arith, count, length-append steps (step ∷ [])),
+        subst (λ (k : Kept). IsOpen c.in-Served.next k) (sym (all_more kept steps step)) stands_next,
+      );
   within = omega (arith, c.messages-test.true);
   sound = c.in-Served.ensures.sound;
   grows = g.met.D.Disk.growing.on _ _ _ c.messages.invariant.grows c.in-Served.ensures.grows;
