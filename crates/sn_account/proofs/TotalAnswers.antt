@@ -62,9 +62,15 @@ has_account_put n identifier generation check utf8 low high =
     let put : (c : Change) × Puts c (key.Account n) (value.Account row) = put_of (key.Account n) (value.Account row) refl in
     (put.0, record { row = row; puts = put.1; identifier_is = refl; generation_is = refl; check_is = refl })
 
-has_generation_put : (n generation cost : ℕ) (nonce : Bytes) → 1 ≤ cost → IsUtf8 nonce → IsNonce nonce → (c : Change) × PutsGeneration c n generation cost nonce
-has_generation_put n generation cost nonce low utf8 fits =
-    let row : GenerationRow = record { pw_cost = cost; pw_nonce = nonce; cost_fits = low; nonce_fits = text_fits 1 256 nonce utf8 fits.0 fits.1 } in
+has_generation_put : (n generation cost : ℕ) (nonce : Bytes) → IsCost cost → IsUtf8 nonce → IsNonce nonce → (c : Change) × PutsGeneration c n generation cost nonce
+has_generation_put n generation cost nonce costs utf8 fits =
+    let row : GenerationRow = record {
+      pw_cost = cost;
+      pw_nonce = nonce;
+      cost_fits = costs.0;
+      nonce_fits = text_fits 1 256 nonce utf8 fits.0 fits.1;
+      cost_bounded = costs.1;
+    } in
     let put : (c : Change) × Puts c (key.Generation n generation) (value.Generation row) = put_of (key.Generation n generation) (value.Generation row) refl in
     (put.0, record { row = row; puts = put.1; cost_is = refl; nonce_is = refl })
 
@@ -87,7 +93,7 @@ module _ (rows : Rows) (sound : IsSound rows) where
           let account : (c : Change) × PutsAccount c n params.identifier 1 (check_value pw) =
           has_account_put n params.identifier 1 (check_value pw) utf8 params.identifier_fits.0 params.identifier_fits.1 in
           let generation : (c : Change) × PutsGeneration c n 1 params.pw_cost params.pw_nonce =
-          has_generation_put n 1 params.pw_cost params.pw_nonce params.cost_fits.0 nonce params.nonce_fits in
+          has_generation_put n 1 params.pw_cost params.pw_nonce params.cost_fits nonce params.nonce_fits in
           let count = has_store_put sound.store sound.store.last n sound.store.last_fits in (
             account.0 ∷ generation.0 ∷ count.0 ∷ [],
             answer.Account (session_token sound.store.secret n 1) params.identifier (account_uuid n),
@@ -195,7 +201,7 @@ module _ (rows : Rows) (sound : IsSound rows) where
           ([], answer.Refused 409 (codes "changes-used") (more.Number most_generations), inr (inr (inl (none, fresh, omega arith, (refl, refl)))))
       by_number none fresh (inr less) =
           let account : (c : Change) × PutsAccount c n a.identifier (suc a.generation) (check_value pw) = own_put in
-          let generation : (c : Change) × PutsGeneration c n (suc a.generation) cost nonce = has_generation_put n (suc a.generation) cost nonce costs.0 utf8 fits in (
+          let generation : (c : Change) × PutsGeneration c n (suc a.generation) cost nonce = has_generation_put n (suc a.generation) cost nonce costs utf8 fits in (
             account.0 ∷ generation.0 ∷ [],
             answer.Account (session_token sound.store.secret n (suc a.generation)) a.identifier (account_uuid n),
             inr (inr (inr (
@@ -414,21 +420,25 @@ module _ (rows : Rows) (sound : IsSound rows) (costs : HaveCosts rows) (items : 
 
 -- ---- all routes
 
+-- each row's cost has 32 bits
+have_costs : (rows : Rows) → HaveCosts rows
+have_costs rows n g r has = r.cost_bounded
+
 pub each_is_answered : EachIsAnswered
-each_is_answered rows (request.Register params pw) now sound costs fits texts =
+each_is_answered rows (request.Register params pw) now sound fits texts =
     let s : HasAnswer (Registers rows sound.store params pw) = registers rows sound params pw texts.0 texts.1 in
     (s.0, s.1, (sound.store, sound.stands, s.2))
-each_is_answered rows (request.Params identifier) now sound costs fits texts =
-    let t : (given : Answer) × TellsParams rows identifier given = tells rows sound costs identifier in
+each_is_answered rows (request.Params identifier) now sound fits texts =
+    let t : (given : Answer) × TellsParams rows identifier given = tells rows sound (have_costs rows) identifier in
     ([], t.0, (sound.store, sound.stands, (refl, t.1)))
-each_is_answered rows (request.SignIn identifier pw) now sound costs fits texts =
+each_is_answered rows (request.SignIn identifier pw) now sound fits texts =
     let t : (given : Answer) × SignsIn rows sound.store identifier pw given = signs rows sound identifier pw in
     ([], t.0, (sound.store, sound.stands, (refl, t.1)))
-each_is_answered rows (request.ChangePw token current pw cost nonce) now sound costs (first, second, low, high) texts =
+each_is_answered rows (request.ChangePw token current pw cost nonce) now sound (first, second, low, high) texts =
     let s : HasAnswer (ChangesPassword rows sound.store token current pw cost nonce) =
-    changes_password rows sound costs token current pw cost nonce low high texts in
+    changes_password rows sound (have_costs rows) token current pw cost nonce low high texts in
     (s.0, s.1, (sound.store, sound.stands, s.2))
-each_is_answered rows (request.Sync token items limit sync_token cursor_token) now sound costs (fits, least, most) texts =
+each_is_answered rows (request.Sync token items limit sync_token cursor_token) now sound (fits, least, most) texts =
     let s : HasAnswer (Syncs rows sound.store token items limit sync_token cursor_token now) =
-    syncs rows sound costs items limit now fits texts token sync_token cursor_token in
+    syncs rows sound (have_costs rows) items limit now fits texts token sync_token cursor_token in
     (s.0, s.1, (sound.store, sound.stands, s.2))

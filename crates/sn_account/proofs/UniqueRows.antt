@@ -42,17 +42,19 @@ account_same a b e0 e1 e2 =
 
 pub generation_same : (a b : GenerationRow) → a.pw_cost ≡ b.pw_cost → a.pw_nonce ≡ b.pw_nonce → a ≡ b
 generation_same a b e0 e1 =
-    let P : (ℕ × List ℕ) → Type 0 = λ t. (g0 : 1 ≤ t.0) → (g1 : IsTrue (is_nonce t.1))
-    → a ≡ record { pw_cost = t.0; pw_nonce = t.1; cost_fits = g0; nonce_fits = g1 } in
+    let P : (ℕ × List ℕ) → Type 0 = λ t. (g0 : 1 ≤ t.0) → (g1 : IsTrue (is_nonce t.1)) → (g2 : t.0 ≤ 4294967295)
+    → a ≡ record { pw_cost = t.0; pw_nonce = t.1; cost_fits = g0; nonce_fits = g1; cost_bounded = g2 } in
     let p0 : IsProp (1 ≤ a.pw_cost) = hlevel props in
     let p1 : IsProp (IsTrue (is_nonce a.pw_nonce)) = hlevel props in
+    let p2 : IsProp (a.pw_cost ≤ 4294967295) = hlevel props in
     let same : (a.pw_cost, a.pw_nonce) ≡ (b.pw_cost, b.pw_nonce) = cc in
-    subst P same (λ g0 g1. λ i. record {
+    subst P same (λ g0 g1 g2. λ i. record {
       pw_cost = a.pw_cost;
       pw_nonce = a.pw_nonce;
       cost_fits = p0 a.cost_fits g0 i;
       nonce_fits = p1 a.nonce_fits g1 i;
-    }) b.cost_fits b.nonce_fits
+      cost_bounded = p2 a.cost_bounded g2 i;
+    }) b.cost_fits b.nonce_fits b.cost_bounded
 
 pub item_row_same : (a b : ItemRow) → a.account ≡ b.account → a.kind ≡ b.kind → a.created ≡ b.created → a.updated ≡ b.updated
     → a.deleted ≡ b.deleted → a.content ≡ b.content → a.enc ≡ b.enc → a ≡ b

@@ -26,5 +26,5 @@ HaveCosts rows = (n g : ℕ) (r : GenerationRow) → HasGeneration rows n g r �
 
 -- of sound rows, at any time
 abbrev pub EachIsAnswered : Type 0
-EachIsAnswered = (rows : Rows) (r : Request) (now : ℕ) → IsSound rows → HaveCosts rows → FitsRequest r → AreTexts r
+EachIsAnswered = (rows : Rows) (r : Request) (now : ℕ) → IsSound rows → FitsRequest r → AreTexts r
     → (changes : List Change) × (given : Answer) × Rule rows r now changes given
