@@ -14,20 +14,20 @@ mod program;
 mod refusal;
 mod replaying;
 mod sealing;
+mod serving;
 mod showing;
 mod status;
-#[cfg(test)]
-mod stream_tests;
 mod syntax;
 #[cfg(test)]
 mod tests;
 mod words;
 
-use outside::{DrawnSeed, Input, Output};
+use outside::DrawnSeed;
 use program::run;
 use rand_chacha::ChaCha20Rng;
 use rand_core::Rng;
 use sn_replay::PlainBench;
+use sn_system::{FileShelf, Input, Output, SystemClock, TcpPort};
 use status::Status;
 use std::io;
 use std::process::ExitCode;
@@ -49,10 +49,13 @@ fn run_on_streams(rt: &HostRuntime, words: &[String]) -> Status {
     run(
         rt.alloc(),
         words,
+        &mut FileShelf::new(rt),
         &mut PlainBench::new(rt.alloc()),
+        &mut TcpPort::new(rt),
         &mut Input::new(rt.reader()),
         &mut Output::new(rt.stdout()),
         &mut Output::new(rt.stderr()),
+        &mut SystemClock::new(rt),
         &mut DrawnSeed::new(seed),
     )
 }

@@ -1,0 +1,5 @@
+pub mod Hosting
+pub mod Listening
+pub mod Refusals
+pub mod Serving
+pub mod Visits
