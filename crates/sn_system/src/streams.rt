@@ -1,9 +1,14 @@
 // A reader and a writer as a source and a sink.
 ghost use Rattle.std.specs.Prelude.{◌≡◌, None};
+ghost use Rattle.std.specs.Io.{ReadsAtMost, WritesAtMost};
 
 use crate::faults::{counted, fault};
 use sn_io::{Failed, Sink, Source};
-use std::io::{Read, Write};
+use std::io;
+use std::io::{ErrorKind, Read, Write};
+
+// How often a call is made that a signal interrupts, as where the program is stopped and goes on.
+const TRIES: u32 = 1000;
 
 /// A reader, as standard input or a socket.
 #[derive(Drop)]
@@ -28,7 +33,7 @@ impl<R: Read + Drop> Source for Input<R> {
     }
 
     fn read(&mut self, into: &mut [u8]) -> Result<usize, Failed> {
-        counted(self.reader.read(into), &mut self.faults)
+        counted(read_on(&mut self.reader, into), &mut self.faults)
     }
 }
 
@@ -58,9 +63,35 @@ impl<W: Write + Drop> Sink for Output<W> {
         if bytes.is_empty() {
             return Ok(0);
         }
-        match self.writer.write(bytes) {
+        match write_on(&mut self.writer, bytes) {
             Ok(count) if count > 0 => Ok(count),
             _ => Err(fault(&mut self.faults)),
         }
     }
+}
+
+// Reads once, and again where a signal interrupts that.
+fn read_on<R: Read>(reader: &mut R, into: &mut [u8]) -> io::Result<usize>
+    ensures { ReadsAtMost result into.new }
+{
+    for _ in 0..TRIES {
+        match reader.read(into) {
+            Err(error) if error.kind() == ErrorKind::Interrupted => {}
+            read => return read,
+        }
+    }
+    Err(io::Error::from(ErrorKind::Interrupted))
+}
+
+// Writes once, and again where a signal interrupts that.
+fn write_on<W: Write>(writer: &mut W, bytes: &[u8]) -> io::Result<usize>
+    ensures { WritesAtMost result bytes.now }
+{
+    for _ in 0..TRIES {
+        match writer.write(bytes) {
+            Err(error) if error.kind() == ErrorKind::Interrupted => {}
+            written => return written,
+        }
+    }
+    Err(io::Error::from(ErrorKind::Interrupted))
 }

@@ -58,6 +58,68 @@ impl Write for Narrow {
     }
 }
 
+// Is interrupted at every other call, from the first on.
+#[derive(Drop)]
+struct Interrupted<T: Drop> {
+    inner: T,
+    calls: u64,
+}
+
+impl<T: Drop> Interrupted<T> {
+    fn interrupts(&mut self) -> bool {
+        let call = self.calls;
+        self.calls = call.saturating_add(1);
+        call % 2 == 0
+    }
+}
+
+impl<R: Read + Drop> Read for Interrupted<R> {
+    fn read(&mut self, buf: &mut [u8]) -> io::Result<usize> {
+        if self.interrupts() {
+            return Err(io::Error::from(io::ErrorKind::Interrupted));
+        }
+        self.inner.read(buf)
+    }
+}
+
+impl<W: Write + Drop> Write for Interrupted<W> {
+    fn write(&mut self, buf: &[u8]) -> io::Result<usize> {
+        if self.interrupts() {
+            return Err(io::Error::from(io::ErrorKind::Interrupted));
+        }
+        self.inner.write(buf)
+    }
+
+    fn flush(&mut self) -> io::Result<()> {
+        self.inner.flush()
+    }
+}
+
+#[test]
+fn an_interrupted_call_is_made_again(rt: HostRuntime) -> Result<(), Fail> {
+    let inner = Pieces {
+        text: b"0123456789",
+        calls: 0,
+        failing: 99,
+    };
+    let mut input = Input::new(Interrupted { inner, calls: 0 });
+    let bytes = read_all(rt.alloc(), &mut input, 100)?;
+    assert_eq!(rt; bytes.as_slice(), b"0123456789".as_slice());
+    assert_eq!(rt; input.faults(), 0);
+    let mut taken = Narrow {
+        taken: Vec::new(rt.alloc()),
+        calls: 0,
+        failing: 99,
+        fails: true,
+    };
+    let inner = &mut taken;
+    let mut out = Output::new(Interrupted { inner, calls: 0 });
+    write_all(&mut out, b"0123456789")?;
+    assert_eq!(rt; out.faults(), 0);
+    assert_eq!(rt; taken.taken.as_slice(), b"0123456789".as_slice());
+    Ok(())
+}
+
 #[test]
 fn an_input_in_pieces_is_read_to_its_end(rt: HostRuntime) -> Result<(), Fail> {
     let mut input = Input::new(Pieces {
