@@ -5,9 +5,10 @@ use Rattle.rand_chacha.specs.ChaCha.{ChaCha}
 use Rattle.sn_disk.specs.declared.disk.Disk.{Ghosts}
 use Rattle.sn_io.specs.Causes.{Rose}
 use Rattle.sn_net.specs.Connections.{Event, Going}
-use Rattle.sn_server.specs.Loading.{IsLoaded, IsLoadError}
-use Rattle.sn_server.specs.declared.server.LoadError.{LoadError}
-use Rattle.sn_server.specs.declared.server.LoadError.TheVariants as load
+use Rattle.sn_server.specs.Loads.{IsLoaded, IsServerError}
+use Rattle.sn_server.specs.Stores.{IsOpen}
+use Rattle.sn_server.specs.declared.error.ServerError.{ServerError}
+use Rattle.sn_server.specs.declared.error.ServerError.TheVariants as load
 use Rattle.sn_server.specs.declared.server.Server.{Server}
 use Rattle.sn_server.specs.declared.serving.Session.{Session}
 use Rattle.sn_serve.specs.Hosting.{HostEnds, Rests, EndsIn, IsBroken, IsWanting}
@@ -61,19 +62,19 @@ module _ {D P O C : Type 0} (g : Ghosts D) (goes : P → P → List Event → Ty
   hosted server disk host.Memory hosts = inr hosts
 
   -- a disk that was loaded ends as its server did
-  pub listened : (disk : D) (words : ChaCha) (server : Server D g) (back : D) (served : Served) → (g.told → IsLoaded (g.seen disk) words server)
+  pub listened : (disk : D) (words rest : ChaCha) (server : Server D g) (back : D) (served : Served) → (g.told → IsLoaded {S = Server D g} IsOpen (g.seen disk) words rest server)
       → ListenEnds g goes bound held given number requests old new server back served → DiskEnds g goes bound held given number requests old new disk words back served
-  listened disk words server back Reached loaded ends = record { server = server; loaded = loaded; ends = ends }
-  listened disk words server back DiskFault loaded ends = inr (record { server = server; loaded = loaded; ends = ends })
-  listened disk words server back PortFault loaded ends = record { server = server; loaded = loaded; ends = ends }
-  listened disk words server back WriteFault loaded ends = record { server = server; loaded = loaded; ends = ends }
-  listened disk words server back (Foreign place) loaded ends = absurd ends
-  listened disk words server back (Damaged place) loaded ends = absurd ends
-  listened disk words server back (Rows kind) loaded ends = absurd ends
-  listened disk words server back Memory loaded ends = inr (record { server = server; loaded = loaded; ends = ends })
+  listened disk words rest server back Reached loaded ends = record { server = server; words_left = rest; loaded = loaded; ends = ends }
+  listened disk words rest server back DiskFault loaded ends = inr (record { server = server; words_left = rest; loaded = loaded; ends = ends })
+  listened disk words rest server back PortFault loaded ends = record { server = server; words_left = rest; loaded = loaded; ends = ends }
+  listened disk words rest server back WriteFault loaded ends = record { server = server; words_left = rest; loaded = loaded; ends = ends }
+  listened disk words rest server back (Foreign place) loaded ends = absurd ends
+  listened disk words rest server back (Damaged place) loaded ends = absurd ends
+  listened disk words rest server back (Rows kind) loaded ends = absurd ends
+  listened disk words rest server back Memory loaded ends = inr (record { server = server; words_left = rest; loaded = loaded; ends = ends })
 
   -- one that wasn't, by the error
-  pub unloaded : (disk : D) (words : ChaCha) (back : D) (error : LoadError) → IsLoadError g.told (g.seen disk) (g.fault_count disk) (g.fault_count back) error → new ≡ old
+  pub unloaded : (disk : D) (words : ChaCha) (back : D) (error : ServerError) → IsServerError g.told (g.seen disk) (g.fault_count disk) (g.fault_count back) error → new ≡ old
       → DiskEnds g goes bound held given number requests old new disk words back (served_of error)
   unloaded disk words back (load.Foreign place) cause same = record { cause = cause; untouched = same }
   unloaded disk words back (load.Damaged place) cause same = record { cause = cause; untouched = same }
@@ -82,7 +83,7 @@ module _ {D P O C : Type 0} (g : Ghosts D) (goes : P → P → List Event → Ty
   unloaded disk words back load.Memory cause same = inl (record { cause = cause; untouched = same })
 
 -- a fault of the disk has its cause
-pub faulted : (told : Type 0) (file : List ℕ) (before after : ℕ) (error : LoadError) → IsLoadError told file before after error → served_of error ≡ DiskFault → Rose before after
+pub faulted : (told : Type 0) (file : List ℕ) (before after : ℕ) (error : ServerError) → IsServerError told file before after error → served_of error ≡ DiskFault → Rose before after
 faulted told file before after (load.Foreign place) cause is = absurd cc
 faulted told file before after (load.Damaged place) cause is = absurd cc
 faulted told file before after (load.Rows kind) cause is = absurd cc

@@ -7,10 +7,10 @@ use Rattle.rand_chacha.specs.ChaCha.{ChaCha}
 use Rattle.sn_disk.specs.declared.disk.Disk.{Ghosts}
 use Rattle.sn_io.specs.Streams.{TakesPart}
 use Rattle.sn_net.specs.Connections.{Event}
-use Rattle.sn_server.specs.Loading.{IsLoaded, IsLoadError}
-use Rattle.sn_server.specs.Stores.{server_disk}
-use Rattle.sn_server.specs.declared.server.LoadError.{LoadError}
-use Rattle.sn_server.specs.declared.server.LoadError.TheVariants as load
+use Rattle.sn_server.specs.Loads.{IsLoaded, IsServerError}
+use Rattle.sn_server.specs.Stores.{IsOpen, server_disk}
+use Rattle.sn_server.specs.declared.error.ServerError.{ServerError}
+use Rattle.sn_server.specs.declared.error.ServerError.TheVariants as load
 use Rattle.sn_server.specs.declared.server.Server.{Server}
 use Rattle.sn_serve.specs.Hosting.{HostEnds}
 use Rattle.sn_serve.specs.Visits.{stand}
@@ -85,14 +85,15 @@ module _ {D P O C : Type 0} (g : Ghosts D) (goes : P → P → List Event → Ty
   ListenEnds server disk Memory = IsUnwritten server disk ⊎ Hosts server disk host.Memory
 
   -- the disk has no store that loads, for this cause, and all else is as it was
-  pub record IsUnloaded (disk : D) (back : D) (error : LoadError) : Type 0 where
-    pub cause : IsLoadError g.told (g.seen disk) (g.fault_count disk) (g.fault_count back) error
+  pub record IsUnloaded (disk : D) (back : D) (error : ServerError) : Type 0 where
+    pub cause : IsServerError g.told (g.seen disk) (g.fault_count disk) (g.fault_count back) error
     pub untouched : new ≡ old
 
   -- the disk's server was loaded, with the words for what it draws, and ended so
   pub record IsServed (disk : D) (words : ChaCha) (back : D) (served : Served) : Type 0 where
     pub server : Server D g
-    pub loaded : g.told → IsLoaded (g.seen disk) words server
+    pub words_left : ChaCha
+    pub loaded : g.told → IsLoaded {S = Server D g} IsOpen (g.seen disk) words words_left server
     pub ends : ListenEnds server back served
 
   -- how serving a disk ends

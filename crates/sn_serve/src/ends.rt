@@ -3,7 +3,7 @@ ghost use Rattle.std.specs.Prelude.{◌≡◌};
 ghost use Rattle.sn_serve.specs.Refusals.{served_of};
 
 use sn_rows::RowKind;
-use sn_server::LoadError;
+use sn_server::ServerError;
 
 /// How serving ended.
 #[derive(Clone, Copy, Debug, PartialEq, Eq)]
@@ -26,15 +26,15 @@ pub enum Served {
 }
 
 /// What a store that isn't loaded makes of serving.
-pub(crate) fn served_of(error: LoadError) -> Served
+pub(crate) fn served_of(error: ServerError) -> Served
     ensures { result ≡ served_of error }
 {
     match error {
-        LoadError::Foreign { place } => Served::Foreign { place },
-        LoadError::Damaged { place } => Served::Damaged { place },
-        LoadError::Rows { kind } => Served::Rows { kind },
-        LoadError::DiskFault => Served::DiskFault,
-        LoadError::Memory => Served::Memory,
+        ServerError::Foreign { place } => Served::Foreign { place },
+        ServerError::Damaged { place } => Served::Damaged { place },
+        ServerError::Rows { kind } => Served::Rows { kind },
+        ServerError::DiskFault => Served::DiskFault,
+        ServerError::Memory => Served::Memory,
     }
 }
 

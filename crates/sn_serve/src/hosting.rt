@@ -2,7 +2,7 @@
 ghost use Rattle.std.specs.Prelude.{◌≡◌, ◌<◌, ◌≤◌};
 ghost use Rattle.sn_io.specs.Causes.{Rose};
 ghost use Rattle.sn_server.specs.Stores.{server_disk, server_rows};
-ghost use Rattle.sn_server.specs.Sound.{IsSound};
+ghost use Rattle.sn_account.specs.Sound.{IsSound};
 ghost use Rattle.sn_serve.specs.Visits.{stand};
 ghost use Rattle.sn_serve.specs.Hosting.{OneEnds, HostEnds, one_disk, IsNoConnection, IfLost, IfServed};
 

@@ -5,7 +5,7 @@ ghost use Rattle.std.specs.Io.KnownBytes.{Appends};
 ghost use Rattle.sn_io.specs.Causes.{Rose, HasCause};
 ghost use Rattle.sn_io.specs.Streams.{TakesPart};
 ghost use Rattle.sn_server.specs.Stores.{server_disk, server_rows};
-ghost use Rattle.sn_server.specs.Sound.{IsSound};
+ghost use Rattle.sn_account.specs.Sound.{IsSound};
 ghost use Rattle.sn_serve.specs.Listening.{listening_line, outside, served_so, ListenEnds, DiskEnds};
 
 use crate::ends::{HostEnd, Served, served_of};

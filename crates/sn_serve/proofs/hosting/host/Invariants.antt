@@ -1,6 +1,6 @@
 use Rattle.std.proofs.Common.{◌≡◌, ◌+◌, ◌≤◌, List}
 use Rattle.sn_server.specs.Stores.{server_disk, server_rows}
-use Rattle.sn_server.specs.Sound.{IsSound}
+use Rattle.sn_account.specs.Sound.{IsSound}
 use Rattle.sn_serve.specs.Visits.{Stand, Visit, AreVisits, counted_in, events_of, stand}
 use Rattle.sn_serve.proofs.hosting.host.Given as goal
 

@@ -8,7 +8,7 @@ pub returns-in-Ok-clause-ends : goal.returns-in-Ok-clause-ends
 returns-in-Ok-clause-ends g c =
     listened g.D.Disk g.P.Port.goes g.P.Port.bound g.O.Sink.held g.C.Clock.given c.args.number c.args.requests
     (outside c.args.port.now c.args.out.now c.args.clock.now) (outside c.listen.new.port c.listen.new.out c.listen.new.clock)
-    c.args.disk c.args.words c.in-Ok.server c.listen.result.0 c.listen.result.1 c.in-Ok.ensures.loaded c.listen.ensures.ends
+    c.args.disk c.args.words c.load.new.words c.in-Ok.server c.listen.result.0 c.listen.result.1 c.in-Ok.ensures.loaded c.listen.ensures.ends
 
 pub returns-in-Err-clause-ends : goal.returns-in-Err-clause-ends
 returns-in-Err-clause-ends g c =
