@@ -18,6 +18,7 @@ pub mod rule_laws;
 pub mod session_laws;
 pub mod sessions;
 pub mod sound_laws;
+pub mod soundness;
 pub mod state;
 mod stored;
 mod sync;
@@ -30,6 +31,7 @@ pub use answering::answer;
 pub use first::first_state;
 pub use passwords::change_password;
 pub use sessions::account_uuid;
+pub use soundness::first_unsound;
 pub use state::State;
 
 #[cfg(test)]
