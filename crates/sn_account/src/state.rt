@@ -18,3 +18,22 @@ pub struct State {
     pub(crate) marked: Many<Change>,
     pub(crate) ghost fits: { All (FitsIn rows) marked } by { all_fit-prop rows marked },
 }
+
+impl State {
+    ghost use Rattle.std.specs.Prelude.{◌≡◌};
+    ghost use Rattle.sn_account.specs.States.{IsUnmarked, state_rows};
+    ghost use Rattle.sn_row_map.specs.RowMaps.{row_in};
+    ghost use Rattle.sn_rows.specs.declared.key.Key.{Key};
+
+    /// The state of the rows of a map, which it keeps as they are. Takes no memory.
+    pub fn of_map(alloc: Global, rows: RowMap) -> State
+        ensures rows { (key : Key) → state_rows result key ≡ row_in rows key }
+        ensures unmarked { IsUnmarked result }
+    {
+        State {
+            alloc,
+            rows,
+            marked: Many::new(alloc),
+        }
+    }
+}

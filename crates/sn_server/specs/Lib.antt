@@ -1,6 +1,9 @@
+pub mod Beginning
 pub mod CheckBodies
+pub mod Emptiness
 pub mod Gaining
 pub mod Handling
+pub mod Loads
 pub mod Messages
 pub mod Outcomes
 pub mod Replies
