@@ -28,3 +28,11 @@ pub mod TakenLemmas
 pub mod WalkLemmas
 pub mod SyncSteps
 pub mod TokenFits
+pub mod AllRows
+pub mod ApartLemmas
+pub mod StampWalk
+pub mod NonceWalk
+pub mod SoundKinds
+pub mod Upto
+pub mod MetLemmas
+pub mod ItemTests

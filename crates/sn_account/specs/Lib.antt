@@ -14,3 +14,5 @@ pub mod Room
 pub mod States
 pub mod Laws
 pub mod RuleLaws
+pub mod Unsound
+pub mod Walks

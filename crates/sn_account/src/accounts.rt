@@ -22,7 +22,7 @@ use sn_sync::{Answer, More};
 use std::alloc::{AllocError, Global};
 
 /// The most accounts that a server has.
-const MOST_ACCOUNTS: u64 = 1_000_000;
+pub(crate) const MOST_ACCOUNTS: u64 = 1_000_000;
 
 /// What a request changes, and what is answered to it.
 #[derive(Drop)]

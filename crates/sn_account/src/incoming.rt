@@ -250,7 +250,7 @@ fn is_own_string(
 }
 
 // Whether a part of a 003 string is the text of this uuid.
-fn is_text_of(part: &str, uuid: Uuid) -> bool
+pub(crate) fn is_text_of(part: &str, uuid: Uuid) -> bool
     requires { AreBytes 16 uuid }
     ensures { IsTrue result ↔ (part.now ≡ uuid_text uuid) }
 {

@@ -27,7 +27,7 @@ use std::alloc::{AllocError, Global};
 use uuid::Uuid;
 
 /// The most generations of an account's keys.
-const MOST_GENERATIONS: u64 = 1_000_000;
+pub(crate) const MOST_GENERATIONS: u64 = 1_000_000;
 
 /// Gives an account its next keys.
 pub fn change_password(

@@ -1,0 +1,43 @@
+use Rattle.std.proofs.Common.{◌≡◌, ◌+◌, ◌<◌, ◌≤◌, refl, arith}
+use Rattle.std.specs.BTreeMap.{get_by}
+use Rattle.std.specs.Cmp.Lexicographic.{slice_cmp}
+use Rattle.std.specs.Ordering.{nat_cmp}
+use Rattle.sn_account.specs.States.{state_rows}
+use Rattle.sn_account.specs.Walks.{HasText}
+use Rattle.sn_account.proofs.NonceWalk.{identifiers_again, identifiers_end, identifiers_first, identifiers_more, is_met, no_texts}
+use Rattle.sn_account.proofs.SoundKinds.{never}
+use Rattle.sn_account.proofs.apart.identifiers_differ.Goals.{else-accounts-test, then-accounts-test+in-Some+in_ok-is_first+else-not-branch+else-number-count}
+use Rattle.sn_account.proofs.apart.identifiers_differ.Goals as goal
+
+pub accounts-init : goal.accounts-init
+accounts-init c = identifiers_first (state_rows c.args.state.now) (HasText c.new-seen.result) (no_texts c.new-seen.result c.new-seen.ensures.empty)
+
+pub returns-then-not-branch : goal.returns-then-not-branch
+returns-then-not-branch c =
+    let met : HasText c.accounts.seen c.as_str.result.now =
+    is_met (get_by (λ k. slice_cmp nat_cmp c.as_str.result.now k.now) c.accounts.seen) c.in_ok-is_first.field-0 c.in_ok-is_first.ensures.first
+    c.if-not-branch.true in
+    never (identifiers_again (state_rows c.args.state.now) (HasText c.accounts.seen) c.accounts.number c.args.count c.in-Some.account.now
+    c.as_str.result.now (omega arith) (omega arith) c.in-Some.ensures.some c.as_str.ensures c.accounts.invariant met)
+
+pub accounts-preserved : goal.accounts-preserved
+accounts-preserved c =
+    identifiers_more (state_rows c.args.state.now) (HasText c.accounts.seen) (HasText c.is_first.new.seen) c.accounts.number c.in-Some.account.now
+    c.as_str.result.now (omega arith) c.in-Some.ensures.some c.as_str.ensures c.accounts.invariant
+    (c.in_ok-is_first.ensures.first.0 c.if-not-branch.false) c.in_ok-is_first.ensures.seen
+
+pub returns : goal.returns
+returns c = elim c.accounts-test.branch [
+  | else-accounts-test w ↦ (λ _. identifiers_end (state_rows c.args.state.now) (HasText c.accounts.seen) c.args.count c.accounts.number (omega arith)
+    c.accounts.invariant, λ _. refl)
+  | then-accounts-test+in-Some+in_ok-is_first+else-not-branch+else-number-count w ↦ (let whole = identifiers_more (state_rows c.args.state.now)
+    (HasText c.accounts.seen) (HasText w.is_first.new.seen) c.accounts.number w.in-Some.account.now w.as_str.result.now (omega arith)
+    w.in-Some.ensures.some w.as_str.ensures c.accounts.invariant (w.in_ok-is_first.ensures.first.0 w.if-not-branch.false) w.in_ok-is_first.ensures.seen in
+    (λ _. identifiers_end (state_rows c.args.state.now) (HasText w.is_first.new.seen) c.args.count (c.accounts.number + 1) (omega arith) whole, λ _. refl))
+]
+
+pub unreachable-requires : goal.unreachable-requires
+unreachable-requires c =
+    let none = rw c.in_default.is at c.account.ensures.none in
+    let there = c.requires.there c.accounts.number (omega arith) (omega arith) in
+    none there.0 there.1
