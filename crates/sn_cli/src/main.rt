@@ -16,18 +16,17 @@ mod replaying;
 mod sealing;
 mod showing;
 mod status;
-#[cfg(test)]
-mod stream_tests;
 mod syntax;
 #[cfg(test)]
 mod tests;
 mod words;
 
-use outside::{DrawnSeed, Input, Output};
+use outside::DrawnSeed;
 use program::run;
 use rand_chacha::ChaCha20Rng;
 use rand_core::Rng;
 use sn_replay::PlainBench;
+use sn_system::{Input, Output};
 use status::Status;
 use std::io;
 use std::process::ExitCode;
