@@ -11,40 +11,18 @@ use Rattle.sn_rows.specs.declared.key.Key.TheVariants as key
 use Rattle.sn_rows.specs.declared.server_rows.StoreRow.{StoreRow}
 use Rattle.sn_rows.specs.declared.value.Value.{Value}
 use Rattle.sn_rows.specs.declared.value.Value.TheVariants as value
-use Rattle.sn_rows.specs.Facts.{keys_compare, put_apart, put_here}
+use Rattle.sn_rows.specs.Facts.{IsOfKind, kind_after, put_apart, put_here}
 use Rattle.sn_ends.specs.Rows.{store_in}
 
--- the value, where there is one, is of the key's kind
-abbrev HasKind : Key → Option Value → Type 0
-HasKind k None = Unit {0}
-HasKind k (Some v) = key_kind k ≡ value_kind v
-
-own_kind : (c : Change) → HasKind (key_of c) (value_of c)
-own_kind (Put row) = row.one_kind
-own_kind (Remove k) = tt
-
-either_kind : (b : Bool) (x y : Option Value) (k : Key) → (b ≡ true → HasKind k x) → HasKind k y → HasKind k (if b then x else y)
-either_kind true x y k f h = f refl
-either_kind false x y k f h = h
-
-changed_kind : (found : Option Value) (k : Key) (c : Change) → HasKind k found → HasKind k (changed found k c)
-changed_kind found k c h =
-    either_kind (same_key (key_of c) k) (value_of c) found k
-    (λ t. subst (λ (q : Key). HasKind q (value_of c)) ((keys_compare (key_of c) k).0 t) (own_kind c)) h
-
-kind_after : (found : Option Value) (k : Key) (changes : List Change) → HasKind k found → HasKind k (row_after found k changes)
-kind_after found k [] h = h
-kind_after found k (c ∷ cs) h = kind_after (changed found k c) k cs (changed_kind found k c h)
-
-no_store : (found : Option Value) → HasKind key.Store found → store_in found ≡ None → found ≡ None
+no_store : (found : Option Value) → IsOfKind key.Store found → store_in found ≡ None → found ≡ None
 no_store None h e = refl
 no_store (Some (value.Store row)) h e = absurd (cc)
-no_store (Some v) h e = absurd (cc)
+no_store (Some v) h e = absurd (let own = h v refl in cc)
 
 -- where no row of the store is found, there is no row at its key
 pub store_none : (batches : List (List Change)) → store_in (rows_of_batches batches key.Store) ≡ None → rows_of_batches batches key.Store ≡ None
 store_none batches e =
-    no_store (rows_of_batches batches key.Store) (kind_after None key.Store (flat_map (λ (batch : List Change). batch) batches) tt) e
+    no_store (rows_of_batches batches key.Store) (kind_after None key.Store (flat_map (λ (batch : List Change). batch) batches) (λ v is. absurd (cc))) e
 
 pub store_row : (found : Option Value) (row : StoreRow) → store_in found ≡ Some row → found ≡ Some (value.Store row)
 store_row None row e = absurd (cc)

@@ -7,6 +7,7 @@ use Rattle.sn_rows.specs.declared.device_rows.LocalItem.{LocalItem}
 use Rattle.sn_rows.specs.declared.key.Key.TheVariants as key
 use Rattle.sn_rows.specs.declared.value.Value.{Value}
 use Rattle.sn_rows.specs.declared.value.Value.TheVariants as value
+pub use Rattle.sn_string.specs.Bounds.{most_bytes}
 
 -- a row with a draft
 abbrev pub if_draft : LocalItem → Option RowBody → List LocalItem
@@ -52,9 +53,6 @@ sent_size item = body_size (sent_of item item.posted)
 -- a request has 150 items at most, and their strings 4,194,304 bytes; a single item may be longer
 abbrev pub most_items : ℕ
 most_items = 150
-
-abbrev pub most_bytes : ℕ
-most_bytes = 4194304
 
 pub record FitsRequest (items : List LocalItem) : Type 0 where
   pub few : length items ≤ most_items

@@ -3,7 +3,7 @@ use Rattle.std.specs.Prelude.{◌≡◌, ℕ, ◌+◌, ◌<◌, ◌≤◌, List,
 use Rattle.sn_laws.specs.Each.{Each}
 use Rattle.sn_laws.specs.Lookups.{Bytes}
 use Rattle.sn_laws.specs.Moves.{longest_text}
-use Rattle.sn_rows.specs.Bounds.{HasLength}
+use Rattle.sn_rows.specs.Bounds.{HasLength, most_string}
 use Rattle.sn_rows.specs.Table.{Rows, rows_of_batches}
 use Rattle.sn_rows.specs.declared.body.RowBody.TheVariants as body
 use Rattle.sn_rows.specs.declared.body.RowStrings.{RowStrings}
@@ -20,8 +20,8 @@ pub record IsSendable (item : LocalItem) : Type 0 where
   pub strings : RowStrings
   pub latest : item.latest ≡ Some (body.Sealed strings)
   pub sent : sent_of item item.posted ≡ Some (body.Sealed strings)
-  pub content : HasLength 0 1048576 strings.content
-  pub enc : HasLength 0 1048576 strings.enc
+  pub content : HasLength 0 most_string strings.content
+  pub enc : HasLength 0 most_string strings.enc
 
 -- below this number no row has a draft, and from it on up to the next local number each has one: these
 pub record AreOpen (rows : Rows) (settled : ℕ) (items : List LocalItem) : Type 0 where

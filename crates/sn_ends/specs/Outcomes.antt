@@ -6,7 +6,7 @@ use Rattle.sn_items.specs.Objects.{is_object}
 use Rattle.sn_keys.specs.Keys.{AreKeysOf}
 use Rattle.sn_laws.specs.Lookups.{Bytes, device_named, greatest, is_account}
 use Rattle.sn_laws.specs.Moves.{longest_text}
-use Rattle.sn_string.specs.Bounds.{last_stamp}
+pub use Rattle.sn_string.specs.Bounds.{last_stamp, most_accounts}
 use Rattle.sn_laws.specs.declared.ideal.Content.TheVariants.{Plain}
 use Rattle.sn_laws.specs.declared.ideal.Device.{Device}
 use Rattle.sn_laws.specs.declared.ideal.Ideal.{Ideal}
@@ -56,9 +56,6 @@ pub record IsFirstSet (settings : Settings) (number : ℕ) (identifier password 
   pub cost : params.pw_cost ≡ settings.cost
   pub nonce : params.pw_nonce ≡ nonce_of (words_of settings number)
   pub keys : AreKeysOf password params set
-
-abbrev pub most_accounts : ℕ
-most_accounts = 1000000
 
 -- the account begins, and the device comes to hold its set
 abbrev pub registered : Bytes → Bytes → KeySet → Outcome

@@ -26,12 +26,9 @@ use sn_items::is_object;
 use sn_keys::derive;
 use sn_laws::{Content, LONGEST_TEXT, Move};
 use sn_report::{DeviceRefusal, Labels, Last, ServerRefusal};
-use sn_string::{KeySet, Many, Params, Text, Twin};
+use sn_string::{KeySet, MOST_ACCOUNTS, Many, Params, Text, Twin};
 use std::alloc::{AllocError, Global};
 use uuid::Uuid;
-
-/// The most accounts that a server has.
-const MOST_ACCOUNTS: u64 = 1_000_000;
 
 /// The moves of a line, and how it ended.
 #[derive(Drop)]

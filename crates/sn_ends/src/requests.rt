@@ -12,14 +12,11 @@ ghost use Rattle.sn_ends.specs.Rows.{local_in};
 use crate::accepting::sent_of;
 use crate::device::PlainDevice;
 use sn_rows::{LocalItem, RowBody, RowStrings};
-use sn_string::{Many, Twin};
+use sn_string::{MOST_BYTES, Many, Twin};
 use std::alloc::{AllocError, Global};
 
 // How many items a request has at most.
 const MOST_ITEMS: u64 = 150;
-
-// How many bytes their strings have at most.
-const MOST_BYTES: u64 = 4_194_304;
 
 impl PlainDevice {
     /// Copies of the drafts that are sent next: of those from the first one on, as many as fit a

@@ -5,7 +5,7 @@ ghost use Rattle.std.specs.BTreeMap.{get_by_text};
 ghost use Rattle.std.specs.Option.{option_copied};
 ghost use Rattle.sn_rows.specs.Table.{rows_of_batches};
 ghost use Rattle.sn_rows.specs.declared.key.Key.TheVariants as key;
-ghost use Rattle.sn_string.specs.Bounds.{last_stamp};
+ghost use Rattle.sn_string.specs.Bounds.{last_stamp, most_accounts};
 ghost use Rattle.sn_ends.specs.Changes.{Begins, IsAccountOf, IsRegistration, PutsStoreRow, Starts, count_in, last_in};
 ghost use Rattle.sn_ends.specs.Index.{IsIndex};
 ghost use Rattle.sn_ends.specs.Rows.{store_in};
@@ -108,7 +108,7 @@ impl PlainServer {
         words: &mut Words,
         set: &KeySet,
     ) -> Result<u64, AllocError>
-        requires room { count_in (rows_of_batches self.old.store key.Store) < 1000000 }
+        requires room { count_in (rows_of_batches self.old.store key.Store) < most_accounts }
         requires index { IsIndex self.old.numbers (rows_of_batches self.old.store) }
         requires free { (n : ℕ) → ¬ (IsAccountOf (rows_of_batches self.old.store) set.now.params.identifier n) }
         ensures begins { OnOk result (Begins self.old.store self.new.store set.now.params.identifier set.now) }

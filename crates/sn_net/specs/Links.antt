@@ -3,9 +3,9 @@ use Rattle.std.specs.Prelude.{◌≡◌, ◌++◌, ◌<◌, List, ℕ, [], ◌�
 use Rattle.std.specs.declared.option.Option.{Option}
 use Rattle.std.specs.List.{flat_map}
 use Rattle.std.proofs.Common.{refl, sym, ◌∙◌, ap, append-nil, append_assoc}
+use Rattle.std.proofs.lemmas.Grind.{flat_map-append}
 use Rattle.sn_io.specs.FaultPlan.{Plan}
 use Rattle.sn_net.specs.Exchanges.{Exchange, Asking}
-use Rattle.sn_net.specs.Ports.{flat_append}
 use Rattle.sn_net.specs.declared.mem_link.Asked.{Asked}
 use Rattle.sn_net.specs.declared.mem_link.MemLink.{MemLink}
 
@@ -51,8 +51,8 @@ asking = record {
   none = λ link. record { came = refl; are_kept = sym (append-nil (link_asked link)) };
   more = λ a b c xs ys x y. record {
     came = x.came ∙ ap (λ l. flat_map answered xs ++ l) y.came ∙ sym (append_assoc (flat_map answered xs) (flat_map answered ys) (link_left c))
-        ∙ ap (λ l. l ++ link_left c) (sym (flat_append answered xs ys));
+        ∙ ap (λ l. l ++ link_left c) (sym (flat_map-append answered xs ys));
     are_kept = y.are_kept ∙ ap (λ l. l ++ flat_map kept ys) x.are_kept ∙ append_assoc (link_asked a) (flat_map kept xs) (flat_map kept ys)
-        ∙ ap (λ l. link_asked a ++ l) (sym (flat_append kept xs ys));
+        ∙ ap (λ l. link_asked a ++ l) (sym (flat_map-append kept xs ys));
   };
 }

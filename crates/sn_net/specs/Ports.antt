@@ -2,6 +2,7 @@
 use Rattle.std.specs.Prelude.{◌≡◌, ◌⊎◌, ◌++◌, List, [], ◌∷◌, map, IsTrue}
 use Rattle.std.specs.List.{flat_map}
 use Rattle.std.proofs.Common.{refl, sym, ◌∙◌, ap, append-nil, append_assoc}
+use Rattle.std.proofs.lemmas.Grind.{flat_map-append}
 use Rattle.sn_io.specs.FaultPlan.{Plan, is_listed, began, failed, wanted}
 use Rattle.sn_io.specs.declared.memory.MemSource.{MemSource}
 use Rattle.sn_io.specs.declared.memory.MemSink.{MemSink}
@@ -29,17 +30,13 @@ abbrev pub IsNoAccept : List (MemSource × MemSink) → Plan → Plan → Type 0
 IsNoAccept waiting old new = (IsTrue (is_listed old) × (new ≡ began old))
     ⊎ (((waiting ≡ []) × (new ≡ failed (began old))) ⊎ (new ≡ wanted (began old)))
 
-pub flat_append : {A B : Type 0} (f : A → List B) (xs ys : List A) → flat_map f (xs ++ ys) ≡ flat_map f xs ++ flat_map f ys
-flat_append f [] ys = refl
-flat_append f (x ∷ xs) ys = ap (λ l. f x ++ l) (flat_append f xs ys) ∙ sym (append_assoc (f x) (flat_map f xs) (flat_map f ys))
-
 pub going : Going MemPort Goes
 going = record {
   none = λ port. record { came = refl; kept = sym (append-nil (map ends_of (port_ended port))) };
   more = λ a b c xs ys x y. record {
     came = x.came ∙ ap (λ l. flat_map accepted_in xs ++ l) y.came ∙ sym (append_assoc (flat_map accepted_in xs) (flat_map accepted_in ys) (map ends_of (port_waiting c)))
-        ∙ ap (λ l. l ++ map ends_of (port_waiting c)) (sym (flat_append accepted_in xs ys));
+        ∙ ap (λ l. l ++ map ends_of (port_waiting c)) (sym (flat_map-append accepted_in xs ys));
     kept = y.kept ∙ ap (λ l. l ++ flat_map ended_in ys) x.kept ∙ append_assoc (map ends_of (port_ended a)) (flat_map ended_in xs) (flat_map ended_in ys)
-        ∙ ap (λ l. map ends_of (port_ended a) ++ l) (sym (flat_append ended_in xs ys));
+        ∙ ap (λ l. map ends_of (port_ended a) ++ l) (sym (flat_map-append ended_in xs ys));
   };
 }

@@ -2,10 +2,7 @@
 use Rattle.std.specs.Prelude.{ℕ, ◌≤◌, ◌==◌, Bool, false, ◌&&◌, ◌||◌, nat_le, if◌then◌else◌, IsTrue, List, [], ◌∷◌, length}
 use Rattle.std.specs.List.{list_all}
 use Rattle.std.specs.Str.{is_utf8}
-
--- the last microsecond of the year 9999, counted from the first of 1970
-abbrev pub last_stamp : ℕ
-last_stamp = 253402300799999999
+pub use Rattle.sn_string.specs.Bounds.{last_stamp, most_string}
 
 -- UTF-8 of so many bytes
 abbrev pub is_text_of : ℕ → ℕ → List ℕ → Bool
@@ -29,7 +26,7 @@ is_type_or_empty text = is_text_of 0 255 text
 
 -- a string of an item on the server
 abbrev pub is_server_string : List ℕ → Bool
-is_server_string text = is_text_of 0 1048576 text
+is_server_string text = is_text_of 0 most_string text
 
 -- a visible ASCII character
 abbrev pub is_visible : ℕ → Bool
@@ -62,7 +59,7 @@ before_colon (byte ∷ bytes) = if has_colon bytes then byte ∷ before_colon by
 
 -- the bounds of what stands before, and after, the last colon of a string on a device
 abbrev pub has_device_lengths : List ℕ → Bool
-has_device_lengths text = nat_le (length (before_colon text)) 1048576 && nat_le (length (after_colon text)) 8192
+has_device_lengths text = nat_le (length (before_colon text)) most_string && nat_le (length (after_colon text)) 8192
 
 -- a string of an item on a device: before its last colon its first parts, after it its params
 abbrev pub is_device_string : List ℕ → Bool
@@ -73,7 +70,7 @@ abbrev pub HasLength : ℕ → ℕ → List ℕ → Type 0
 HasLength least most text = (least ≤ length text) × (length text ≤ most)
 
 abbrev pub HasDeviceLengths : List ℕ → Type 0
-HasDeviceLengths text = (length (before_colon text) ≤ 1048576) × (length (after_colon text) ≤ 8192)
+HasDeviceLengths text = (length (before_colon text) ≤ most_string) × (length (after_colon text) ≤ 8192)
 
 abbrev pub IsVisible : List ℕ → Type 0
 IsVisible text = IsTrue (list_all is_visible text)

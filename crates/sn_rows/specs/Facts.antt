@@ -16,6 +16,8 @@ use Rattle.sn_rows.specs.declared.key.Key.{Key}
 use Rattle.sn_rows.specs.declared.key.Key.TheVariants as key
 use Rattle.sn_rows.specs.declared.value.Value.{Value}
 use Rattle.sn_rows.specs.declared.change.Change.{Change}
+use Rattle.sn_rows.specs.declared.change.Change.TheVariants.{Put, Remove}
+use Rattle.sn_rows.specs.Kinds.{key_kind, value_kind}
 use Rattle.sn_rows.specs.Order.{code_order, key_order}
 use Rattle.sn_rows.specs.Table.{Rows, Puts, Removes, same_slot, same_key, key_of, value_of, changed, row_after, rows_after, rows_of_batches, with_row, Spares, IsLast}
 
@@ -181,3 +183,25 @@ same_order = fun_ext (λ a. fun_ext (λ b. keys_in_order a b))
 -- of any two keys one comes first or they are the same, and what comes before a key comes before those behind it
 pub key_order_total : IsTotalOrder key_order
 key_order_total = subst IsTotalOrder same_order total-law
+
+-- the value, where there is one, is of the key's kind
+abbrev pub IsOfKind : Key → Option Value → Type 0
+IsOfKind k found = (v : Value) → found ≡ Some v → key_kind k ≡ value_kind v
+
+own_kind : (c : Change) → IsOfKind (key_of c) (value_of c)
+own_kind (Put row) v is = let same : row.value ≡ v = cc in row.one_kind ∙ ap value_kind same
+own_kind (Remove k) v is = absurd cc
+
+either_kind : (b : Bool) (x y : Option Value) (k : Key) → (b ≡ true → IsOfKind k x) → IsOfKind k y → IsOfKind k (if b then x else y)
+either_kind true x y k f h = f refl
+either_kind false x y k f h = h
+
+changed_kind : (found : Option Value) (k : Key) (c : Change) → IsOfKind k found → IsOfKind k (changed found k c)
+changed_kind found k c h =
+    either_kind (same_key (key_of c) k) (value_of c) found k
+    (λ t. subst (λ (q : Key). IsOfKind q (value_of c)) ((keys_compare (key_of c) k).0 t) (own_kind c)) h
+
+-- changes leave values of their keys' kinds
+pub kind_after : (found : Option Value) (k : Key) (changes : List Change) → IsOfKind k found → IsOfKind k (row_after found k changes)
+kind_after found k [] h = h
+kind_after found k (c ∷ cs) h = kind_after (changed found k c) k cs (changed_kind found k c h)

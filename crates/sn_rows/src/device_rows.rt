@@ -5,9 +5,8 @@ ghost use Rattle.std.specs.Option.{ForSome};
 ghost use Rattle.sn_rows.specs.Bounds.{HasLength, IsVisible, is_identifier, is_nonce, is_sync_token, is_token, is_type, last_stamp};
 
 use crate::body::RowBody;
-use crate::server_rows::LAST_STAMP;
 use crate::texts::{is_text_within, is_visible};
-use sn_string::{Text, Twin};
+use sn_string::{LAST_STAMP, Text, Twin};
 use std::alloc::{AllocError, Global};
 use uuid::Uuid;
 

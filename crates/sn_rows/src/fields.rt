@@ -12,9 +12,8 @@ use crate::at::At;
 use crate::body::{RowBody, RowStrings};
 use crate::error::RowError;
 use crate::key::Slot;
-use crate::server_rows::LAST_STAMP;
 use crate::texts::{device_text_within, text_within, token_within};
-use sn_string::Text;
+use sn_string::{LAST_STAMP, Text};
 use std::alloc::Global;
 
 /// So many bytes.

@@ -18,6 +18,7 @@ use crate::fields::{
 use crate::kind::RowKind;
 use crate::server_rows::{AccountRow, GenerationRow, ItemRow, StoreRow};
 use crate::value::Value;
+use sn_string::MOST_STRING;
 use std::alloc::Global;
 use uuid::Uuid;
 
@@ -89,8 +90,8 @@ fn item_of<'a>(alloc: Global, at: At<'a>) -> Result<(Value, At<'a>), RowError>
     let (created, at) = stamp_of(at)?;
     let (updated, at) = stamp_of(at)?;
     let (deleted, at) = flag_of(at)?;
-    let (content, at) = str_of(at, 0, 1_048_576)?;
-    let (enc, at) = str_of(at, 0, 1_048_576)?;
+    let (content, at) = str_of(at, 0, MOST_STRING)?;
+    let (enc, at) = str_of(at, 0, MOST_STRING)?;
     let row = ItemRow::packed(
         alloc, account, kind, created, updated, deleted, content, enc,
     )?;

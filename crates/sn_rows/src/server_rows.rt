@@ -1,16 +1,13 @@
 //! The rows of a server.
 
 ghost use Rattle.std.specs.Prelude.{◌≡◌, ◌↔◌, ◌≤◌, ◌<◌, ◌+◌, ◌++◌, ◌^◌, IsSome, IfSome, IfOk, IsTrue, false, length, string_bytes};
-ghost use Rattle.sn_rows.specs.Bounds.{HasLength, is_identifier, is_nonce, is_server_string, is_type_or_empty, last_stamp};
+ghost use Rattle.sn_rows.specs.Bounds.{HasLength, is_identifier, is_nonce, is_server_string, is_type_or_empty, last_stamp, most_string};
 ghost use Rattle.sn_rows.specs.Packed.{kind_in, content_in, enc_in};
 
 use crate::texts::{is_str_within, is_text_within};
-use sn_string::{Text, Twin};
+use sn_string::{LAST_STAMP, MOST_STRING, Text, Twin};
 use std::alloc::{AllocError, Global};
 use std::marker::Model;
-
-/// The last microsecond of the year 9999, counted from the first of 1970: the greatest stamp.
-pub const LAST_STAMP: u64 = 253_402_300_799_999_999;
 
 /// What a server keeps once: its secret, the last stamp it gave, and how many accounts it has.
 #[derive(Drop)]
@@ -183,7 +180,7 @@ impl ItemRow {
     ) -> Result<Option<ItemRow>, AllocError>
         ensures within { IfOk result (λ found. IsSome found ↔ (HasLength 0 255 kind.now × (deleted ≡ false → 1 ≤ length kind.now)
             × (created ≤ last_stamp) × (updated ≤ last_stamp)
-            × HasLength 0 1048576 content.now × HasLength 0 1048576 enc.now)) }
+            × HasLength 0 most_string content.now × HasLength 0 most_string enc.now)) }
         ensures parts { IfOk result (λ found. IfSome found (λ r. (r.account ≡ account) × (r.kind ≡ kind.now)
             × (r.created ≡ created) × (r.updated ≡ updated) × (r.deleted ≡ deleted)
             × (r.content ≡ content.now) × (r.enc ≡ enc.now))) }
@@ -197,10 +194,10 @@ impl ItemRow {
         if created > LAST_STAMP || updated > LAST_STAMP {
             return Ok(None);
         }
-        if !is_str_within(content, 0, 1_048_576) {
+        if !is_str_within(content, 0, MOST_STRING) {
             return Ok(None);
         }
-        if !is_str_within(enc, 0, 1_048_576) {
+        if !is_str_within(enc, 0, MOST_STRING) {
             return Ok(None);
         }
         let row = ItemRow::packed(

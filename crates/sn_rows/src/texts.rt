@@ -5,7 +5,7 @@ ghost use Rattle.std.specs.Str.{is_utf8};
 ghost use Rattle.std.specs.List.{list_all};
 ghost use Rattle.sn_rows.specs.Bounds.{HasLength, HasDeviceLengths, IsVisible, is_text_of, is_token, is_device_string, is_visible, has_device_lengths, after_colon, before_colon};
 
-use sn_string::Text;
+use sn_string::{MOST_STRING, Text};
 
 /// Whether the text has so many bytes.
 pub(crate) fn is_text_within(text: &Text, least: usize, most: usize) -> bool
@@ -58,7 +58,7 @@ pub(crate) fn are_device_lengths(bytes: &[u8]) -> bool
     ensures test { result ≡ has_device_lengths bytes.now }
 {
     let (before, after) = colon_lengths(bytes);
-    before <= 1_048_576 && after <= 8192
+    before <= MOST_STRING && after <= 8192
 }
 
 // How many bytes stand before the last colon, and how many after it.

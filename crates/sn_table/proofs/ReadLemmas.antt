@@ -18,7 +18,7 @@ use Rattle.sn_rows.specs.Table.{row_after}
 use Rattle.sn_rows.specs.declared.change.Change.{Change}
 use Rattle.sn_rows.specs.declared.key.Key.{Key}
 use Rattle.sn_table.specs.Batches.{IsBatch, IsNoBatch}
-use Rattle.sn_table.specs.Facts.{kind_after}
+use Rattle.sn_rows.specs.Facts.{kind_after}
 use Rattle.sn_table.specs.Logs.{HasKinds}
 use Rattle.sn_table.specs.Reading.{IsAdded, AreRead, AreTaken, IsUnread, IsAddError, IsReadError}
 use Rattle.sn_table.specs.declared.reading.Unread.{Unread}

@@ -16,7 +16,7 @@ use Rattle.sn_row_map.specs.RowMaps.{row_in}
 use Rattle.sn_row_map.specs.declared.row_map.RowMap.{RowMap}
 use Rattle.sn_rows.proofs.ColumnLemmas.{payload_again}
 use Rattle.sn_rows.proofs.Same.{is_only}
-use Rattle.sn_rows.specs.Facts.{keys_compare}
+use Rattle.sn_rows.specs.Facts.{kind_after}
 use Rattle.sn_rows.specs.Kinds.{key_kind, value_kind}
 use Rattle.sn_rows.specs.Spelling.{spelled, entries_of, AreInForm}
 use Rattle.sn_rows.specs.Table.{changed, key_of, row_after, same_key, value_of}
@@ -68,28 +68,6 @@ module _ {D : Type 0} {g : Ghosts D} where
   -- a crash leaves the batches of a table
   pub open_each : (table : Table D g) (batches : List (List Change)) → IsOpen table batches → (c : List ℕ) → g.may_leave (table_disk table) c → IsStore (table_owner table) c batches
   open_each table batches o = log_each table.log batches o.log_has
-
--- the value, where there is one, is of the key's kind
-abbrev pub IsOfKind : Key → Option Value → Type 0
-IsOfKind k found = (v : Value) → found ≡ Some v → key_kind k ≡ value_kind v
-
-own_kind : (c : Change) → IsOfKind (key_of c) (value_of c)
-own_kind (Put row) v is = let same : row.value ≡ v = cc in row.one_kind ∙ ap value_kind same
-own_kind (Remove k) v is = absurd cc
-
-either_kind : (b : Bool) (x y : Option Value) (k : Key) → (b ≡ true → IsOfKind k x) → IsOfKind k y → IsOfKind k (if b then x else y)
-either_kind true x y k f h = f refl
-either_kind false x y k f h = h
-
-changed_kind : (found : Option Value) (k : Key) (c : Change) → IsOfKind k found → IsOfKind k (changed found k c)
-changed_kind found k c h =
-    either_kind (same_key (key_of c) k) (value_of c) found k
-    (λ t. subst (λ (q : Key). IsOfKind q (value_of c)) ((keys_compare (key_of c) k).0 t) (own_kind c)) h
-
--- changes leave values of their keys' kinds
-pub kind_after : (found : Option Value) (k : Key) (changes : List Change) → IsOfKind k found → IsOfKind k (row_after found k changes)
-kind_after found k [] h = h
-kind_after found k (c ∷ cs) h = kind_after (changed found k c) k cs (changed_kind found k c h)
 
 pub kinds_after : (old new : RowMap) (changes : List Change) → HasKinds old → ((key : Key) → row_in new key ≡ row_after (row_in old key) key changes) → HasKinds new
 kinds_after old new changes kinds rows key value is = kind_after (row_in old key) key changes (kinds key) value (sym (rows key) ∙ is)
