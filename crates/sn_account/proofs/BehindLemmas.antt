@@ -88,10 +88,10 @@ none_behind map all rows n params are same current uuid b =
 not_both_before : (u w : Bytes) → IsBefore u w → IsBefore w u → ⊥
 not_both_before u w h k = let e = nat_list_cmp_total.antisymm u w in let f = sym h ∙ e ∙ ap ordering_reverse k in cc
 
-not_before_itself : (u : Bytes) → IsBefore u u → ⊥
+pub not_before_itself : (u : Bytes) → IsBefore u u → ⊥
 not_before_itself u h = not_both_before u u h h
 
-keys_in_order : (held : RowMap) (rows : List (Key × Value)) (d : Key × Value) (i k : ℕ) → AreRowsOf held kind.Item rows → i < k → k < length rows
+pub keys_in_order : (held : RowMap) (rows : List (Key × Value)) (d : Key × Value) (i k : ℕ) → AreRowsOf held kind.Item rows → i < k → k < length rows
     → key_order (get_or rows i d).0 (get_or rows k d).0 ≡ Less
 keys_in_order held rows d i k are lt within =
     let f : Key × Value → Key = λ e. e.0 in

@@ -27,6 +27,7 @@ use Rattle.sn_sync.specs.declared.item.Item.{Item}
 use Rattle.sn_account.specs.Incoming.{IsAbsent, IsFree, IsNews, IsOwnBody, IsOwnString, Names, Progress, PutsVersion, SameVersion, Takes, TakesForeign, TakesNew, TakesOther, TakesSame, TakesUnread, stamp_of}
 use Rattle.sn_account.specs.Lookups.{Bytes, HasItem}
 use Rattle.sn_account.specs.Pages.{weight}
+use Rattle.sn_account.specs.Sound.{NamesItem}
 use Rattle.sn_account.specs.Stored.{IsGiven}
 use Rattle.sn_account.specs.Syncs.{AreShort, IsShort, strings_in}
 use Rattle.sn_account.specs.Taking.{IsAcceptance, IsAcceptedRow, IsEffect, IsFirstStamp, after, content_in, enc_in, is_deleted, progress}
@@ -78,6 +79,25 @@ pub own_none : {E : Type 0} (text uuid : Bytes) (e : StringError) (present : Par
     → IfOk outcome (λ b. (b ≡ false) × (e ≢ error.Memory)) → IfOk outcome (λ b. IsTrue b ↔ IsOwnString uuid present text)
 own_none text uuid e present (Ok b) refusal not = own_refused text uuid e present b refusal not
 own_none text uuid e present (Err f) refusal not = tt
+
+-- the same of a text that names a uuid
+pub named_read : (text uuid : Bytes) (parts : Parts) (named : Bool) → Is003 text (reading_of parts) → (IsTrue named ↔ (parts.uuid.now ≡ uuid_text uuid))
+    → (IsTrue named ↔ NamesItem text uuid)
+named_read text uuid parts named reads names = (
+  λ holds. (reading_of parts, reads, names.0 holds),
+  λ own. names.1 (ap (λ (r : Reading). r.uuid) (one_reading text (reading_of parts) own.0 reads own.1) ∙ own.2),
+)
+
+named_refused : (text uuid : Bytes) (e : StringError) (b : Bool) → IsRefusal text e → (b ≡ false) × (e ≢ error.Memory) → (IsTrue b ↔ NamesItem text uuid)
+named_refused text uuid e b refusal not = (
+  λ holds. absurd (let e = sym not.0 ∙ holds in cc),
+  λ own. absurd (not.1 (read_back text own.0 own.1 (Err e) refusal)),
+)
+
+pub named_none : {E : Type 0} (text uuid : Bytes) (e : StringError) (outcome : Result Bool E) → IsRefusal text e
+    → IfOk outcome (λ b. (b ≡ false) × (e ≢ error.Memory)) → IfOk outcome (λ b. IsTrue b ↔ NamesItem text uuid)
+named_none text uuid e (Ok b) refusal not = named_refused text uuid e b refusal not
+named_none text uuid e (Err f) refusal not = tt
 
 -- where the first string isn't its own, the body isn't
 pub own_not_first : (uuid : Bytes) (present : Params) (b : Body) (content enc : Bytes) (first : Bool) → b ≡ body.Strings content enc

@@ -5,6 +5,7 @@ pub mod FirstLemmas
 pub mod IncomingLemmas
 pub mod ListLemmas
 pub mod NamedLemmas
+pub mod NamesLemmas
 pub mod PageLemmas
 pub mod PasswordLemmas
 pub mod PresentLemmas
@@ -48,3 +49,12 @@ pub mod TotalRows
 pub mod TotalItems
 pub mod TotalPages
 pub mod TotalAnswers
+pub mod AllRows
+pub mod ApartLemmas
+pub mod StampWalk
+pub mod NonceWalk
+pub mod SoundKinds
+pub mod ToldKinds
+pub mod Upto
+pub mod MetLemmas
+pub mod ItemTests

@@ -1,5 +1,6 @@
 -- The change of a password.
-use Rattle.std.proofs.Common.{◌≡◌, ◌∙◌, ◌≤◌, ◌<◌, ℕ, suc, List, [], ◌∷◌, IfOk, Result, Ok, Err, sym, ap, subst, inr, ⊎_elim, ◌+◌, arith}
+use Rattle.std.proofs.Common.{◌≡◌, ◌∙◌, ◌≤◌, ◌<◌, ℕ, suc, List, [], ◌∷◌, IfOk, IfSome, Option, Some, None, Result, Ok, Err, refl, sym, ap, subst, inl, inr, ⊎_elim, ◌+◌, arith}
+use Rattle.std.specs.Prelude.{codes}
 use Rattle.std.proofs.Math.Nat.{eq-or-lt_of_le}
 use Rattle.sn_keys.specs.Keys.{check_value}
 use Rattle.sn_rows.specs.Table.{Puts, Rows}
@@ -12,6 +13,7 @@ use Rattle.sn_rows.specs.declared.value.Value.TheVariants as value
 use Rattle.sn_string.specs.declared.params.Params.{Params}
 use Rattle.sn_sync.specs.declared.answer.Answer.{Answer}
 use Rattle.sn_sync.specs.declared.answer.Answer.TheVariants as answer
+use Rattle.sn_sync.specs.declared.answer.More.TheVariants as more
 use Rattle.sn_account.specs.Lookups.{Bytes, HasAccount, HasGeneration, HasStore}
 use Rattle.sn_account.specs.declared.accounts.Ruled.{Ruled}
 use Rattle.sn_account.specs.Rules.{ChangesKeys, ChangesPassword, IsPresent, IsUsed, NoneBehind, Replaces}
@@ -115,6 +117,17 @@ replaces rows store held n a pw cost nonce next has stands next_is first account
 abbrev pub Changes : Rows → StoreRow → ℕ → AccountRow → Bytes → ℕ → Bytes → List Change → Answer → Type 0
 Changes rows store n a pw cost nonce changes given = (present : Params) × IsPresent rows n present
     × ChangesKeys rows store n a present pw cost nonce changes given
+
+-- the refusal of one generation more, of an account that may have no other
+pub generations_used : (rows : Rows) (n : ℕ) (a : AccountRow) (present : Params) (nonce : Bytes) (found : Option Answer) → IsSound rows → HasAccount rows n a
+    → NoneBehind rows n present → ¬ (IsUsed rows n nonce)
+    → IfSome found (λ given. (most_generations ≤ a.generation) × (given ≡ answer.Refused 409 (codes "changes-used") (more.Number most_generations)))
+    → IfSome found (λ given. (store : StoreRow) (pw : Bytes) (cost : ℕ) → ChangesKeys rows store n a present pw cost nonce [] given)
+generations_used rows n a present nonce None sound there none fresh used = tt
+generations_used rows n a present nonce (Some given) sound there none fresh used =
+    let bound = sound.generation n a there in
+    let all : a.generation ≡ most_generations = omega (arith, bound.1, used.0) in
+    λ store pw cost. inr (inr (inl (none, fresh, all, (refl, used.1))))
 
 pub changes_refused : (rows : Rows) (store : StoreRow) (n : ℕ) (a : AccountRow) (present : Params) (pw : Bytes) (cost : ℕ) (nonce : Bytes)
     (ruled : Ruled) (cause : Answer) → IsPresent rows n present → ChangesKeys rows store n a present pw cost nonce [] cause → ruled.changes ≡ []

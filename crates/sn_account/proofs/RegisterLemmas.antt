@@ -52,6 +52,15 @@ abbrev pub IsCause : Rows → StoreRow → Params → Option Answer → Type 0
 IsCause rows store params found = MatchOption found (IsUnknown rows params.identifier × (store.accounts < most_accounts))
     (λ given. (pw : Bytes) → Registers rows store params pw [] given)
 
+-- one of the two
+pub full_or_room : (rows : Rows) (store row : StoreRow) (params : Params) (found : Option Answer)
+    → IsSound rows → HasStore rows store → HasStore rows row → IsUnknown rows params.identifier
+    → IfSome found (λ given. (most_accounts ≤ row.accounts) × (given ≡ answer.Refused 409 (codes "full") (more.Number most_accounts)))
+    → IfNone found (row.accounts < most_accounts) → IsCause rows store params found
+full_or_room rows store row params (Some given) sound stands has unknown many few =
+    λ pw. full rows store row params pw given sound stands has unknown many.0 many.1
+full_or_room rows store row params None sound stands has unknown many few = (unknown, room rows store row stands has few)
+
 -- a refusal that was found changes nothing
 pub refuses : (rows : Rows) (store : StoreRow) (params : Params) (pw : Bytes) (found : Option Answer) (given : Answer) (changes : List Change)
     → IsCause rows store params found → found ≡ Some given → changes ≡ [] → Registers rows store params pw changes given

@@ -31,12 +31,12 @@ search_first map n params found goes = record {
 }
 
 -- what is found is the next of the rows
-record IsNextRow (rows : List (Key × Value)) (count : ℕ) (row : Key × Value) (rest : List (Key × Value)) : Type 0 where
-  within : count < length rows
-  is : row ≡ get_or rows count row
-  behind : drop (count + 1) rows ≡ rest
+pub record IsNextRow (rows : List (Key × Value)) (count : ℕ) (row : Key × Value) (rest : List (Key × Value)) : Type 0 where
+  pub within : count < length rows
+  pub is : row ≡ get_or rows count row
+  pub behind : drop (count + 1) rows ≡ rest
 
-next_row : (rows : List (Key × Value)) (count : ℕ) (row : Key × Value) (rest : List (Key × Value)) → drop count rows ≡ row ∷ rest
+pub next_row : (rows : List (Key × Value)) (count : ℕ) (row : Key × Value) (rest : List (Key × Value)) → drop count rows ≡ row ∷ rest
     → IsNextRow rows count row rest
 next_row rows count row rest left =
     let size : length rows - count ≡ suc (length rest) = sym (length-drop count rows) ∙ ap length left in

@@ -11,6 +11,7 @@ pub mod Candidates
 pub mod Replies
 pub mod Rule
 pub mod Room
+pub mod Names
 pub mod States
 pub mod Laws
 pub mod RuleLaws
@@ -20,3 +21,5 @@ pub mod RuleTotal
 pub mod AnswerSize
 pub mod Tells
 pub mod AccountTells
+pub mod Unsound
+pub mod Walks

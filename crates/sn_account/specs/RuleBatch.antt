@@ -2,6 +2,7 @@
 use Rattle.std.specs.Prelude.{ℕ, ◌≤◌, ◌^◌, List, length, All}
 use Rattle.sn_rows.specs.Kinds.{key_kind}
 use Rattle.sn_rows.specs.Laws.{Spells}
+use Rattle.sn_rows.specs.Spelling.{spelled}
 use Rattle.sn_rows.specs.Table.{Rows, key_of}
 use Rattle.sn_rows.specs.declared.change.Change.{Change}
 use Rattle.sn_rows.specs.declared.kind.RowKind.{RowKind}
@@ -20,6 +21,10 @@ IsServerKind kind.Item = Unit {0}
 IsServerKind kind.Owner = ⊥
 IsServerKind kind.Set = ⊥
 IsServerKind kind.Local = ⊥
+
+-- a batch that a server's log takes: each change is of a server's row, and the bytes that spell them are few enough
+abbrev pub IsServerBatch : List Change → Type 0
+IsServerBatch changes = All (λ c. IsServerKind (key_kind (key_of c))) changes × (length (spelled changes) ≤ 2 ^ 30)
 
 -- each change is of a server's row, and the bytes that spell them fit in one batch
 abbrev pub BatchesFit : Type 0

@@ -9,13 +9,11 @@ use Rattle.sn_rows.specs.declared.server_rows.GenerationRow.{GenerationRow}
 use Rattle.sn_rows.specs.declared.server_rows.ItemRow.{ItemRow}
 use Rattle.sn_rows.specs.declared.server_rows.StoreRow.{StoreRow}
 use Rattle.sn_rows.specs.declared.value.Value.{Value}
+pub use Rattle.sn_string.specs.Bounds.{most_accounts}
 use Rattle.sn_string.specs.Grammar.{Is003, Reading}
 use Rattle.sn_string.specs.Uuids.{uuid_text}
 use Rattle.sn_sync.specs.Laws.{AreBytes}
 use Rattle.sn_account.specs.Lookups.{Bytes, HasAccount, HasGeneration, HasItem, HasStore}
-
-abbrev pub most_accounts : ℕ
-most_accounts = 1000000
 
 abbrev pub most_generations : ℕ
 most_generations = 1000000

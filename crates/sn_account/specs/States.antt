@@ -6,7 +6,7 @@ use Rattle.sn_rows.specs.declared.key.Key.TheVariants as key
 use Rattle.sn_rows.specs.declared.server_rows.StoreRow.{StoreRow}
 use Rattle.sn_rows.specs.declared.value.Value.{Value}
 use Rattle.sn_rows.specs.declared.value.Value.TheVariants as value
-use Rattle.sn_row_map.specs.RowMaps.{row_in}
+use Rattle.sn_row_map.specs.RowMaps.{IsTidyBut, row_in}
 use Rattle.sn_account.specs.declared.state.State.{State}
 
 -- the row of a key in a list of rows, where it was this before
@@ -29,6 +29,10 @@ rows_before s key = row_in s.rows key
 -- with them
 abbrev pub state_rows : State → Rows
 state_rows s = rows_after (rows_before s) s.marked
+
+-- only the marked changes have room beside the rows
+abbrev pub HasNoRooms : State → Type 0
+HasNoRooms s = IsTidyBut s.marked s.rows
 
 -- none are marked
 abbrev pub IsUnmarked : State → Type 0

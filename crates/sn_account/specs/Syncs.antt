@@ -5,6 +5,7 @@ use Rattle.sn_rows.specs.declared.change.Change.{Change}
 use Rattle.sn_rows.specs.declared.key.Key.TheVariants as key
 use Rattle.sn_rows.specs.declared.server_rows.StoreRow.{StoreRow}
 use Rattle.sn_rows.specs.declared.value.Value.TheVariants as value
+pub use Rattle.sn_string.specs.Bounds.{most_string}
 use Rattle.sn_string.specs.declared.params.Params.{Params}
 use Rattle.sn_sync.specs.Tokens.{IsToken}
 use Rattle.sn_sync.specs.declared.answer.Answer.{Answer}
@@ -46,9 +47,6 @@ is_first sync cursor = false
 
 abbrev pub most_items : ℕ
 most_items = 500
-
-abbrev pub most_string : ℕ
-most_string = 1048576
 
 -- the strings of a body, the content before the item key
 abbrev pub strings_in : Body → List Bytes

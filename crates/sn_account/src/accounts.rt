@@ -1,6 +1,6 @@
 //! Registration, parameters and sign-in.
 
-ghost use Rattle.std.specs.Prelude.{◌≡◌, ◌↔◌, ◌<◌, ◌^◌, [], IfNone, IfOk, IfSome, IsTrue, MatchOption};
+ghost use Rattle.std.specs.Prelude.{◌≡◌, ◌↔◌, ◌<◌, ◌≤◌, ◌^◌, [], codes, IfNone, IfOk, IfSome, IsTrue, MatchOption};
 ghost use Rattle.sn_account.specs.Lookups.{Bytes, HasAccount, HasStore, IsNamed, IsUnknown};
 ghost use Rattle.sn_account.specs.Rules.{Begins, IsPresent, PutsAccount, PutsCount, PutsGeneration, Registers, SignsIn, TellsParams};
 ghost use Rattle.sn_account.specs.Sessions.{account_uuid, session_token};
@@ -10,6 +10,7 @@ ghost use Rattle.sn_keys.specs.Keys.{check_value};
 ghost use Rattle.sn_rows.specs.declared.server_rows.AccountRow.{AccountRow};
 ghost use Rattle.sn_rows.specs.declared.server_rows.StoreRow.{StoreRow};
 ghost use Rattle.sn_sync.specs.declared.answer.Answer.TheVariants as answer;
+ghost use Rattle.sn_sync.specs.declared.answer.More.TheVariants as more;
 
 use crate::changes::{put_account, put_generation, put_store};
 use crate::refusals::refused;
@@ -17,12 +18,9 @@ use crate::sessions::{account_uuid, session_token};
 use crate::state::State;
 use sn_keys::check_of;
 use sn_rows::{AccountRow, Change, GenerationRow, StoreRow};
-use sn_string::{Many, Params, Text, Twin};
+use sn_string::{MOST_ACCOUNTS, Many, Params, Text, Twin};
 use sn_sync::{Answer, More};
 use std::alloc::{AllocError, Global};
-
-/// The most accounts that a server has.
-const MOST_ACCOUNTS: u64 = 1_000_000;
 
 /// What a request changes, and what is answered to it.
 #[derive(Drop)]
@@ -62,7 +60,16 @@ fn register_cause(state: &State, params: &Params) -> Option<Answer>
     if number_of(state, params.identifier.as_str()).is_some() {
         return Some(refused(409, "taken", More::Nothing));
     }
-    if store_of(state).accounts >= MOST_ACCOUNTS {
+    full_cause(store_of(state))
+}
+
+// The refusal of one account more.
+pub(crate) fn full_cause(store: &StoreRow) -> Option<Answer>
+    ensures some { IfSome result (λ given. (most_accounts ≤ store.now.accounts)
+        × (given ≡ answer.Refused 409 (codes "full") (more.Number most_accounts))) }
+    ensures none { IfNone result (store.now.accounts < most_accounts) }
+{
+    if store.accounts >= MOST_ACCOUNTS {
         return Some(refused(409, "full", More::Number(MOST_ACCOUNTS)));
     }
     None
@@ -239,14 +246,13 @@ pub(crate) fn admitted(
 
 // The number of the account that has the identifier.
 fn number_of(state: &State, identifier: &str) -> Option<u64>
-    requires unmarked { IsUnmarked state.now }
-    requires sound { IsSound (state_rows state.now) }
+    requires { IsUnmarked state.now }
     ensures some { IfSome result (IsNamed (state_rows state.now) identifier.now) }
     ensures none { IfNone result (IsUnknown (state_rows state.now) identifier.now) }
 {
-    for number in 1..=store_of(state).accounts {
-        if is_named(state, number, identifier) {
-            return Some(number);
+    'accounts: for number in state.names.numbers(identifier) {
+        if is_named(state, *number, identifier) {
+            return Some(*number);
         }
     }
     None

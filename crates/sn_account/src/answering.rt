@@ -1,7 +1,8 @@
 //! The answer to any request.
 
-ghost use Rattle.std.specs.Prelude.{◌≢◌, ℕ, IfOk};
+ghost use Rattle.std.specs.Prelude.{◌≡◌, ◌≢◌, ℕ, IfOk, length};
 ghost use Rattle.sn_account.specs.Rule.{Rule};
+ghost use Rattle.sn_account.specs.RuleBatch.{IsServerBatch};
 ghost use Rattle.sn_account.specs.RuleLaws.{ActsFor, SparesAccount, status_of};
 ghost use Rattle.sn_account.specs.Sound.{IsSound};
 ghost use Rattle.sn_account.specs.States.{IsUnmarked, state_rows};
@@ -9,10 +10,11 @@ ghost use Rattle.sn_rows.specs.Table.{rows_after};
 ghost use Rattle.sn_sync.specs.Laws.{FitsAnswer, FitsRequest};
 ghost use Rattle.sn_sync.specs.Requests.{route_of};
 
-use crate::accounts::{Ruled, parameters, register, sign_in};
+use crate::accounts::{Ruled, parameters, register, sign_in, store_of};
 use crate::passwords::{change_password, unchanged};
 use crate::state::State;
 use crate::sync::sync;
+use sn_rows::StoreRow;
 use sn_sync::Request;
 use std::alloc::{AllocError, Global};
 
@@ -31,8 +33,18 @@ pub fn answer(
     ensures spares { IfOk result (λ ruled. (m : ℕ) → ((n : ℕ) → ActsFor (state_rows state.now) request.now n → m ≢ n)
         → SparesAccount (state_rows state.now) (rows_after (state_rows state.now) ruled.changes) m) }
     ensures within { IfOk result (λ ruled. FitsAnswer (route_of request.now) (status_of ruled.answer) ruled.answer) }
+    ensures batch { IfOk result (λ ruled. IsServerBatch ruled.changes) }
 {
+    let _secret = secret_of(store_of(state));
     by_route(alloc, state, request, now)
+}
+
+// The secret, which has its 32 bytes; so the row that is put of it is as short as it may be.
+fn secret_of(store: &StoreRow) -> &[u8]
+    ensures is { result.now ≡ store.now.secret }
+    ensures size { length result.now ≡ 32 }
+{
+    &store.secret
 }
 
 // The rule of the request's route.

@@ -3,14 +3,12 @@
 ghost use Rattle.std.specs.Prelude.{◌≡◌, [], IfNone, IfSome};
 ghost use Rattle.sn_account.specs.Syncs.{AreShort, IsFirstLong, IsFirstLongIn, NoneLong, strings_in};
 
+use sn_string::MOST_STRING;
 use sn_sync::{Body, Item};
 use uuid::Uuid;
 
 /// The most items of a sync.
 pub(crate) const MOST_ITEMS: usize = 500;
-
-/// The most bytes of a string.
-const MOST_STRING: usize = 1_048_576;
 
 /// The first string that is too long, by its item's uuid and its number of bytes.
 pub(crate) fn first_long(items: &[Item]) -> Option<(Uuid, u64)>

@@ -20,14 +20,10 @@ use crate::stored::{copy_of, given, is_same, names, weight};
 use crate::taken::{Effect, Taken};
 use crate::taking::{add, none_taken, stored};
 use sn_rows::ItemRow;
-use sn_rows::server_rows::LAST_STAMP;
-use sn_string::{Params, StringError, read, uuid_of};
+use sn_string::{LAST_STAMP, MOST_BYTES, Params, StringError, read, uuid_of};
 use sn_sync::{Body, Conflict, Item};
 use std::alloc::{AllocError, Global};
 use uuid::Uuid;
-
-/// The most bytes of strings in a page, and in the stored items of an answer's conflicts.
-pub(crate) const MOST_BYTES: u64 = 4_194_304;
 
 /// Deals with the items in order. Gives none where one of them would be accepted with a stamp past the last.
 pub(crate) fn take_all(
@@ -251,7 +247,7 @@ fn is_own_string(
 }
 
 // Whether a part of a 003 string is the text of this uuid.
-fn is_text_of(part: &str, uuid: Uuid) -> bool
+pub(crate) fn is_text_of(part: &str, uuid: Uuid) -> bool
     requires { AreBytes 16 uuid }
     ensures { IsTrue result ↔ (part.now ≡ uuid_text uuid) }
 {

@@ -2,12 +2,13 @@
 
 ghost use Rattle.std.specs.Prelude.{◌≡◌, All, IfOk, OnErr, OnOk, Option};
 ghost use Rattle.std.specs.Option.{option_copied};
-ghost use Rattle.sn_account.specs.States.{IsUnmarked, listed, listed_after, rows_before, state_rows};
+ghost use Rattle.sn_account.specs.States.{HasNoRooms, IsUnmarked, listed, listed_after, rows_before, state_rows};
 ghost use Rattle.sn_rows.specs.Kinds.{key_kind, value_kind};
 ghost use Rattle.sn_rows.specs.Table.{row_after, rows_after};
 ghost use Rattle.sn_rows.specs.declared.key.Key.{Key};
 ghost use Rattle.sn_rows.specs.declared.value.Value.{Value};
 
+use crate::names::Names;
 use crate::state::State;
 use sn_row_map::RowMap;
 use sn_rows::{Change, Key, Row, Value};
@@ -21,42 +22,56 @@ impl State {
         requires kinds { All (λ row. key_kind row.0 ≡ value_kind row.1) rows }
         ensures rows { IfOk result (λ state. (key : Key) → state_rows state key ≡ listed rows key) }
         ensures unmarked { IfOk result IsUnmarked }
+        ensures rooms { IfOk result HasNoRooms }
     {
+        let puts = puts_of(alloc, rows)?;
+        let mut names = Names::new(alloc);
+        names.add_all(&puts)?;
         let mut map = RowMap::new(alloc);
-        map.add_all(puts_of(alloc, rows)?)?;
+        map.add_all(puts)?;
         Ok(State {
             alloc,
             rows: map,
             marked: Many::new(alloc),
+            names,
         })
     }
 
-    /// Marks changes. Where memory is wanting, all stays as it was.
+    /// Marks changes. Where memory is wanting, all stays as it was, and the rooms made for them are given up.
     pub fn apply(&mut self, changes: &[Change]) -> Result<(), AllocError>
         requires unmarked { IsUnmarked self.old }
         ensures done { OnOk result ((key : Key) → state_rows self.new key ≡ rows_after (state_rows self.old) changes.now key) }
         ensures before { OnOk result ((key : Key) → rows_before self.new key ≡ state_rows self.old key) }
         ensures refused { OnErr result ((key : Key) → state_rows self.new key ≡ state_rows self.old key) }
         ensures unmarked { OnErr result (IsUnmarked self.new) }
+        ensures rooms { HasNoRooms self.old → HasNoRooms self.new }
     {
         let marked = twins(self.alloc, changes)?;
-        self.rows.make_room_for(changes)?;
+        if self.names.add_all(changes).is_err() || self.rows.make_room_for(changes).is_err() {
+            self.names.remove_all(&self.rows, changes);
+            self.rows.sweep_for(changes);
+            return Err(AllocError);
+        }
         self.marked = marked;
         Ok(())
     }
 
-    /// Takes the marked changes back. Takes no memory.
+    /// Takes the marked changes back, and gives up the rooms made for them. Takes no memory.
     pub fn undo(&mut self)
         ensures rows { (key : Key) → state_rows self.new key ≡ rows_before self.old key }
         ensures unmarked { IsUnmarked self.new }
+        ensures rooms { HasNoRooms self.old → HasNoRooms self.new }
     {
-        self.marked = Many::new(self.alloc);
+        let changes = mem::replace(&mut self.marked, Many::new(self.alloc));
+        self.names.remove_all(&self.rows, changes.as_slice());
+        self.rows.sweep_for(changes.as_slice());
     }
 
     /// Keeps the marked changes: none are marked from now on, and the rows stay. Takes no memory.
     pub fn keep(&mut self)
         ensures rows { (key : Key) → state_rows self.new key ≡ state_rows self.old key }
         ensures unmarked { IsUnmarked self.new }
+        ensures rooms { HasNoRooms self.old → HasNoRooms self.new }
     {
         let changes = mem::replace(&mut self.marked, Many::new(self.alloc));
         self.rows.set_all(changes.into_vec());

@@ -7,12 +7,11 @@ ghost use Rattle.sn_account.specs.Sound.{IsSound};
 ghost use Rattle.sn_account.specs.States.{IsUnmarked, state_rows};
 ghost use Rattle.sn_sync.specs.Stamps.{last_stamp};
 
-use crate::incoming::MOST_BYTES;
 use crate::page::{Candidates, Page};
 use crate::state::State;
 use crate::stored::{given, weight};
 use sn_rows::{ItemRow, Key, RowKind, Value};
-use sn_string::Many;
+use sn_string::{MOST_BYTES, Many};
 use sn_sync::Item;
 use std::alloc::{AllocError, Global};
 use std::collections::BTreeMap;

@@ -1,6 +1,6 @@
 //! The change of a password.
 
-ghost use Rattle.std.specs.Prelude.{◌≡◌, ◌≢◌, ◌<◌, ◌↔◌, ℕ, [], false, IfNone, IfOk, IfSome, IsTrue, Some};
+ghost use Rattle.std.specs.Prelude.{◌≡◌, ◌≢◌, ◌<◌, ◌≤◌, ◌↔◌, ℕ, [], codes, false, IfNone, IfOk, IfSome, IsTrue, Some};
 ghost use Rattle.sn_account.specs.Lookups.{Bytes, HasAccount, HasGeneration, HasStore};
 ghost use Rattle.sn_account.specs.Rules.{Carries, CarriesText, ChangesKeys, ChangesPassword, IsBehind, IsLeastBehind, IsPresent, IsUsed, NoneBehind, Replaces};
 ghost use Rattle.sn_account.specs.Sound.{IsSound, most_generations};
@@ -12,6 +12,8 @@ ghost use Rattle.sn_rows.specs.declared.server_rows.GenerationRow.{GenerationRow
 ghost use Rattle.sn_rows.specs.declared.server_rows.StoreRow.{StoreRow};
 ghost use Rattle.sn_string.specs.Bounds.{IsCost, IsNonce};
 ghost use Rattle.sn_string.specs.declared.params.Params.{Params};
+ghost use Rattle.sn_sync.specs.declared.answer.Answer.TheVariants as answer;
+ghost use Rattle.sn_sync.specs.declared.answer.More.TheVariants as more;
 ghost use Rattle.sn_string.specs.declared.reader.StringError.TheVariants.{Memory};
 
 use crate::accounts::{Ruled, has_password, present_params};
@@ -27,7 +29,7 @@ use std::alloc::{AllocError, Global};
 use uuid::Uuid;
 
 /// The most generations of an account's keys.
-const MOST_GENERATIONS: u64 = 1_000_000;
+pub(crate) const MOST_GENERATIONS: u64 = 1_000_000;
 
 /// Gives an account its next keys.
 pub fn change_password(
@@ -119,11 +121,20 @@ fn change_cause(
     if is_used(state, number, account, nonce) {
         return Ok(Some(refused(409, "nonce-used", More::Nothing)));
     }
+    Ok(used_cause(account))
+}
+
+// The refusal of one generation more.
+pub(crate) fn used_cause(account: &AccountRow) -> Option<Answer>
+    ensures some { IfSome result (λ given. (most_generations ≤ account.now.generation)
+        × (given ≡ answer.Refused 409 (codes "changes-used") (more.Number most_generations))) }
+    ensures none { IfNone result (account.now.generation < most_generations) }
+{
     if account.generation >= MOST_GENERATIONS {
         let more = More::Number(MOST_GENERATIONS);
-        return Ok(Some(refused(409, "changes-used", more)));
+        return Some(refused(409, "changes-used", more));
     }
-    Ok(None)
+    None
 }
 
 // The least uuid of an item of the account that still carries other parameters.

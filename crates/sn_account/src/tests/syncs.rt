@@ -9,6 +9,7 @@ ghost use Rattle.sn_sync.specs.Laws.{FitsRequest};
 use crate::answering::answer;
 use crate::first::first_state;
 use crate::state::State;
+use sn_string::uuid_text;
 use sn_sync::{Answer, Conflict, Item, More, Request, Route, Stamp, read_request};
 use std::alloc::{AllocError, Global};
 use std::test::Fail;
@@ -109,7 +110,7 @@ fn told_more(alloc: Global, more: &More) -> Result<String, AllocError> {
         More::Nothing => Ok(String::new(alloc)),
         More::Name(name) => format!(in alloc; " {}", name.as_str()),
         More::Number(number) => format!(in alloc; " {number}"),
-        More::Uuid(uuid) => format!(in alloc; " #{}", uuid.as_bytes()[15]),
+        More::Uuid(uuid) => format!(in alloc; " {}", uuid_text(alloc, *uuid)?.as_str()),
         More::Both(number, uuid) => format!(in alloc; " {number} #{}", uuid.as_bytes()[15]),
     }
 }
@@ -384,7 +385,7 @@ fn changes_one_after_another(rt: HostRuntime) -> Result<(), Fail> {
             Route::ChangePw,
             ALICE_LATER,
             second.as_str(),
-            "409 rekey-running #1",
+            "409 rekey-running 00000000-0000-4000-8000-000000000001",
         ),
         (
             Route::Sync,
@@ -405,6 +406,64 @@ fn changes_one_after_another(rt: HostRuntime) -> Result<(), Fail> {
             "saved #1@1001 retrieved #1@1000 MjoxMDAx",
         ),
         (Route::ChangePw, ALICE_LATER, second.as_str(), "200"),
+    ] {
+        let told = handled(alloc, &mut state, route, token, text, 1000)?;
+        assert_eq!(rt; told.as_str(), expected);
+    }
+    Ok(())
+}
+
+// A change waits for an item as long as one still carries other parameters: the next is answered with the least
+// uuid of them however often it is sent, and no other request is kept waiting.
+#[test]
+fn answers_while_a_change_runs(rt: HostRuntime) -> Result<(), Fail> {
+    let alloc = rt.alloc();
+    let mut state = with_two(alloc)?;
+    let second = sync_text(alloc, 2, "null", A, "")?;
+    let first = sync_text(alloc, 1, "null", A, ",\"sync_token\":\"MjoxMDAw\"")?;
+    let begun = change(alloc, "07", "09", "4c70")?;
+    let next = change(alloc, "09", "0a", "4c71")?;
+    let other = change(alloc, "07", "09", "63")?;
+    let admitted = sign_in(alloc, "alice@example.org", "09")?;
+    let stamp = "\"1970-01-01T00:00:00.001001Z\"";
+    let rewrapped = sync_text(alloc, 1, stamp, LATER, ",\"sync_token\":\"MjoxMDAx\"")?;
+    let stamp = "\"1970-01-01T00:00:00.001000Z\"";
+    let last = sync_text(alloc, 2, stamp, LATER, ",\"sync_token\":\"MjoxMDAy\"")?;
+    let waits_for_first = "409 rekey-running 00000000-0000-4000-8000-000000000001";
+    let waits_for_second = "409 rekey-running 00000000-0000-4000-8000-000000000002";
+    for (route, token, text, expected) in [
+        (
+            Route::Sync,
+            ALICE,
+            second.as_str(),
+            "saved #2@1000 MjoxMDAw",
+        ),
+        (Route::Sync, ALICE, first.as_str(), "saved #1@1001 MjoxMDAx"),
+        (Route::ChangePw, ALICE, begun.as_str(), "200"),
+        (Route::ChangePw, ALICE_LATER, next.as_str(), waits_for_first),
+        (Route::Params, "", "email=alice%40example.org", "200"),
+        (Route::SignIn, "", admitted.as_str(), "200"),
+        (Route::ChangePw, BO, other.as_str(), "200"),
+        (Route::ChangePw, ALICE_LATER, next.as_str(), waits_for_first),
+        (
+            Route::Sync,
+            ALICE_LATER,
+            rewrapped.as_str(),
+            "saved #1@1002 MjoxMDAy",
+        ),
+        (
+            Route::ChangePw,
+            ALICE_LATER,
+            next.as_str(),
+            waits_for_second,
+        ),
+        (
+            Route::Sync,
+            ALICE_LATER,
+            last.as_str(),
+            "saved #2@1003 MjoxMDAz",
+        ),
+        (Route::ChangePw, ALICE_LATER, next.as_str(), "200"),
     ] {
         let told = handled(alloc, &mut state, route, token, text, 1000)?;
         assert_eq!(rt; told.as_str(), expected);
