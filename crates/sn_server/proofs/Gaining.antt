@@ -1,6 +1,5 @@
 -- What a sink gained in a session.
-use Rattle.std.specs.Prelude.{◌≡◌, ◌⊎◌, ◌++◌, ℕ, ◌+◌, ◌<◌, List, [], ◌∷◌, length, take}
-use Rattle.std.specs.declared.option.Option.{Option}
+use Rattle.std.specs.Prelude.{◌++◌, ℕ, List, [], ◌∷◌, take}
 use Rattle.std.specs.Io.KnownBytes.{Appends}
 use Rattle.std.proofs.Common.{⊎_elim, inl, inr, refl, sym, ◌∙◌, subst, append-nil, length-append}
 use Rattle.std.proofs.KnownBytes.{Appends-trans}

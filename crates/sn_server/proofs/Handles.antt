@@ -1,5 +1,5 @@
 -- How one request ends.
-use Rattle.std.specs.Prelude.{◌≡◌, ◌⊎◌, ◌++◌, ℕ, List, [], ◌∷◌, Bool, Result, Ok, Err, IfOk}
+use Rattle.std.specs.Prelude.{◌≡◌, ◌⊎◌, ℕ, List, [], Bool, Result, Ok, Err, IfOk}
 use Rattle.std.proofs.Common.{inl, inr, ⊎_elim, refl, sym, ap, subst, append-nil}
 use Rattle.sn_http.specs.declared.message.Message.{Message}
 use Rattle.sn_rows.specs.Table.{Rows}

@@ -1,14 +1,12 @@
 -- What the rule changes are rows of a server's.
-use Rattle.std.specs.Prelude.{◌≡◌, ◌⊎◌, ◌++◌, ℕ, List, [], ◌∷◌, All}
+use Rattle.std.specs.Prelude.{◌≡◌, ℕ, List, [], ◌∷◌, All}
 use Rattle.std.proofs.Common.{⊎_elim, refl, sym, ◌∙◌, ap, subst}
 use Rattle.std.proofs.lemmas.List.Elements.{All-nil, All-cons, All-append}
-use Rattle.sn_journal.specs.declared.owner.Owner.{Owner}
 use Rattle.sn_journal.specs.declared.owner.Owner.TheVariants.{Server}
 use Rattle.sn_rows.specs.Kinds.{key_kind}
 use Rattle.sn_rows.specs.Table.{Puts, Rows}
 use Rattle.sn_rows.specs.declared.change.Change.{Change}
 use Rattle.sn_rows.specs.declared.key.Key.{Key}
-use Rattle.sn_rows.specs.declared.key.Key.TheVariants as key
 use Rattle.sn_rows.specs.declared.value.Value.{Value}
 use Rattle.sn_string.specs.declared.params.Params.{Params}
 use Rattle.sn_sync.specs.declared.answer.Answer.{Answer}

@@ -1,18 +1,17 @@
 -- How a session goes on by one message, and how one message ends.
-use Rattle.std.specs.Prelude.{◌≡◌, ◌++◌, ℕ, ◌+◌, ◌-◌, ◌^◌, ◌≤◌, min, false, List, [], ◌∷◌, length, map, ⊤}
+use Rattle.std.specs.Prelude.{◌≡◌, ◌++◌, ℕ, ◌+◌, ◌-◌, ◌^◌, ◌≤◌, min, false, List, [], ◌∷◌, length, map}
 use Rattle.std.specs.declared.option.Option.{Option}
 use Rattle.std.specs.Io.KnownBytes.{Appends, Consumes}
-use Rattle.std.proofs.Common.{inl, inr, refl, sym, ◌∙◌, ap, subst, arith, append-nil}
+use Rattle.std.proofs.Common.{inl, refl, sym, ◌∙◌, ap, subst, arith, append-nil}
 use Rattle.std.proofs.KnownBytes.{Appends-trans, Consumes-trans, Appends-nil, Consumes-nil}
 use Rattle.sn_http.specs.declared.message.Message.{Message}
-use Rattle.sn_net.specs.Ports.{flat_append}
+use Rattle.std.proofs.lemmas.Grind.{flat_map-append}
 use Rattle.sn_rows.specs.declared.change.Change.{Change}
-use Rattle.sn_server.specs.Replies.{Replies, reply_bytes}
-use Rattle.sn_server.specs.Sessions.{Reads, OneEnds, HasRun, EndsIn, SessionEnds}
+use Rattle.sn_server.specs.Replies.{reply_bytes}
+use Rattle.sn_server.specs.Sessions.{Reads, OneEnds, HasRun, SessionEnds}
 use Rattle.sn_server.specs.Steps.{GainsEach, Step, IsStep, AreSteps, AreGoing, Serves, World, after_all, place_after, step_bytes, step_answer, step_now}
 use Rattle.sn_server.specs.Stores.{Kept, after}
 use Rattle.sn_server.specs.Messages.{MessageEnds}
-use Rattle.sn_server.specs.declared.reply.Reply.{Reply}
 use Rattle.sn_server.specs.declared.serving.Ended.{Ended}
 use Rattle.sn_server.specs.declared.serving.Ended.TheVariants.{End, Broken, Budget, ReadFault, WriteFault, Memory}
 use Rattle.sn_server.specs.declared.serving.One.{One}
@@ -46,8 +45,8 @@ all_more kept (s ∷ steps) step = all_more (after kept s.made) steps step
 pub serves_more : (kept : Kept) (steps : List Step) (step : Step) (a b c : World) → Serves kept steps a b → Serves (after_all kept steps) (step ∷ []) b c → Serves kept (steps ++ step ∷ []) a c
 serves_more kept steps step a b c x y = record {
   are = steps_more kept steps step x.are y.are.0;
-  taken = subst (Consumes a.left c.left) (sym (flat_append step_bytes steps (step ∷ []))) (Consumes-trans a.left b.left c.left _ _ x.taken y.taken);
-  written = subst (Appends a.held c.held) (sym (flat_append step_answer steps (step ∷ []))) (Appends-trans a.held b.held c.held _ _ x.written y.written);
+  taken = subst (Consumes a.left c.left) (sym (flat_map-append step_bytes steps (step ∷ []))) (Consumes-trans a.left b.left c.left _ _ x.taken y.taken);
+  written = subst (Appends a.held c.held) (sym (flat_map-append step_answer steps (step ∷ []))) (Appends-trans a.held b.held c.held _ _ x.written y.written);
   clock = subst (GainsEach a.given c.given) (sym (map_append step_now steps (step ∷ []))) (gains_more a.given b.given c.given _ _ x.clock y.clock);
   place = y.place ∙ ap (λ (p : ℕ). min (p + length step.bytes) (2 ^ 64 - 1)) x.place ∙ sym (place_more a.place steps step);
   reads = omega (arith, x.reads, y.reads);

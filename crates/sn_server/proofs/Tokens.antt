@@ -1,5 +1,5 @@
 -- The token of a message is text.
-use Rattle.std.specs.Prelude.{◌≡◌, ℕ, ◌<◌, ◌≤◌, ◌&&◌, Bool, true, false, List, [], ◌∷◌, length, drop, nat_le, nat_lt, slice_index, codes, zero, suc, Some, None}
+use Rattle.std.specs.Prelude.{◌≡◌, ℕ, ◌<◌, ◌&&◌, Bool, true, false, List, [], ◌∷◌, length, drop, nat_le, nat_lt, slice_index, codes, zero, suc, Some, None}
 use Rattle.std.specs.List.{list_all}
 use Rattle.std.specs.declared.option.Option.{Option}
 use Rattle.std.specs.Str.{IsUtf8}
@@ -7,8 +7,8 @@ use Rattle.std.proofs.Common.{refl, sym, subst, arith, rules, cond}
 use Rattle.std.proofs.lemmas.Bool.{and_parts}
 use Rattle.std.proofs.lemmas.Str.{IsUtf8-from_ascii}
 use Rattle.sn_http.specs.Messages.{IsMessage}
-use Rattle.sn_http.specs.Options.{bearer, bearer_of, if_token, is_token_text, is_visible, token_of, skip_spaces}
-use Rattle.sn_http.specs.Fields.{Fields, fields_of, first_of, values_of}
+use Rattle.sn_http.specs.Options.{bearer, bearer_of, if_token, is_token_text, is_visible, skip_spaces}
+use Rattle.sn_http.specs.Fields.{fields_of, first_of, values_of}
 use Rattle.sn_http.specs.declared.message.Message.{Message}
 
 empty_text : IsUtf8 []

@@ -1,5 +1,4 @@
 -- A text that isn't read turns its message away.
-use Rattle.std.specs.Prelude.{◌≡◌, List, ℕ, [], ⊤}
 use Rattle.std.proofs.Common.{inr, refl, sym, subst}
 use Rattle.sn_http.specs.declared.message.Message.{Message}
 use Rattle.sn_sync.specs.Refusals.{Caused}

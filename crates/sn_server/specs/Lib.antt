@@ -1,6 +1,10 @@
+pub mod Beginning
 pub mod CheckBodies
+pub mod Emptiness
+pub mod Facts
 pub mod Gaining
 pub mod Handling
+pub mod Loads
 pub mod Messages
 pub mod Outcomes
 pub mod Replies

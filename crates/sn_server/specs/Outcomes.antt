@@ -1,5 +1,5 @@
 -- What is left of a message and of a session.
-use Rattle.std.specs.Prelude.{⊤}
+use Rattle.std.specs.Prelude.{⊤, ℕ}
 use Rattle.sn_server.specs.declared.serving.One.{One}
 use Rattle.sn_server.specs.declared.serving.One.TheVariants.{Served, Checked, Over, Lost}
 use Rattle.sn_server.specs.declared.serving.Session.{Session}
@@ -35,3 +35,8 @@ module _ {S D : Type 0} where
   abbrev pub session_disk : (S → D) → Session S D → D
   session_disk disk_of (IsOver server ended count) = disk_of server
   session_disk disk_of (IsBroken disk) = disk
+
+  -- how many answers were written whole; where the disk failed none are counted
+  abbrev pub count_of : Session S D → ℕ
+  count_of (IsOver server ended count) = count
+  count_of (IsBroken disk) = 0

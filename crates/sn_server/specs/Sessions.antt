@@ -1,6 +1,5 @@
 -- How one message ends, and how a session does.
 use Rattle.std.specs.Prelude.{◌≡◌, ◌⊎◌, ℕ, ◌+◌, true, List, [], ◌∷◌, length}
-use Rattle.std.specs.declared.option.Option.{Option}
 use Rattle.std.specs.Io.KnownBytes.{Appends, Consumes}
 use Rattle.sn_io.specs.Causes.{Rose}
 use Rattle.sn_io.specs.Streams.{Gains, TakesPart}
@@ -10,9 +9,8 @@ use Rattle.sn_rows.specs.declared.change.Change.{Change}
 use Rattle.sn_server.specs.CheckBodies.{check_bytes}
 use Rattle.sn_server.specs.Replies.{Replies, RepliesByRule, reply_bytes}
 use Rattle.sn_server.specs.Stores.{Kept, after}
-use Rattle.sn_server.specs.Steps.{Step, World, world, Serves, AreGoing, after_all}
+use Rattle.sn_server.specs.Steps.{Step, World, Serves, AreGoing, after_all}
 use Rattle.sn_server.specs.declared.reply.Reply.{Reply}
-use Rattle.sn_server.specs.declared.serving.Ended.{Ended}
 use Rattle.sn_server.specs.declared.serving.Ended.TheVariants.{End, Broken, Budget, ReadFault, WriteFault, Memory}
 use Rattle.sn_server.specs.declared.serving.One.{One}
 use Rattle.sn_server.specs.declared.serving.One.TheVariants.{Served, Checked, Over, Lost}

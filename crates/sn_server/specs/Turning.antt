@@ -1,5 +1,5 @@
 -- Why a message is no request, as the code says it.
-use Rattle.std.specs.Prelude.{◌≡◌, List, ℕ, [], ⊤}
+use Rattle.std.specs.Prelude.{◌≡◌, [], ⊤}
 use Rattle.sn_http.specs.declared.message.Message.{Message}
 use Rattle.sn_sync.specs.declared.error.SyncError.{SyncError}
 use Rattle.sn_sync.specs.declared.error.SyncError.TheVariants as error

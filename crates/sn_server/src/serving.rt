@@ -58,7 +58,7 @@ impl<D: Disk> Server<D> {
     ghost use Rattle.sn_io.specs.Causes.{Rose};
     ghost use Rattle.sn_server.specs.Gaining.{HasGained};
     ghost use Rattle.sn_server.specs.Messages.{MessageEnds};
-    ghost use Rattle.sn_server.specs.Outcomes.{IfOver, IfBroken, IfGoes, IfLost, one_disk, session_disk};
+    ghost use Rattle.sn_server.specs.Outcomes.{IfOver, IfBroken, IfGoes, IfLost, count_of, one_disk, session_disk};
     ghost use Rattle.sn_server.specs.Sessions.{OneEnds, SessionEnds};
     ghost use Rattle.sn_server.specs.Steps.{world};
     ghost use Rattle.sn_server.specs.Stores.{Kept, IsOpen, MayHave, server_disk, server_rows};
@@ -76,6 +76,7 @@ impl<D: Disk> Server<D> {
             (world (I.left source.old) (O.held sink.old) (C.given clock.old) 0 (I.fault_count source.old) (O.fault_count sink.old))
             (world left (O.held sink.new) (C.given clock.new) place (I.fault_count source.new) (O.fault_count sink.new)) result }
         ensures gains { (kept : Kept) → IsOpen self kept → HasGained kept (O.held sink.old) (O.held sink.new) result }
+        ensures within { count_of result ≤ budget }
         ensures sound { IfOver result (λ server. IsSound (server_rows server)) }
         ensures fault { IfBroken result (λ disk. Rose (D.fault_count (server_disk self)) (D.fault_count disk)) }
         ensures grows { D.grows (server_disk self) (session_disk server_disk result) }
@@ -97,6 +98,7 @@ impl<D: Disk> Server<D> {
         ensures ends { (kept : Kept) → IsOpen self kept → SessionEnds IsOpen (MayHave D.told D.may_leave) kept budget
             (world (unread carry.old (I.left source.old)) (O.held sink.old) (C.given clock.old) carry.old.place (I.fault_count source.old) (O.fault_count sink.old))
             (world (unread carry.new (I.left source.new)) (O.held sink.new) (C.given clock.new) carry.new.place (I.fault_count source.new) (O.fault_count sink.new)) result }
+        ensures within { count_of result ≤ budget }
         ensures sound { IfOver result (λ server. IsSound (server_rows server)) }
         ensures fault { IfBroken result (λ disk. Rose (D.fault_count (server_disk self)) (D.fault_count disk)) }
         ensures grows { D.grows (server_disk self) (session_disk server_disk result) }

@@ -1,4 +1,4 @@
-use Rattle.std.proofs.Common.{ℕ, ◌≡◌, ◌+◌, ◌++◌, List, [], ◌∷◌, length, inr, refl, sym, ◌∙◌, ap, subst, arith, length-append}
+use Rattle.std.proofs.Common.{ℕ, ◌+◌, ◌++◌, [], ◌∷◌, inr, refl, sym, ◌∙◌, ap, subst, arith, length-append}
 use Rattle.sn_server.specs.Steps.{after_all}
 use Rattle.sn_server.specs.Stores.{Kept, IsOpen, MayHave}
 use Rattle.sn_server.proofs.Running.{run_none, run_more, all_more, over_ends}

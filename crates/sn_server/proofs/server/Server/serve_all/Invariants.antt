@@ -2,7 +2,7 @@ use Rattle.std.proofs.Common.{◌≡◌, ◌-◌, ◌≤◌, List, length}
 use Rattle.sn_account.specs.Sound.{IsSound}
 use Rattle.sn_http.specs.Heads.{unread}
 use Rattle.sn_server.specs.Sessions.{HasRun}
-use Rattle.sn_server.specs.Steps.{Step, World, world, after_all}
+use Rattle.sn_server.specs.Steps.{Step, world, after_all}
 use Rattle.sn_server.specs.Stores.{Kept, IsOpen, server_disk, server_rows}
 use Rattle.sn_server.proofs.server.Server.serve_all.Given as goal
 

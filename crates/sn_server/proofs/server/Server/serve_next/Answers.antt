@@ -1,5 +1,3 @@
-use Rattle.std.proofs.Common.{refl, inr}
-use Rattle.std.proofs.KnownBytes.{Appends-nil}
 use Rattle.sn_server.specs.Stores.{IsOpen, MayHave}
 use Rattle.sn_server.proofs.Running.{one_ends}
 use Rattle.sn_server.proofs.Tokens.{token_utf8}
