@@ -1,0 +1,6 @@
+pub mod Hosting
+pub mod Laws
+pub mod Listening
+pub mod Refusals
+pub mod Serving
+pub mod Visits

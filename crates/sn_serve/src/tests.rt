@@ -1,0 +1,161 @@
+// Serving a disk in memory at a port in memory, with ample memory: each way in which it ends but for rows that aren't a
+// server's, which `sn_server` tests.
+use crate::{Served, serve};
+use sn_disk::{CrashImage, MemDisk, MemShelf, Shelf, Stop};
+use sn_io::{MemSeeds, MemSink, MemSource};
+use sn_net::{MemClock, MemPort};
+use std::alloc::Global;
+use std::test::Fail;
+
+const NO_ROUTE: &[u8] = b"GET /x HTTP/1.1\r\n\r\n";
+
+const REGISTER: &[u8] =
+    b"POST /auth HTTP/1.1\r\nContent-Length: 139\r\n\r\n{\"email\":\"alice\",\"password\":\"0000000000000000000000000000000000000000000000000000000000000000\",\"pw_cost\":1,\"pw_nonce\":\"6e\",\"version\":\"003\"}";
+
+const LINE: &[u8] = b"listening 4711\n";
+
+struct Case {
+    name: &'static str,
+    disk: Option<&'static [u8]>,
+    stop: Stop,
+    failing_port: &'static [u64],
+    failing_out: &'static [u64],
+    connections: &'static [&'static [u8]],
+    requests: u64,
+    ends: Served,
+    out: &'static [u8],
+    answered: u64,
+}
+
+// As many answers and empty connections as were asked for.
+const REACHED: Case = Case {
+    name: "an answer and an empty connection",
+    disk: Some(b""),
+    stop: Stop::Never,
+    failing_port: &[],
+    failing_out: &[],
+    connections: &[NO_ROUTE, b"", REGISTER],
+    requests: 2,
+    ends: Served::Reached,
+    out: LINE,
+    answered: 1,
+};
+
+static CASES: [Case; 8] = [
+    REACHED,
+    Case {
+        name: "two answers in one connection",
+        connections: &[
+            b"GET /x HTTP/1.1\r\n\r\nGET /x HTTP/1.1\r\n\r\nGET /x HTTP/1.1\r\n\r\n",
+            REGISTER,
+        ],
+        ..REACHED
+    },
+    Case {
+        name: "too few connections",
+        connections: &[NO_ROUTE],
+        ends: Served::PortFault,
+        ..REACHED
+    },
+    Case {
+        name: "a port that isn't bound",
+        failing_port: &[0],
+        ends: Served::PortFault,
+        out: b"",
+        answered: 0,
+        ..REACHED
+    },
+    Case {
+        name: "an output that fails",
+        failing_out: &[0],
+        ends: Served::WriteFault,
+        out: b"",
+        answered: 0,
+        ..REACHED
+    },
+    Case {
+        name: "no disk",
+        disk: None,
+        ends: Served::DiskFault,
+        out: b"",
+        answered: 0,
+        ..REACHED
+    },
+    // A fresh store takes eleven changing calls.
+    Case {
+        name: "a disk that stops in a session",
+        stop: Stop::After {
+            calls: 11,
+            image: CrashImage::Old,
+        },
+        connections: &[REGISTER, NO_ROUTE],
+        ends: Served::DiskFault,
+        answered: 0,
+        ..REACHED
+    },
+    Case {
+        name: "another program's file",
+        disk: Some(b"PK"),
+        ends: Served::Foreign { place: 0 },
+        out: b"",
+        answered: 0,
+        ..REACHED
+    },
+];
+
+fn shelf_of(alloc: Global, case: &Case) -> Result<MemShelf, Fail> {
+    let mut shelf = MemShelf::new(alloc, Vec::new(alloc));
+    if let Some(bytes) = case.disk {
+        let mut disk = MemDisk::new(alloc, bytes.to_vec(alloc)?, Vec::new(alloc))?;
+        disk.set_stop(case.stop);
+        shelf.put("server".to_string(alloc)?, disk)?;
+    }
+    Ok(shelf)
+}
+
+fn port_of(alloc: Global, case: &Case) -> Result<MemPort, Fail> {
+    let mut waiting = Vec::new(alloc);
+    for input in case.connections {
+        let source = MemSource::new(input.to_vec(alloc)?, 10, Vec::new(alloc));
+        waiting.push((source, MemSink::new(alloc, 4096, Vec::new(alloc))))?;
+    }
+    Ok(MemPort::new(alloc, waiting, 4711, case.failing_port.to_vec(alloc)?))
+}
+
+#[test]
+fn each_end(rt: HostRuntime) -> Result<(), Fail> {
+    for case in &CASES {
+        let alloc = rt.alloc();
+        let mut shelf = shelf_of(alloc, case)?;
+        let mut port = port_of(alloc, case)?;
+        let mut out = MemSink::new(alloc, 4096, case.failing_out.to_vec(alloc)?);
+        let mut clock = MemClock::new([1000u64].to_vec(alloc)?);
+        let mut seeds = MemSeeds::new([[7u8; 32]].to_vec(alloc)?);
+        let served = serve(
+            alloc,
+            "server",
+            0,
+            case.requests,
+            &mut shelf,
+            &mut port,
+            &mut out,
+            &mut clock,
+            &mut seeds,
+        );
+        assert_eq!(rt; served, case.ends, "{}", case.name);
+        assert_eq!(rt; out.bytes(), case.out, "{}", case.name);
+        let answered = port
+            .ended()
+            .iter()
+            .filter(|ends| !ends.1.bytes().is_empty())
+            .count();
+        assert_eq!(rt; answered as u64, case.answered, "{}", case.name);
+        assert_eq!(rt;
+            shelf.take("server").is_ok(),
+            case.disk.is_some(),
+            "{}",
+            case.name
+        );
+    }
+    Ok(())
+}
