@@ -1,12 +1,11 @@
 -- A text to which a line is a right one isn't refused.
-use Rattle.std.proofs.Common.{◌≡◌, ◌⊎◌, inl, inr, ℕ, zero, suc, ◌+◌, ◌≤◌, ◌^◌, List, [], ◌∷◌, ◌++◌, Option, Some, None, Result, Ok, Err, length, length-append, append-nil, slice_get, refl, sym, ap, subst, ◌∙◌, arith}
+use Rattle.std.proofs.Common.{◌≡◌, ◌⊎◌, inl, inr, ℕ, zero, suc, ◌+◌, ◌≤◌, List, [], ◌∷◌, ◌++◌, Option, Some, None, Result, Ok, Err, length, length-append, append-nil, slice_get, refl, sym, ap, subst, ◌∙◌, arith}
 use Rattle.std.proofs.lemmas.List.{append_cancel_right}
-use Rattle.std.specs.Io.KnownBytes.{Consumes, IsAtEnd}
 use Rattle.std.specs.Str.{IsUtf8}
-use Rattle.sn_cli.specs.Calls.{OpenCallsFor, OpenRefuses, IsUnopened, ReplayCallsFor, ReplayRefuses, SealCallsFor, SealRefuses, ShowRefuses, encryption_half, authentication_half}
-use Rattle.sn_cli.specs.CommandLine.{SealLine, OpenLine, IsReplayLine, IsSealLine, IsOpenLine, IsShowLine, IsUsage}
+use Rattle.sn_cli.specs.Calls.{OpenCallsFor, OpenRefuses, ReplayCallsFor, ReplayRefuses, SealCallsFor, SealRefuses, ShowRefuses, encryption_half, authentication_half}
+use Rattle.sn_cli.specs.CommandLine.{OpenLine, ServeLine, IsUsage}
 use Rattle.sn_cli.specs.Errors.{form_error, item_error}
-use Rattle.sn_cli.specs.Inputs.{MOST_INPUT, HasText, IsInputUtf8, IsOneLine, ReadsText}
+use Rattle.sn_cli.specs.Inputs.{MOST_INPUT, HasText, IsOneLine}
 use Rattle.sn_cli.specs.Runs.{Accepts, IsRefusal, Meets, RunsOver}
 use Rattle.sn_cli.specs.Shown.{IsShown}
 use Rattle.sn_cli.specs.declared.refusal.FormRefusal.{FormRefusal}
@@ -16,22 +15,20 @@ use Rattle.sn_cli.specs.declared.refusal.ItemRefusal.TheVariants as item
 use Rattle.sn_cli.specs.declared.refusal.Refusal.{Refusal}
 use Rattle.sn_cli.specs.declared.refusal.Refusal.TheVariants.{InputLong, InputUtf8, Form, Item, Line}
 use Rattle.sn_cli.specs.declared.status.Status.{Status}
-use Rattle.sn_cli.specs.declared.status.Status.TheVariants.{Done, Usage, Refused, ReadFault, WriteFault, Memory}
+use Rattle.sn_cli.specs.declared.status.Status.TheVariants.{Done, Usage, Refused, DiskFault, LinkFault, ReadFault, WriteFault, Memory, Foreign}
 use Rattle.sn_io.specs.Streams.{GivesPart, HasGiven}
 use Rattle.sn_items.proofs.Utf8Bytes.{utf8_bytes}
 use Rattle.sn_items.specs.Laws.{SealedOpens}
-use Rattle.sn_items.specs.Opens.{Opens}
 use Rattle.sn_items.specs.Refusals.{HasCause}
 use Rattle.sn_items.specs.declared.error.ItemError.{ItemError}
 use Rattle.sn_items.specs.declared.error.ItemError.TheVariants as item_errors
 use Rattle.sn_replay.specs.declared.bench.PlainBench.{PlainBench}
-use Rattle.sn_script.specs.Scripts.{AreLinesFrom, IsFirstWrong, IsLineAt, IsScript, lines_of}
+use Rattle.sn_script.specs.Scripts.{AreLinesFrom, IsLineAt, IsScript, lines_of}
 use Rattle.sn_script.specs.declared.script.Line.{Line as ScriptLine}
-use Rattle.sn_string.specs.Grammar.{Is003, Reading, parts_of}
+use Rattle.sn_string.specs.Grammar.{parts_of}
 use Rattle.sn_string.specs.Laws.{IsReadBack}
 use Rattle.sn_string.specs.Refusals.{Refuses}
 use Rattle.sn_string.specs.Refusals.{IsRefusal as MayRefuse}
-use Rattle.sn_string.specs.declared.reader.StringError.{StringError}
 use Rattle.sn_string.specs.declared.reader.StringError.TheVariants as string_errors
 
 -- ---- the input
@@ -173,25 +170,28 @@ no_usage words text usage (inr (inl (line, plain, is, calls))) = usage.no_open l
 no_usage words text usage (inr (inr (inl (output, is, shown)))) = usage.no_show is
 no_usage words text usage (inr (inr (inr (lines, is, script)))) = usage.no_replay is
 
-none_refused : SealedOpens → IsReadBack → (words : List (List ℕ)) (refusal : Refusal) (b c : PlainBench) (i j o p : Option (List ℕ))
-    (s t : Option (List (List ℕ))) (text : List ℕ) → HasText i text → Accepts words text → Meets words (Refused refusal) b c i j o p s t → ⊥
-none_refused opens reads words refusal b c i j o p s t text has (inl (line, is)) met =
+none_refused : SealedOpens → IsReadBack → (words : List (List ℕ)) (serves : ServeLine → Status → Type 0) (left : Type 0) (refusal : Refusal) (b c : PlainBench) (i j o p : Option (List ℕ))
+    (s t : Option (List (List ℕ))) (text : List ℕ) → HasText i text → Accepts words text → Meets words serves left (Refused refusal) b c i j o p s t → ⊥
+none_refused opens reads words serves left refusal b c i j o p s t text has (inl (line, is)) met =
     let runs = met.seal line is in
     not_refused (SealCallsFor line runs.seed) SealRefuses refusal i j o p text has (λ r refuses. refuses) runs.ran
-none_refused opens reads words refusal b c i j o p s t text has (inr (inl (line, plain, is, calls))) met =
+none_refused opens reads words serves left refusal b c i j o p s t text has (inr (inl (line, plain, is, calls))) met =
     not_refused (OpenCallsFor line) (OpenRefuses line) refusal i j o p text has (open_apart opens line text plain calls) (met.open_ line is)
-none_refused opens reads words refusal b c i j o p s t text has (inr (inr (inl (output, is, shown)))) met =
+none_refused opens reads words serves left refusal b c i j o p s t text has (inr (inr (inl (output, is, shown)))) met =
     not_refused IsShown ShowRefuses refusal i j o p text has (show_apart reads text output shown) (met.show is)
-none_refused opens reads words refusal b c i j o p s t text has (inr (inr (inr (lines, is, script)))) met =
+none_refused opens reads words serves left refusal b c i j o p s t text has (inr (inr (inr (lines, is, script)))) met =
     not_refused (ReplayCallsFor c) ReplayRefuses refusal i j o p text has (replay_apart text lines script) (met.replay is)
 
-pub accepted : SealedOpens → IsReadBack → (words : List (List ℕ)) (status : Status) (b c : PlainBench) (i j o p : Option (List ℕ))
-    (s t : Option (List (List ℕ))) → Meets words status b c i j o p s t → (text : List ℕ) → HasText i text → Accepts words text
+pub accepted : SealedOpens → IsReadBack → (words : List (List ℕ)) (serves : ServeLine → Status → Type 0) (left : Type 0) (status : Status) (b c : PlainBench) (i j o p : Option (List ℕ))
+    (s t : Option (List (List ℕ))) → Meets words serves left status b c i j o p s t → (text : List ℕ) → HasText i text → Accepts words text
     → IsRefusal status → ⊥
-accepted opens reads words Done b c i j o p s t met text has accepts refusal = refusal
-accepted opens reads words Usage b c i j o p s t met text has accepts refusal = no_usage words text met.spelled accepts
-accepted opens reads words (Refused r) b c i j o p s t met text has accepts refusal =
-    none_refused opens reads words r b c i j o p s t text has accepts met
-accepted opens reads words ReadFault b c i j o p s t met text has accepts refusal = refusal
-accepted opens reads words WriteFault b c i j o p s t met text has accepts refusal = refusal
-accepted opens reads words Memory b c i j o p s t met text has accepts refusal = refusal
+accepted opens reads words serves left Done b c i j o p s t met text has accepts refusal = refusal
+accepted opens reads words serves left Usage b c i j o p s t met text has accepts refusal = no_usage words text met.spelled accepts
+accepted opens reads words serves left (Refused r) b c i j o p s t met text has accepts refusal =
+    none_refused opens reads words serves left r b c i j o p s t text has accepts met
+accepted opens reads words serves left ReadFault b c i j o p s t met text has accepts refusal = refusal
+accepted opens reads words serves left WriteFault b c i j o p s t met text has accepts refusal = refusal
+accepted opens reads words serves left Memory b c i j o p s t met text has accepts refusal = refusal
+accepted opens reads words serves left DiskFault b c i j o p s t met text has accepts refusal = refusal
+accepted opens reads words serves left LinkFault b c i j o p s t met text has accepts refusal = refusal
+accepted opens reads words serves left (Foreign unfit) b c i j o p s t met text has accepts refusal = refusal

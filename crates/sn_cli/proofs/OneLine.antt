@@ -1,10 +1,10 @@
 -- Words are a line of one command, and say one thing.
-use Rattle.std.proofs.Common.{◌≡◌, ◌⊎◌, inl, inr, ℕ, ◌<◌, ◌≤◌, ◌^◌, List, [], ◌∷◌, Some, None, Ok, Err, Option, Result, codes, sym, ap, subst, ◌∙◌, refl, arith}
+use Rattle.std.proofs.Common.{◌≡◌, inl, inr, ℕ, ◌<◌, ◌≤◌, ◌^◌, List, [], Some, None, Ok, Err, Option, Result, codes, sym, ap, ◌∙◌, refl, arith}
 use Rattle.std.specs.Fmt.{decimal}
 use Rattle.std.proofs.lemmas.Fmt.{decimal_injective}
 use Rattle.hex.proofs.HexLemmas.{decode_sized-encode_lower}
 use Rattle.hex.specs.Hex.{decode_sized, encode_lower}
-use Rattle.sn_cli.specs.CommandLine.{SealLine, OpenLine, GivesCost, GivesItem, GivesParams, IsSealLine, IsOpenLine, Names, USUAL_COST}
+use Rattle.sn_cli.specs.CommandLine.{SealLine, OpenLine, ServeLine, GivesCost, GivesItem, IsSealLine, IsOpenLine, IsServeLine, Names}
 use Rattle.sn_cli.specs.Syntax.{value_of}
 use Rattle.sn_string.specs.Hex.{IsLowerHex}
 use Rattle.sn_string.specs.Uuids.{IsUuidText, uuid_text}
@@ -77,3 +77,16 @@ pub one_open : (words : List (List ℕ)) (a b : OpenLine) → IsOpenLine words a
 one_open words a b first second =
     let item = one_item words a.uuid a.key b.uuid b.key first.item second.item in
     λ i. record { uuid = item.0 i; key = item.1 i }
+
+-- a decimal is of one number
+pub one_number : (a b : ℕ) (found : Option (List ℕ)) → a < 2 ^ 64 → b < 2 ^ 64 → found ≡ Some (decimal a) → found ≡ Some (decimal b) → a ≡ b
+one_number a b found small other_small first second = decimal_injective a b small other_small (one_value (decimal a) (decimal b) found first second)
+
+-- and one of `serve`
+pub one_serve : (words : List (List ℕ)) (a b : ServeLine) → IsServeLine words a → IsServeLine words b → a ≡ b
+one_serve words a b first second =
+    let store : a.store ≡ b.store = one_value a.store b.store _ first.store_given second.store_given in
+    let port : a.port ≡ b.port = one_number a.port b.port _ (omega (arith, first.port_fits)) (omega (arith, second.port_fits)) first.port_given second.port_given in
+    let requests : a.requests ≡ b.requests =
+    one_number a.requests b.requests _ (omega (arith, first.most_requests)) (omega (arith, second.most_requests)) first.requests_given second.requests_given in
+    λ i. record { store = store i; port = port i; requests = requests i }

@@ -1,16 +1,15 @@
 -- What a run did, by what its parts did.
-use Rattle.std.proofs.Common.{◌≡◌, ◌⊎◌, inl, inr, ℕ, ◌+◌, ◌≤◌, ◌^◌, List, [], length, Option, refl, sym, subst, arith}
+use Rattle.std.proofs.Common.{◌≡◌, inl, ℕ, ◌+◌, List, [], Option, arith}
 use Rattle.std.proofs.KnownBytes.{Consumes-nil}
-use Rattle.std.specs.Io.KnownBytes.{Consumes}
 use Rattle.sn_cli.specs.Calls.{SealCallsFor, SealRefuses}
 use Rattle.sn_cli.specs.CommandLine.{SealLine}
-use Rattle.sn_cli.specs.Inputs.{MOST_INPUT, IsInputUtf8, ReadsText, StopsReading}
-use Rattle.sn_cli.specs.Runs.{AnswersWith, AreWordsOf, Draws, Meets, RunsOver, SealRuns, Writes, WritesOf, WritesText}
+use Rattle.sn_cli.specs.Inputs.{MOST_INPUT, ReadsText, StopsReading}
+use Rattle.sn_cli.specs.Runs.{Draws, RunsOver, SealRuns, Writes}
 use Rattle.sn_cli.specs.declared.refusal.Refusal.{Refusal}
 use Rattle.sn_cli.specs.declared.refusal.Refusal.TheVariants.{InputLong, InputUtf8, Form, Item, Line}
 use Rattle.sn_cli.specs.declared.status.Status.{Status}
-use Rattle.sn_cli.specs.declared.status.Status.TheVariants.{Done, Usage, Refused, ReadFault, WriteFault, Memory}
-use Rattle.sn_io.specs.Streams.{Gains, GivesAtMost, GivesPart, HasGiven, TakesPart}
+use Rattle.sn_cli.specs.declared.status.Status.TheVariants.{Done, Usage, Refused, DiskFault, LinkFault, ReadFault, WriteFault, Memory, Foreign}
+use Rattle.sn_io.specs.Streams.{Gains, GivesAtMost, GivesPart, HasGiven}
 
 -- an input that is no text ends the run
 pub stopped : (calls_for : List ℕ → List ℕ → Type 0) (refuses : List ℕ → Refusal → Type 0) (status : Status) (i j o p : Option (List ℕ))
@@ -22,9 +21,12 @@ stopped calls_for refuses (Refused (InputUtf8 place)) i j o p stops = stops
 stopped calls_for refuses (Refused (Form refusal)) i j o p stops = absurd stops
 stopped calls_for refuses (Refused (Item refusal)) i j o p stops = absurd stops
 stopped calls_for refuses (Refused (Line number)) i j o p stops = absurd stops
+stopped calls_for refuses DiskFault i j o p stops = absurd stops
+stopped calls_for refuses LinkFault i j o p stops = absurd stops
 stopped calls_for refuses ReadFault i j o p stops = stops
 stopped calls_for refuses WriteFault i j o p stops = absurd stops
 stopped calls_for refuses Memory i j o p stops = stops
+stopped calls_for refuses (Foreign unfit) i j o p stops = absurd stops
 
 -- before anything is drawn
 pub stops_undrawn : (seed : List ℕ) (status : Status) (i j : Option (List ℕ)) (s t : Option (List (List ℕ))) → StopsReading status i j → t ≡ s
@@ -32,9 +34,12 @@ pub stops_undrawn : (seed : List ℕ) (status : Status) (i j : Option (List ℕ)
 stops_undrawn seed Done i j s t stops same = absurd stops
 stops_undrawn seed Usage i j s t stops same = same
 stops_undrawn seed (Refused refusal) i j s t stops same = same
+stops_undrawn seed DiskFault i j s t stops same = same
+stops_undrawn seed LinkFault i j s t stops same = same
 stops_undrawn seed ReadFault i j s t stops same = same
 stops_undrawn seed WriteFault i j s t stops same = absurd stops
 stops_undrawn seed Memory i j s t stops same = inl same
+stops_undrawn seed (Foreign unfit) i j s t stops same = same
 
 -- a status of writing an output that the text calls for
 pub written : (calls_for : List ℕ → List ℕ → Type 0) (refuses : List ℕ → Refusal → Type 0) (status : Status) (i j o p : Option (List ℕ))
@@ -43,19 +48,25 @@ written calls_for refuses Done i j o p text output read called wrote =
     record { text = text; read = read; output = output; called = called; wrote = wrote }
 written calls_for refuses Usage i j o p text output read called wrote = absurd wrote
 written calls_for refuses (Refused refusal) i j o p text output read called wrote = absurd wrote
+written calls_for refuses DiskFault i j o p text output read called wrote = absurd wrote
+written calls_for refuses LinkFault i j o p text output read called wrote = absurd wrote
 written calls_for refuses ReadFault i j o p text output read called wrote = absurd wrote
 written calls_for refuses WriteFault i j o p text output read called wrote =
     record { text = text; read = read; output = output; called = called; wrote = wrote }
 written calls_for refuses Memory i j o p text output read called wrote = absurd wrote
+written calls_for refuses (Foreign unfit) i j o p text output read called wrote = absurd wrote
 
 pub drawn_for_output : (seed output : List ℕ) (status : Status) (o p : Option (List ℕ)) (s t : Option (List (List ℕ))) → Writes status o p output
     → Gains s t seed → Draws status seed s t
 drawn_for_output seed output Done o p s t wrote gains = gains
 drawn_for_output seed output Usage o p s t wrote gains = absurd wrote
 drawn_for_output seed output (Refused refusal) o p s t wrote gains = absurd wrote
+drawn_for_output seed output DiskFault o p s t wrote gains = absurd wrote
+drawn_for_output seed output LinkFault o p s t wrote gains = absurd wrote
 drawn_for_output seed output ReadFault o p s t wrote gains = absurd wrote
 drawn_for_output seed output WriteFault o p s t wrote gains = gains
 drawn_for_output seed output Memory o p s t wrote gains = absurd wrote
+drawn_for_output seed output (Foreign unfit) o p s t wrote gains = absurd wrote
 
 -- nothing was read
 pub none_read : (i : Option (List ℕ)) (most : ℕ) → GivesAtMost i i most

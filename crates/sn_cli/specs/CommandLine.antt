@@ -1,5 +1,5 @@
 -- The command lines: what each says, by the values that its words give the options.
-use Rattle.std.specs.Prelude.{◌≡◌, ◌≢◌, ◌⊎◌, ℕ, List, [], ◌∷◌, codes, Some, None}
+use Rattle.std.specs.Prelude.{◌≡◌, ◌≢◌, ◌⊎◌, ℕ, ◌<◌, ◌≤◌, ◌^◌, List, [], ◌∷◌, codes, Some, None}
 use Rattle.std.specs.Fmt.{decimal}
 use Rattle.clap.specs.Faults.{fault_of}
 use Rattle.clap.specs.declared.error.kind.ErrorKind.TheVariants.{DisplayHelp, DisplayVersion}
@@ -21,6 +21,13 @@ pub record SealLine : Type 0 where
 pub record OpenLine : Type 0 where
   pub uuid : List ℕ
   pub key : List ℕ
+
+-- what a line of `serve` says: a store's name, the number of a port, at 0 one that the system chooses, and how many
+-- requests are to be served
+pub record ServeLine : Type 0 where
+  pub store : List ℕ
+  pub port : ℕ
+  pub requests : ℕ
 
 -- the cost where no option gives one
 abbrev pub USUAL_COST : ℕ
@@ -71,7 +78,21 @@ IsShowLine words = Names words (codes "show")
 abbrev pub IsReplayLine : List (List ℕ) → Type 0
 IsReplayLine words = Names words (codes "replay")
 
--- the words are a line of a command, each of which reads its input
+-- the words are a line of `serve` that says this
+pub record IsServeLine (words : List (List ℕ)) (line : ServeLine) : Type 0 where
+  pub command : Names words (codes "serve")
+  pub store_given : value_of words (codes "store") ≡ Some line.store
+  pub port_fits : line.port < 2 ^ 16
+  pub port_given : value_of words (codes "port") ≡ Some (decimal line.port)
+  pub some_requests : 1 ≤ line.requests
+  pub most_requests : line.requests ≤ 1000000
+  pub requests_given : value_of words (codes "requests") ≡ Some (decimal line.requests)
+
+-- the words are a line of `serve`
+abbrev pub IsServing : List (List ℕ) → Type 0
+IsServing words = (line : ServeLine) × IsServeLine words line
+
+-- the words are a line of a command that reads its input, as each but `serve` does
 abbrev pub IsReading : List (List ℕ) → Type 0
 IsReading words =
     ((line : SealLine) × IsSealLine words line)
@@ -89,5 +110,6 @@ pub record IsUsage (words : List (List ℕ)) : Type 0 where
   pub no_open : (line : OpenLine) → ¬ (IsOpenLine words line)
   pub no_show : ¬ (IsShowLine words)
   pub no_replay : ¬ (IsReplayLine words)
+  pub no_serve : (line : ServeLine) → ¬ (IsServeLine words line)
   pub no_help : fault_of sn_app words ≢ DisplayHelp ∷ []
   pub no_version : fault_of sn_app words ≢ DisplayVersion ∷ []

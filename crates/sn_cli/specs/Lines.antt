@@ -1,5 +1,5 @@
 -- Statuses, and the line of each on standard error.
-use Rattle.std.specs.Prelude.{ℕ, List, [], ◌∷◌, ◌++◌, codes}
+use Rattle.std.specs.Prelude.{◌≡◌, ◌⊎◌, ℕ, List, [], ◌∷◌, ◌++◌, codes}
 use Rattle.std.specs.Fmt.{decimal}
 use Rattle.hex.specs.Hex.{encode_lower}
 use Rattle.sn_cli.specs.declared.refusal.FormRefusal.{FormRefusal}
@@ -10,15 +10,21 @@ use Rattle.sn_cli.specs.declared.refusal.Refusal.{Refusal}
 use Rattle.sn_cli.specs.declared.refusal.Refusal.TheVariants.{InputLong, InputUtf8, Form, Item, Line}
 use Rattle.sn_cli.specs.declared.status.Status.{Status}
 use Rattle.sn_cli.specs.declared.status.Status.TheVariants as status
+use Rattle.sn_cli.specs.declared.status.Unfit.{Unfit}
+use Rattle.sn_cli.specs.declared.status.Unfit.TheVariants as unfit
+use Rattle.sn_rows.specs.Kinds.{kind_number}
 use Rattle.sn_string.specs.Uuids.{uuid_text}
 
 abbrev pub code_of : Status → ℕ
 code_of status.Done = 0
 code_of status.Usage = 2
 code_of (status.Refused refusal) = 3
+code_of status.DiskFault = 4
+code_of status.LinkFault = 5
 code_of status.ReadFault = 6
 code_of status.WriteFault = 7
 code_of status.Memory = 8
+code_of (status.Foreign fault) = 9
 
 -- a refusal of the string's form: its number in sn_string, its name, the count or the place
 abbrev pub form_text : FormRefusal → List ℕ
@@ -48,11 +54,27 @@ refusal_text (Form refusal) = form_text refusal
 refusal_text (Item refusal) = item_text refusal
 refusal_text (Line number) = codes "replay.1 Line " ++ decimal number
 
+-- what is wrong with a store, with the place or the kind's number
+abbrev pub unfit_text : Unfit → List ℕ
+unfit_text (unfit.Foreign place) = codes "foreign " ++ decimal place
+unfit_text (unfit.Damaged place) = codes "damaged " ++ decimal place
+unfit_text (unfit.Rows kind) = codes "rows " ++ decimal (kind_number kind)
+
 -- the line of a status
 abbrev pub line_of : Status → List ℕ
 line_of status.Done = []
 line_of status.Usage = codes "sn: usage\n"
 line_of (status.Refused refusal) = codes "sn: " ++ (refusal_text refusal ++ 10 ∷ [])
+line_of status.DiskFault = codes "sn: disk fault\n"
+line_of status.LinkFault = codes "sn: link fault\n"
 line_of status.ReadFault = codes "sn: read fault\n"
 line_of status.WriteFault = codes "sn: write fault\n"
 line_of status.Memory = codes "sn: memory\n"
+line_of (status.Foreign fault) = codes "sn: " ++ (unfit_text fault ++ 10 ∷ [])
+
+-- The status whose line is told: this one, or want of memory in the place of one whose line tells values.
+abbrev pub IsTold : Status → Status → Type 0
+IsTold before after =
+    (after ≡ before)
+    ⊎ ((refusal : Refusal) × (before ≡ status.Refused refusal) × (after ≡ status.Memory))
+    ⊎ ((fault : Unfit) × (before ≡ status.Foreign fault) × (after ≡ status.Memory))

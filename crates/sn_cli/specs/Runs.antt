@@ -3,16 +3,24 @@ use Rattle.std.specs.Prelude.{◌≡◌, ◌⊎◌, ℕ, List, ⊤}
 use Rattle.std.specs.declared.option.Option.{Option}
 use Rattle.std.specs.Io.KnownBytes.{Appends}
 use Rattle.sn_cli.specs.Calls.{OpenCallsFor, OpenRefuses, ReplayCallsFor, ReplayRefuses, SealCallsFor, SealRefuses, ShowRefuses}
-use Rattle.sn_cli.specs.CommandLine.{SealLine, OpenLine, Asks, IsReading, IsSealLine, IsOpenLine, IsShowLine, IsReplayLine, IsUsage}
+use Rattle.sn_cli.specs.CommandLine.{SealLine, OpenLine, ServeLine, Asks, IsReading, IsServing, IsSealLine, IsOpenLine, IsShowLine, IsReplayLine, IsServeLine, IsUsage}
 use Rattle.sn_cli.specs.Inputs.{ReadsText, StopsReading}
 use Rattle.sn_cli.specs.Shown.{IsShown}
 use Rattle.sn_cli.specs.declared.refusal.Refusal.{Refusal}
 use Rattle.sn_cli.specs.declared.refusal.Refusal.TheVariants.{InputLong, InputUtf8}
 use Rattle.sn_cli.specs.declared.status.Status.{Status}
-use Rattle.sn_cli.specs.declared.status.Status.TheVariants.{Done, Usage, Refused, ReadFault, WriteFault, Memory}
+use Rattle.sn_cli.specs.declared.status.Status.TheVariants.{Done, Usage, Refused, DiskFault, LinkFault, ReadFault, WriteFault, Memory, Foreign}
+use Rattle.sn_cli.specs.declared.status.Unfit.{Unfit}
+use Rattle.sn_cli.specs.declared.status.Unfit.TheVariants as unfit
+use Rattle.sn_disk.specs.Shelf.{Slot}
+use Rattle.sn_disk.specs.declared.disk.Disk.{Ghosts}
 use Rattle.sn_io.specs.Streams.{Gains, TakesPart}
+use Rattle.sn_net.specs.Connections.{Event}
 use Rattle.sn_replay.specs.declared.bench.PlainBench.{PlainBench}
 use Rattle.sn_script.specs.Scripts.{IsScript}
+use Rattle.sn_serve.specs.Serving.{Handed, ServeEnds}
+use Rattle.sn_serve.specs.declared.ends.Served.{Served}
+use Rattle.sn_serve.specs.declared.ends.Served.TheVariants as served
 use Rattle.sn_script.specs.declared.script.Line.{Line}
 
 -- the output was appended: all of it, or at a write fault a front of it and not all
@@ -20,9 +28,12 @@ abbrev pub Writes : Status → Option (List ℕ) → Option (List ℕ) → List 
 Writes Done before after output = Appends before after output
 Writes Usage before after output = ⊥
 Writes (Refused refusal) before after output = ⊥
+Writes DiskFault before after output = ⊥
+Writes LinkFault before after output = ⊥
 Writes ReadFault before after output = ⊥
 Writes WriteFault before after output = TakesPart before after output
 Writes Memory before after output = ⊥
+Writes (Foreign unfit) before after output = ⊥
 
 -- the whole input was read as a text, which calls for an output, and that was appended
 pub record WritesOf (calls_for : List ℕ → List ℕ → Type 0) (status : Status) (input_before input_after out_before out_after : Option (List ℕ)) : Type 0 where
@@ -51,19 +62,25 @@ RunsOver calls_for refuses (Refused (InputUtf8 place)) input_before input_after 
     StopsReading (Refused (InputUtf8 place)) input_before input_after
 RunsOver calls_for refuses (Refused refusal) input_before input_after out_before out_after =
     RefusesInput refuses refusal input_before input_after
+RunsOver calls_for refuses DiskFault input_before input_after out_before out_after = ⊥
+RunsOver calls_for refuses LinkFault input_before input_after out_before out_after = ⊥
 RunsOver calls_for refuses ReadFault input_before input_after out_before out_after = StopsReading ReadFault input_before input_after
 RunsOver calls_for refuses WriteFault input_before input_after out_before out_after =
     WritesOf calls_for WriteFault input_before input_after out_before out_after
 RunsOver calls_for refuses Memory input_before input_after out_before out_after = StopsReading Memory input_before input_after
+RunsOver calls_for refuses (Foreign unfit) input_before input_after out_before out_after = ⊥
 
 -- what a command drew that draws one seed: it, once the input is a text, and none before
 abbrev pub Draws : Status → List ℕ → Option (List (List ℕ)) → Option (List (List ℕ)) → Type 0
 Draws Done seed before after = Gains before after seed
 Draws Usage seed before after = after ≡ before
 Draws (Refused refusal) seed before after = after ≡ before
+Draws DiskFault seed before after = after ≡ before
+Draws LinkFault seed before after = after ≡ before
 Draws ReadFault seed before after = after ≡ before
 Draws WriteFault seed before after = Gains before after seed
 Draws Memory seed before after = (after ≡ before) ⊎ Gains before after seed
+Draws (Foreign unfit) seed before after = after ≡ before
 
 -- what `seal` did: the output is the one that the seed drawn calls for
 pub record SealRuns (line : SealLine) (status : Status) (input_before input_after out_before out_after : Option (List ℕ))
@@ -77,9 +94,12 @@ abbrev pub WritesText : Status → Option (List ℕ) → Option (List ℕ) → T
 WritesText Done before after = (text : List ℕ) × Writes Done before after text
 WritesText Usage before after = ⊥
 WritesText (Refused refusal) before after = ⊥
+WritesText DiskFault before after = ⊥
+WritesText LinkFault before after = ⊥
 WritesText ReadFault before after = ⊥
 WritesText WriteFault before after = (text : List ℕ) × Writes WriteFault before after text
 WritesText Memory before after = ⊤
+WritesText (Foreign unfit) before after = ⊥
 
 -- What a question for help or for the version brought about: nothing is read, and a text is the output. Where `clap` finds
 -- a fault beside the question, the words may be faulty.
@@ -89,12 +109,15 @@ pub record AnswersWith (status : Status) (input_before input_after out_before ou
 
 -- what the words of a run of this status are; want of memory may come at any words
 abbrev pub AreWordsOf : Status → List (List ℕ) → Type 0
-AreWordsOf Done words = IsReading words ⊎ Asks words
+AreWordsOf Done words = IsReading words ⊎ IsServing words ⊎ Asks words
 AreWordsOf Usage words = IsUsage words
 AreWordsOf (Refused refusal) words = IsReading words
+AreWordsOf DiskFault words = IsServing words
+AreWordsOf LinkFault words = IsServing words
 AreWordsOf ReadFault words = IsReading words
-AreWordsOf WriteFault words = IsReading words ⊎ Asks words
+AreWordsOf WriteFault words = IsReading words ⊎ IsServing words ⊎ Asks words
 AreWordsOf Memory words = ⊤
+AreWordsOf (Foreign unfit) words = IsServing words
 
 -- the words are a line of a command to which this text is a right one
 abbrev pub Accepts : List (List ℕ) → List ℕ → Type 0
@@ -109,30 +132,82 @@ abbrev pub IsRefusal : Status → Type 0
 IsRefusal Done = ⊥
 IsRefusal Usage = ⊤
 IsRefusal (Refused refusal) = ⊤
+IsRefusal DiskFault = ⊥
+IsRefusal LinkFault = ⊥
 IsRefusal ReadFault = ⊥
 IsRefusal WriteFault = ⊥
 IsRefusal Memory = ⊥
+IsRefusal (Foreign unfit) = ⊥
 
 -- a status that comes of the input alone
 abbrev pub IsOfInput : Status → Type 0
 IsOfInput Done = ⊥
 IsOfInput Usage = ⊥
 IsOfInput (Refused refusal) = ⊤
+IsOfInput DiskFault = ⊥
+IsOfInput LinkFault = ⊥
 IsOfInput ReadFault = ⊤
 IsOfInput WriteFault = ⊥
 IsOfInput Memory = ⊥
+IsOfInput (Foreign unfit) = ⊥
 
--- a status at which nothing was written to standard output
+-- a status at which a command that doesn't serve has written nothing to standard output
 abbrev pub IsSilent : Status → Type 0
 IsSilent Done = ⊥
 IsSilent Usage = ⊤
 IsSilent (Refused refusal) = ⊤
+IsSilent DiskFault = ⊥
+IsSilent LinkFault = ⊥
 IsSilent ReadFault = ⊤
 IsSilent WriteFault = ⊥
 IsSilent Memory = ⊤
+IsSilent (Foreign unfit) = ⊥
 
--- what a run did, whatever its words; each field is a clause of the top call
-pub record Meets (words : List (List ℕ)) (status : Status) (bench_before bench_after : PlainBench)
+-- the end of serving that is this refusal of a store
+abbrev pub unfit_end : Unfit → Served
+unfit_end (unfit.Foreign place) = served.Foreign place
+unfit_end (unfit.Damaged place) = served.Damaged place
+unfit_end (unfit.Rows kind) = served.Rows kind
+
+-- the status of that end
+abbrev pub status_of_end : Served → Status
+status_of_end served.Reached = Done
+status_of_end served.DiskFault = DiskFault
+status_of_end served.PortFault = LinkFault
+status_of_end served.WriteFault = WriteFault
+status_of_end (served.Foreign place) = Foreign (unfit.Foreign place)
+status_of_end (served.Damaged place) = Foreign (unfit.Damaged place)
+status_of_end (served.Rows kind) = Foreign (unfit.Rows kind)
+status_of_end served.Memory = Memory
+
+-- the shelf, the port and the clock are as they were
+pub record AreLeft {S P C : Type 0} (shelf shelf_after : S) (port port_after : P) (clock clock_after : C) : Type 0 where
+  pub same_shelf : shelf_after ≡ shelf
+  pub same_port : port_after ≡ port
+  pub same_clock : clock_after ≡ clock
+
+-- What a line of `serve` did, by how serving ends. Want of memory may come before anything was touched, within serving, or
+-- for the line that tells what is wrong with the store.
+abbrev pub ServeRuns : (Served → Type 0) → Type 0 → Status → Type 0
+ServeRuns ends untouched Done = ends served.Reached
+ServeRuns ends untouched Usage = ⊥
+ServeRuns ends untouched (Refused refusal) = ⊥
+ServeRuns ends untouched DiskFault = ends served.DiskFault
+ServeRuns ends untouched LinkFault = ends served.PortFault
+ServeRuns ends untouched ReadFault = ⊥
+ServeRuns ends untouched WriteFault = ends served.WriteFault
+ServeRuns ends untouched Memory = untouched ⊎ ends served.Memory ⊎ ((fault : Unfit) × ends (unfit_end fault))
+ServeRuns ends untouched (Foreign fault) = ends (unfit_end fault)
+
+module _ {S D P O C R : Type 0} (g : Ghosts D) (told : Type 0) (slot : S → List ℕ → Slot D) (shelf_faults : S → ℕ) (goes : P → P → List Event → Type 0) (bound : P → ℕ)
+    (held : O → Option (List ℕ)) (given : C → Option (List ℕ)) (drawn : R → Option (List (List ℕ))) (old new : Handed S P O C R) where
+  -- what a line of `serve` did, by what was handed in
+  abbrev pub Serves : ServeLine → Status → Type 0
+  Serves line status = ServeRuns (ServeEnds g told slot shelf_faults goes bound held given drawn line.store line.port line.requests old new) (new ≡ old) status
+
+-- What a run did, whatever its words; each field is a clause of the top call. `serves` is what a line of `serve` did, and
+-- `left` that what serves was left as it was.
+pub record Meets (words : List (List ℕ)) (serves : ServeLine → Status → Type 0) (left : Type 0) (status : Status) (bench_before bench_after : PlainBench)
     (input_before input_after out_before out_after : Option (List ℕ)) (seeds_before seeds_after : Option (List (List ℕ))) : Type 0 where
   pub seal : (line : SealLine) → IsSealLine words line
       → SealRuns line status input_before input_after out_before out_after seeds_before seeds_after
@@ -140,10 +215,13 @@ pub record Meets (words : List (List ℕ)) (status : Status) (bench_before bench
       → RunsOver (OpenCallsFor line) (OpenRefuses line) status input_before input_after out_before out_after
   pub show : IsShowLine words → RunsOver IsShown ShowRefuses status input_before input_after out_before out_after
   pub replay : IsReplayLine words → RunsOver (ReplayCallsFor bench_after) ReplayRefuses status input_before input_after out_before out_after
+  pub serve : (line : ServeLine) → IsServeLine words line → serves line status
   pub help : Asks words → AnswersWith status input_before input_after out_before out_after
   pub spelled : AreWordsOf status words
   pub usage : IsUsage words → ¬ (Asks words) → (status ≡ Usage) ⊎ (status ≡ Memory)
   pub unread : IsUsage words → input_after ≡ input_before
-  pub undrawn : ((line : SealLine) → ¬ (IsSealLine words line)) → seeds_after ≡ seeds_before
+  pub served_unread : IsServing words → input_after ≡ input_before
+  pub undrawn : ((line : SealLine) → ¬ (IsSealLine words line)) → ¬ (IsServing words) → seeds_after ≡ seeds_before
   pub unplayed : ¬ (IsReplayLine words) → bench_after ≡ bench_before
+  pub unserved : ¬ (IsServing words) → left
   pub no_script : IsOfInput status → bench_after ≡ bench_before

@@ -27,6 +27,10 @@ show_shape = command_shape (codes "show") []
 unfoldable pub replay_shape : Shape
 replay_shape = command_shape (codes "replay") []
 
+unfoldable pub serve_shape : Shape
+serve_shape = command_shape (codes "serve") (option_rule (codes "store") true ∷ option_rule (codes "port") true
+    ∷ option_rule (codes "requests") true ∷ [])
+
 -- `sn` without its commands: one of them must be named; it answers `--help` and `--version`
 unfoldable pub sn_top : App
 sn_top = on_top
@@ -34,7 +38,8 @@ sn_top = on_top
     (new_app (codes "sn"))
 
 unfoldable pub sn_app : App
-sn_app = with_subcommand (with_subcommand (with_subcommand (with_subcommand sn_top seal_shape) open_shape) show_shape) replay_shape
+sn_app = with_subcommand
+    (with_subcommand (with_subcommand (with_subcommand (with_subcommand sn_top seal_shape) open_shape) show_shape) replay_shape) serve_shape
 
 -- `clap` takes the words
 abbrev pub Takes : List (List ℕ) → Type 0

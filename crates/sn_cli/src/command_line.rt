@@ -1,14 +1,16 @@
 // The command lines.
-ghost use Rattle.std.specs.Prelude.{◌≡◌, ℕ, List, codes, IsSome, IfSome, IfNone, IfOk, IfErr, IsTrue, ◌↔◌, ◌≤◌, length};
+ghost use Rattle.std.specs.Fmt.{decimal};
+ghost use Rattle.std.specs.Prelude.{◌≡◌, ℕ, List, codes, Some, IsSome, IfSome, IfNone, IfOk, IfErr, IsTrue, ◌↔◌, ◌<◌, ◌≤◌, ◌^◌, length};
 ghost use Rattle.sn_string.specs.Bounds.{IsIdentifier, IsCost, IsNonce};
 ghost use Rattle.sn_cli.specs.Calls.{encryption_half, authentication_half};
-ghost use Rattle.sn_cli.specs.CommandLine.{SealLine, OpenLine, IsSealLine, IsOpenLine, GivesItem, GivesCost, GivesParams};
+ghost use Rattle.sn_cli.specs.CommandLine.{SealLine, OpenLine, ServeLine, IsSealLine, IsOpenLine, IsServeLine, GivesItem, GivesCost, GivesParams};
 ghost use Rattle.sn_cli.specs.Commands.{IsCommand, IsLineError};
 ghost use Rattle.sn_cli.specs.Given.{IsGivenBy};
+ghost use Rattle.sn_cli.specs.Syntax.{value_of};
 ghost use Rattle.sn_cli.specs.Words.{texts};
 
 use crate::given::{Given, NotTaken, read_words, value};
-use crate::number::positive_number;
+use crate::number::{positive_number, whole_number};
 use clap::Error;
 use sn_string::{key_bytes, uuid_of};
 use std::alloc::Global;
@@ -16,6 +18,9 @@ use uuid::Uuid;
 
 /// The cost where no option gives one.
 const USUAL_COST: u32 = 110_000;
+
+/// The most requests of one run of the server.
+const MOST_REQUESTS: u32 = 1_000_000;
 
 /// An item: its uuid, and its key, of which the first half encrypts and the second authenticates.
 #[derive(Drop)]
@@ -45,6 +50,14 @@ pub struct ParamsOptions<'a> {
     pub nonce: &'a str,
 }
 
+/// A store, the number of a port, at 0 one that the system chooses, and how many requests are to be served.
+#[derive(Drop)]
+pub struct ServeOptions<'a> {
+    pub store: &'a str,
+    pub port: u16,
+    pub requests: u64,
+}
+
 /// A command with its options, or the text that the words ask for.
 #[derive(Drop)]
 pub enum Command<'a> {
@@ -52,6 +65,7 @@ pub enum Command<'a> {
     Open(ItemOptions),
     Show,
     Replay,
+    Serve(ServeOptions<'a>),
     Help(Error),
     Version(Error),
 }
@@ -90,6 +104,7 @@ fn given_command<'a>(given: &Given<'a>) -> Option<Command<'a>>
         "open" => open_command(given),
         "show" => Some(Command::Show),
         "replay" => Some(Command::Replay),
+        "serve" => serve_command(given),
         _ => None,
     }
 }
@@ -116,6 +131,63 @@ fn open_command<'a>(given: &Given<'a>) -> Option<Command<'a>>
     match item_options(given) {
         Some(item) => Some(Command::Open(item)),
         None => None,
+    }
+}
+
+fn serve_command<'a>(given: &Given<'a>) -> Option<Command<'a>>
+    requires { given.now.command.now ≡ codes "serve" }
+    ensures some { IfSome result (λ command. (words : List (List ℕ)) → IsGivenBy words given.now → IsCommand words command) }
+    ensures none { IfNone result ((words : List (List ℕ)) → IsGivenBy words given.now → (line : ServeLine) → ¬ (IsServeLine words line)) }
+{
+    let Some(store) = value(given, "store") else {
+        return None;
+    };
+    let Some(port) = port_option(given) else {
+        return None;
+    };
+    let Some(requests) = requests_option(given) else {
+        return None;
+    };
+    Some(Command::Serve(ServeOptions {
+        store,
+        port,
+        requests,
+    }))
+}
+
+fn port_option(given: &Given<'_>) -> Option<u16>
+    ensures some { IfSome result (λ port. (words : List (List ℕ)) → IsGivenBy words given.now → value_of words (codes "port") ≡ Some (decimal port)) }
+    ensures none { IfNone result ((words : List (List ℕ)) (port : ℕ) → IsGivenBy words given.now → port < 2 ^ 16 → ¬ (value_of words (codes "port") ≡ Some (decimal port))) }
+{
+    let Some(text) = value(given, "port") else {
+        return None;
+    };
+    let Some(port) = whole_number(text) else {
+        return None;
+    };
+    if port < 65536 {
+        Some(port as u16)
+    } else {
+        None
+    }
+}
+
+fn requests_option(given: &Given<'_>) -> Option<u64>
+    ensures some { IfSome result (λ requests. (1 ≤ requests) × (requests ≤ 1000000)
+        × ((words : List (List ℕ)) → IsGivenBy words given.now → value_of words (codes "requests") ≡ Some (decimal requests))) }
+    ensures none { IfNone result ((words : List (List ℕ)) (requests : ℕ) → IsGivenBy words given.now → 1 ≤ requests → requests ≤ 1000000
+        → ¬ (value_of words (codes "requests") ≡ Some (decimal requests))) }
+{
+    let Some(text) = value(given, "requests") else {
+        return None;
+    };
+    let Some(requests) = positive_number(text) else {
+        return None;
+    };
+    if requests <= MOST_REQUESTS {
+        Some(u64::from(requests))
+    } else {
+        None
     }
 }
 

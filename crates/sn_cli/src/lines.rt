@@ -1,18 +1,17 @@
 // The line of a status.
 ghost use Rattle.std.specs.Prelude.{◌≡◌, ◌⊎◌, IfOk, string_bytes};
 ghost use Rattle.sn_io.specs.Streams.{Tells};
-ghost use Rattle.sn_cli.specs.declared.refusal.Refusal.{Refusal};
-ghost use Rattle.sn_cli.specs.Lines.{line_of, item_text, form_text};
+ghost use Rattle.sn_cli.specs.Lines.{line_of, item_text, form_text, IsTold};
 
 use crate::refusal::{FormRefusal, ItemRefusal, Refusal};
-use crate::status::Status;
+use crate::status::{Status, Unfit};
 use sn_io::{Sink, write_all};
 use sn_string::{hex_text, uuid_text};
 use std::alloc::{AllocError, Global};
 
-/// Writes the line of a status. Where there is no memory for a refusal's line, the status is want of memory.
+/// Writes the line of a status. Where there is no memory for a line that tells values, the status is want of memory.
 pub fn tell<E: Sink>(alloc: Global, err: &mut E, status: Status) -> Status
-    ensures same { (result ≡ status) ⊎ ((refusal : Refusal) × (status ≡ Status.Refused refusal) × (result ≡ Status.Memory)) }
+    ensures same { IsTold status result }
     ensures told { Tells (E.held err.old) (E.held err.new) (E.fault_count err.old) (E.fault_count err.new) (line_of result) }
 {
     match status {
@@ -20,6 +19,14 @@ pub fn tell<E: Sink>(alloc: Global, err: &mut E, status: Status) -> Status
         Status::Usage => {
             put(err, b"sn: usage\n");
             Status::Usage
+        }
+        Status::DiskFault => {
+            put(err, b"sn: disk fault\n");
+            Status::DiskFault
+        }
+        Status::LinkFault => {
+            put(err, b"sn: link fault\n");
+            Status::LinkFault
         }
         Status::ReadFault => {
             put(err, b"sn: read fault\n");
@@ -34,6 +41,7 @@ pub fn tell<E: Sink>(alloc: Global, err: &mut E, status: Status) -> Status
             Status::Memory
         }
         Status::Refused(refusal) => tell_refusal(alloc, err, refusal),
+        Status::Foreign(unfit) => tell_unfit(alloc, err, unfit),
     }
 }
 
@@ -45,6 +53,22 @@ fn tell_refusal<E: Sink>(alloc: Global, err: &mut E, refusal: Refusal) -> Status
         Ok(line) => {
             put(err, line.as_bytes());
             Status::Refused(refusal)
+        }
+        Err(AllocError) => {
+            put(err, b"sn: memory\n");
+            Status::Memory
+        }
+    }
+}
+
+fn tell_unfit<E: Sink>(alloc: Global, err: &mut E, unfit: Unfit) -> Status
+    ensures same { (result ≡ Status.Foreign unfit) ⊎ (result ≡ Status.Memory) }
+    ensures told { Tells (E.held err.old) (E.held err.new) (E.fault_count err.old) (E.fault_count err.new) (line_of result) }
+{
+    match unfit_line(alloc, unfit) {
+        Ok(line) => {
+            put(err, line.as_bytes());
+            Status::Foreign(unfit)
         }
         Err(AllocError) => {
             put(err, b"sn: memory\n");
@@ -71,6 +95,19 @@ fn refusal_line(alloc: Global, refusal: &Refusal) -> Result<String, AllocError>
         Refusal::Line { number } => format!(in alloc; "replay.1 Line {number}")?,
     };
     format!(in alloc; "sn: {text}\n")
+}
+
+fn unfit_line(alloc: Global, unfit: Unfit) -> Result<String, AllocError>
+    ensures { IfOk result (λ line. string_bytes line ≡ line_of (Status.Foreign unfit)) }
+{
+    match unfit {
+        Unfit::Foreign { place } => format!(in alloc; "sn: foreign {place}\n"),
+        Unfit::Damaged { place } => format!(in alloc; "sn: damaged {place}\n"),
+        Unfit::Rows { kind } => {
+            let number = kind.number();
+            format!(in alloc; "sn: rows {number}\n")
+        }
+    }
 }
 
 fn item_line(alloc: Global, refusal: &ItemRefusal) -> Result<String, AllocError>

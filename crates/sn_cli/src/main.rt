@@ -14,6 +14,7 @@ mod program;
 mod refusal;
 mod replaying;
 mod sealing;
+mod serving;
 mod showing;
 mod status;
 mod syntax;
@@ -26,7 +27,7 @@ use program::run;
 use rand_chacha::ChaCha20Rng;
 use rand_core::Rng;
 use sn_replay::PlainBench;
-use sn_system::{Input, Output};
+use sn_system::{FileShelf, Input, Output, SystemClock, TcpPort};
 use status::Status;
 use std::io;
 use std::process::ExitCode;
@@ -48,10 +49,13 @@ fn run_on_streams(rt: &HostRuntime, words: &[String]) -> Status {
     run(
         rt.alloc(),
         words,
+        &mut FileShelf::new(rt),
         &mut PlainBench::new(rt.alloc()),
+        &mut TcpPort::new(rt),
         &mut Input::new(rt.reader()),
         &mut Output::new(rt.stdout()),
         &mut Output::new(rt.stderr()),
+        &mut SystemClock::new(rt),
         &mut DrawnSeed::new(seed),
     )
 }

@@ -15,6 +15,18 @@ pub fn positive_number(text: &str) -> Option<u32>
     }
 }
 
+/// The number that the text spells: decimal digits without a sign or a leading zero.
+pub fn whole_number(text: &str) -> Option<u32>
+    ensures some { IfSome result (λ n. text.now ≡ decimal n) }
+    ensures none { IsNone result → (n : ℕ) → n < 2 ^ 32 → ¬ (text.now ≡ decimal n) }
+{
+    if text == "0" {
+        Some(0)
+    } else {
+        positive_number(text)
+    }
+}
+
 fn begins_with_nonzero_digit(text: &str) -> bool
     ensures { IsTrue result ↔ ((48 < slice_index text.now 0) × (slice_index text.now 0 < 58)) }
 {

@@ -4,11 +4,12 @@ ghost use Rattle.std.specs.Io.KnownBytes.{Keeps};
 ghost use Rattle.sn_io.specs.Causes.{Rose};
 ghost use Rattle.sn_io.specs.Streams.{Tells};
 ghost use Rattle.sn_replay.specs.Benches.{IsFresh};
+ghost use Rattle.sn_serve.specs.Serving.{handed};
 ghost use Rattle.sn_cli.specs.Calls.{OpenCallsFor, OpenRefuses, ReplayCallsFor, ReplayRefuses, ShowRefuses};
-ghost use Rattle.sn_cli.specs.CommandLine.{SealLine, OpenLine, Asks, IsSealLine, IsOpenLine, IsShowLine, IsReplayLine, IsUsage};
+ghost use Rattle.sn_cli.specs.CommandLine.{SealLine, OpenLine, ServeLine, Asks, IsServing, IsSealLine, IsOpenLine, IsShowLine, IsReplayLine, IsServeLine, IsUsage};
 ghost use Rattle.sn_cli.specs.Inputs.{HasText};
 ghost use Rattle.sn_cli.specs.Lines.{line_of};
-ghost use Rattle.sn_cli.specs.Runs.{Accepts, AnswersWith, AreWordsOf, IsOfInput, IsRefusal, IsSilent, Meets, RunsOver, SealRuns};
+ghost use Rattle.sn_cli.specs.Runs.{Accepts, AnswersWith, AreLeft, AreWordsOf, Serves, IsOfInput, IsRefusal, IsSilent, Meets, RunsOver, SealRuns};
 ghost use Rattle.sn_cli.specs.Shown.{IsShown};
 ghost use Rattle.sn_cli.specs.Words.{texts};
 
@@ -18,23 +19,29 @@ use crate::lines::tell;
 use crate::opening::open_input;
 use crate::replaying::replay_input;
 use crate::sealing::seal_input;
+use crate::serving::serve_store;
 use crate::showing::show_input;
 use crate::status::Status;
+use sn_disk::{Disk, Shelf};
 use sn_io::{Seeds, Sink, Source};
 use sn_items::sealed_opens;
+use sn_net::{Clock, Port};
 use sn_replay::PlainBench;
 use sn_string::laws::read_back;
 use std::alloc::Global;
 
-/// Carries out the command that the words spell, over the bench, the input, the two outputs and the seeds that are
-/// handed in. `bench` has both ends of a replay.
-pub fn run<I: Source, O: Sink, E: Sink, R: Seeds>(
+/// Carries out the command that the words spell, over the shelf, the bench, the port, the input, the two outputs, the
+/// clock and the seeds that are handed in. `shelf` has the stores, `bench` both ends of a replay.
+pub fn run<S: Shelf, P: Port, I: Source, O: Sink, E: Sink, C: Clock, R: Seeds>(
     alloc: Global,
     words: &[String],
+    shelf: &mut S,
     bench: &mut PlainBench,
+    port: &mut P,
     input: &mut I,
     out: &mut O,
     err: &mut E,
+    clock: &mut C,
     seeds: &mut R,
 ) -> Status
     requires fresh { IsFresh bench.old }
@@ -48,6 +55,10 @@ pub fn run<I: Source, O: Sink, E: Sink, R: Seeds>(
         (I.left input.old) (I.left input.new) (O.held out.old) (O.held out.new) }
     ensures replay { IsReplayLine (texts words.now) → RunsOver (ReplayCallsFor bench.new) ReplayRefuses result
         (I.left input.old) (I.left input.new) (O.held out.old) (O.held out.new) }
+    // What a line of `serve` did: how the store was loaded, which connections were served, and how many requests.
+    ensures serve { (line : ServeLine) → IsServeLine (texts words.now) line →
+        Serves ⟦<S::D as Disk>⟧ S.told S.slot S.fault_count P.goes P.bound O.held C.given R.given
+        (handed shelf.old port.old out.old clock.old seeds.old) (handed shelf.new port.new out.new clock.new seeds.new) line result }
     ensures help { Asks (texts words.now) → AnswersWith result (I.left input.old) (I.left input.new) (O.held out.old) (O.held out.new) }
 
     // The words of each status, and the status of words that are no line.
@@ -59,35 +70,45 @@ pub fn run<I: Source, O: Sink, E: Sink, R: Seeds>(
 
     // What stays as it was.
     ensures unread { IsUsage (texts words.now) → I.left input.new ≡ I.left input.old }
-    ensures undrawn { ((line : SealLine) → ¬ (IsSealLine (texts words.now) line)) → R.given seeds.new ≡ R.given seeds.old }
+    ensures served_unread { IsServing (texts words.now) → I.left input.new ≡ I.left input.old }
+    ensures undrawn { ((line : SealLine) → ¬ (IsSealLine (texts words.now) line)) → ¬ (IsServing (texts words.now)) → R.given seeds.new ≡ R.given seeds.old }
     ensures unplayed { ¬ (IsReplayLine (texts words.now)) → bench.new ≡ bench.old }
+    ensures unserved { ¬ (IsServing (texts words.now)) → AreLeft shelf.old shelf.new port.old port.new clock.old clock.new }
     ensures no_script { IsOfInput result → bench.new ≡ bench.old }
-    ensures silent { IsSilent result → Keeps (O.held out.old) (O.held out.new) }
+    ensures silent { IsSilent result → ¬ (IsServing (texts words.now)) → Keeps (O.held out.old) (O.held out.new) }
 
     ensures read { result ≡ Status.ReadFault → Rose (I.fault_count input.old) (I.fault_count input.new) }
     ensures write { result ≡ Status.WriteFault → Rose (O.fault_count out.old) (O.fault_count out.new) }
+    ensures link { result ≡ Status.LinkFault → Rose (P.fault_count port.old) (P.fault_count port.new) }
     ensures told { Tells (E.held err.old) (E.held err.new) (E.fault_count err.old) (E.fault_count err.new) (line_of result) }
 {
     sealed_opens();
     read_back();
-    let status = answer(alloc, words, bench, input, out, seeds);
+    let status = answer(alloc, words, shelf, bench, port, input, out, clock, seeds);
     tell(alloc, err, status)
 }
 
 // All but the line.
-fn answer<I: Source, O: Sink, R: Seeds>(
+fn answer<S: Shelf, P: Port, I: Source, O: Sink, C: Clock, R: Seeds>(
     alloc: Global,
     words: &[String],
+    shelf: &mut S,
     bench: &mut PlainBench,
+    port: &mut P,
     input: &mut I,
     out: &mut O,
+    clock: &mut C,
     seeds: &mut R,
 ) -> Status
     requires fresh { IsFresh bench.old }
-    ensures met { Meets (texts words.now) result bench.old bench.new (I.left input.old) (I.left input.new) (O.held out.old) (O.held out.new)
+    ensures met { Meets (texts words.now)
+        (Serves ⟦<S::D as Disk>⟧ S.told S.slot S.fault_count P.goes P.bound O.held C.given R.given
+        (handed shelf.old port.old out.old clock.old seeds.old) (handed shelf.new port.new out.new clock.new seeds.new))
+        (AreLeft shelf.old shelf.new port.old port.new clock.old clock.new) result bench.old bench.new (I.left input.old) (I.left input.new) (O.held out.old) (O.held out.new)
         (R.given seeds.old) (R.given seeds.new) }
-    ensures silent { IsSilent result → Keeps (O.held out.old) (O.held out.new) }
+    ensures silent { IsSilent result → ¬ (IsServing (texts words.now)) → Keeps (O.held out.old) (O.held out.new) }
     ensures read { result ≡ Status.ReadFault → Rose (I.fault_count input.old) (I.fault_count input.new) }
+    ensures link { result ≡ Status.LinkFault → Rose (P.fault_count port.old) (P.fault_count port.new) }
     ensures write { result ≡ Status.WriteFault → Rose (O.fault_count out.old) (O.fault_count out.new) }
 {
     match command_of(alloc, words) {
@@ -97,6 +118,9 @@ fn answer<I: Source, O: Sink, R: Seeds>(
         Ok(Command::Open(item)) => open_input(alloc, &item, input, out),
         Ok(Command::Show) => show_input(alloc, input, out),
         Ok(Command::Replay) => replay_input(alloc, bench, input, out),
+        Ok(Command::Serve(options)) => {
+            serve_store(alloc, &options, shelf, port, out, clock, seeds)
+        }
         Ok(Command::Help(text)) => answer_help(alloc, &text, out),
         Ok(Command::Version(text)) => answer_help(alloc, &text, out),
     }

@@ -2,6 +2,7 @@
 ghost use Rattle.std.specs.Prelude.{◌≡◌};
 
 use crate::refusal::Refusal;
+use sn_rows::RowKind;
 
 /// The outcome of a run. Each but the first has a line on standard error.
 #[derive(Debug, Drop)]
@@ -9,9 +10,26 @@ pub enum Status {
     Done,
     Usage,
     Refused(Refusal),
+    /// The shelf or a disk failed.
+    DiskFault,
+    /// The port failed.
+    LinkFault,
     ReadFault,
     WriteFault,
     Memory,
+    /// A disk holds no store of the kind that the command wants, or a damaged one.
+    Foreign(Unfit),
+}
+
+/// Why a disk's store isn't one to be used. None is want of memory.
+#[derive(Clone, Copy, Debug, PartialEq, Eq)]
+pub enum Unfit {
+    /// The first place that differs from the header, or the end of a shorter file.
+    Foreign { place: u64 },
+    /// The place of the gate of the first batch that isn't whole or isn't one of rows.
+    Damaged { place: u64 },
+    /// The first kind whose rows don't fit together.
+    Rows { kind: RowKind },
 }
 
 impl Status {
@@ -25,9 +43,12 @@ impl Status {
             Status::Done => 0,
             Status::Usage => 2,
             Status::Refused(_) => 3,
+            Status::DiskFault => 4,
+            Status::LinkFault => 5,
             Status::ReadFault => 6,
             Status::WriteFault => 7,
             Status::Memory => 8,
+            Status::Foreign(_) => 9,
         }
     }
 }

@@ -3,16 +3,16 @@ ghost use Rattle.std.specs.Prelude.{◌≡◌, IfOk, false};
 ghost use Rattle.clap.specs.Simple.{app_of, shape_of, with_rule, with_subcommand};
 ghost use Rattle.clap.specs.Walk.{rule_of};
 ghost use Rattle.clap.specs.declared.builder.command.Command.TheViews.{out-Command as fields_of};
-ghost use Rattle.sn_cli.specs.Syntax.{sn_app, sn_top, seal_shape, open_shape, show_shape, replay_shape, option_rule};
+ghost use Rattle.sn_cli.specs.Syntax.{sn_app, sn_top, seal_shape, open_shape, show_shape, replay_shape, serve_shape, option_rule};
 
 use clap::{Arg, Command};
 use std::alloc::{AllocError, Global};
 
 const ABOUT: &str =
-    "Seals, opens and shows the encrypted strings of notes (encryption protocol 003), and replays scripts of several devices and a server.";
+    "Seals, opens and shows the encrypted strings of notes (encryption protocol 003), replays scripts of several devices and a server, and serves a store of accounts to devices.";
 
 const AFTER: &str =
-    "A command reads standard input and writes standard output. Status 0 is success, 2 a faulty command line, 3 a refusal, 6 and 7 a failed read or write, 8 want of memory; each but 0 has one line on standard error.";
+    "A command reads standard input, unless it serves, and writes standard output. Status 0 is success, 2 a faulty command line, 3 a refusal, 4 a failed disk, 5 a failed port, 6 and 7 a failed read or write, 8 want of memory, 9 a file that is no store or a damaged one; each but 0 has one line on standard error.";
 
 const SEAL: &str =
     "Seals standard input, a text of at most 16777216 bytes, and writes it as one 003 string and a line feed.";
@@ -25,6 +25,16 @@ const SHOW: &str =
 
 const REPLAY: &str =
     "Carries out a script of several devices and a server in memory, and reports what each line brought about.";
+
+const SERVE: &str =
+    "Serves the accounts of a store to devices, over HTTP on 127.0.0.1, until so many requests are answered. Once it listens it writes `listening`, the port and a line feed. A store that isn't there is made. For example: sn serve --store notes.store --port 8080 --requests 1000000";
+
+const STORE: &str = "The store's file";
+
+const PORT: &str = "The port, 0 to 65535; at 0 the system chooses one";
+
+const REQUESTS: &str =
+    "How many requests to answer, 1 to 1000000; a connection that ends without an answer counts as one";
 
 const UUID: &str = "The item, as 8-4-4-4-12 lower-case hex digits";
 
@@ -45,7 +55,8 @@ pub fn sn<'a>(alloc: Global) -> Result<Command<'a>, AllocError>
     let command = with_command(command, seal(alloc)?)?;
     let command = with_command(command, open_one(alloc)?)?;
     let command = with_command(command, show(alloc))?;
-    with_command(command, replay(alloc))
+    let command = with_command(command, replay(alloc))?;
+    with_command(command, serve(alloc)?)
 }
 
 // The name is also that in the usage lines of the commands, since no word names the program.
@@ -100,6 +111,17 @@ fn replay<'a>(alloc: Global) -> Command<'a>
     ensures local { (fields_of result).has_globals ≡ false }
 {
     Command::new(alloc, "replay").about(REPLAY)
+}
+
+#[tactic(auto, unfolding(crate::specs::Syntax::serve_shape))]
+fn serve<'a>(alloc: Global) -> Result<Command<'a>, AllocError>
+    ensures shape { IfOk result (λ command. shape_of command ≡ serve_shape) }
+    ensures local { IfOk result (λ command. (fields_of command).has_globals ≡ false) }
+{
+    let command = Command::new(alloc, "serve").about(SERVE);
+    let command = with_option(alloc, command, "store", "PATH", STORE, true)?;
+    let command = with_option(alloc, command, "port", "N", PORT, true)?;
+    with_option(alloc, command, "requests", "N", REQUESTS, true)
 }
 
 fn with_command<'a>(command: Command<'a>, sub: Command<'a>) -> Result<Command<'a>, AllocError>

@@ -3,7 +3,9 @@
 
 use crate::program::run;
 use crate::status::Status;
+use sn_disk::MemShelf;
 use sn_io::{MemSeeds, MemSink, MemSource};
+use sn_net::{MemClock, MemPort};
 use sn_replay::PlainBench;
 use std::alloc::Global;
 use std::test::Fail;
@@ -77,6 +79,56 @@ const REPLAY: &[&str] = &["replay"];
 
 const REPLAY_MORE: &[&str] = &["replay", "--cost", "1"];
 
+const SERVE: &[&str] = &[
+    "serve",
+    "--store",
+    "server",
+    "--port",
+    "0",
+    "--requests",
+    "1",
+];
+
+const SERVE_NO_PORT: &[&str] = &[
+    "serve",
+    "--store",
+    "server",
+    "--port",
+    "65536",
+    "--requests",
+    "1",
+];
+
+const SERVE_ZERO_IN_FRONT: &[&str] = &[
+    "serve",
+    "--store",
+    "server",
+    "--port",
+    "00",
+    "--requests",
+    "1",
+];
+
+const SERVE_NOTHING: &[&str] = &[
+    "serve",
+    "--store",
+    "server",
+    "--port",
+    "0",
+    "--requests",
+    "0",
+];
+
+const SERVE_TOO_MANY: &[&str] = &[
+    "serve",
+    "--store",
+    "server",
+    "--port",
+    "0",
+    "--requests",
+    "1000001",
+];
+
 const OTHER_ORDER: &[&str] = &[
     "seal",
     "--nonce=6e",
@@ -126,7 +178,57 @@ struct Case {
     err: &'static [u8],
 }
 
-static CASES: [Case; 37] = [
+static CASES: [Case; 42] = [
+    Case {
+        name: "serve: no disk of this name",
+        words: SERVE,
+        input: b"x",
+        failing_reads: &[0],
+        failing_writes: &[],
+        status: 4,
+        out: b"",
+        err: b"sn: disk fault\n",
+    },
+    Case {
+        name: "serve: a port above the last",
+        words: SERVE_NO_PORT,
+        input: b"x",
+        failing_reads: &[0],
+        failing_writes: &[],
+        status: 2,
+        out: b"",
+        err: b"sn: usage\n",
+    },
+    Case {
+        name: "serve: a port with a zero in front",
+        words: SERVE_ZERO_IN_FRONT,
+        input: b"x",
+        failing_reads: &[0],
+        failing_writes: &[],
+        status: 2,
+        out: b"",
+        err: b"sn: usage\n",
+    },
+    Case {
+        name: "serve: no requests",
+        words: SERVE_NOTHING,
+        input: b"x",
+        failing_reads: &[0],
+        failing_writes: &[],
+        status: 2,
+        out: b"",
+        err: b"sn: usage\n",
+    },
+    Case {
+        name: "serve: more requests than the most",
+        words: SERVE_TOO_MANY,
+        input: b"x",
+        failing_reads: &[0],
+        failing_writes: &[],
+        status: 2,
+        out: b"",
+        err: b"sn: usage\n",
+    },
     Case {
         name: "the version",
         words: VERSION,
@@ -597,8 +699,12 @@ fn outcome_of(alloc: Global, case: &Case) -> Result<Outcome, Fail> {
     let mut err = MemSink::new(alloc, 7, Vec::new(alloc));
     let mut seeds = MemSeeds::new(Vec::new(alloc));
     let mut bench = PlainBench::new(alloc);
+    let mut shelf = MemShelf::new(alloc, Vec::new(alloc));
+    let mut port = MemPort::new(alloc, Vec::new(alloc), 4711, Vec::new(alloc));
+    let mut clock = MemClock::new(Vec::new(alloc));
     let status = run(
-        alloc, &words, &mut bench, &mut input, &mut out, &mut err, &mut seeds,
+        alloc, &words, &mut shelf, &mut bench, &mut port, &mut input, &mut out, &mut err,
+        &mut clock, &mut seeds,
     );
     Ok(Outcome { status, out, err })
 }

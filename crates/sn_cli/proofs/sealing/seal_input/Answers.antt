@@ -1,5 +1,4 @@
-use Rattle.std.proofs.Common.{rules, subst, ◌∙◌, ◌++◌, ◌∷◌, [], string_bytes}
-use Rattle.rand_chacha.specs.ChaCha.{of_seed}
+use Rattle.std.proofs.Common.{subst, string_bytes}
 use Rattle.sn_items.specs.Draws.{drawn}
 use Rattle.sn_items.specs.Seals.{IsSealed}
 use Rattle.sn_cli.specs.Calls.{SealCallsFor, SealRefuses, encryption_half, authentication_half}

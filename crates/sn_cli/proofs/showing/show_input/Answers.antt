@@ -1,6 +1,5 @@
-use Rattle.std.proofs.Common.{rules, subst, string_bytes}
+use Rattle.std.proofs.Common.{subst, string_bytes}
 use Rattle.sn_cli.specs.Calls.{ShowRefuses}
-use Rattle.sn_cli.specs.Inputs.{ReadsText}
 use Rattle.sn_cli.specs.Runs.{Writes}
 use Rattle.sn_cli.specs.Shown.{IsShown}
 use Rattle.sn_cli.proofs.RunLemmas.{written}

@@ -15,7 +15,10 @@ returns c =
     let with_show : app_of c.in_ok-command-4.command ≡ with_subcommand (with_subcommand (with_subcommand sn_top seal_shape) open_shape) show_shape =
     c.in_ok-command-4.ensures ∙ ap (λ (a : App). with_subcommand a (shape_of c.show.result)) with_open
     ∙ ap (with_subcommand (with_subcommand (with_subcommand sn_top seal_shape) open_shape)) c.show.ensures.shape in
-    let whole : with_subcommand (app_of c.in_ok-command-4.command) (shape_of c.replay.result) ≡ sn_app =
-    ap (λ (a : App). with_subcommand a (shape_of c.replay.result)) with_show
+    let with_replay : app_of c.in_ok-command-5.command ≡ with_subcommand (with_subcommand (with_subcommand (with_subcommand sn_top seal_shape) open_shape) show_shape) replay_shape =
+    c.in_ok-command-5.ensures ∙ ap (λ (a : App). with_subcommand a (shape_of c.replay.result)) with_show
     ∙ ap (with_subcommand (with_subcommand (with_subcommand (with_subcommand sn_top seal_shape) open_shape) show_shape)) c.replay.ensures.shape in
-    subst (λ (a : App). IfOk c.with_command-4.result (λ command. app_of command ≡ a)) whole c.with_command-4.ensures
+    let whole : with_subcommand (app_of c.in_ok-command-5.command) (shape_of c.in_ok-serve.field-0) ≡ sn_app =
+    ap (λ (a : App). with_subcommand a (shape_of c.in_ok-serve.field-0)) with_replay
+    ∙ ap (with_subcommand (with_subcommand (with_subcommand (with_subcommand (with_subcommand sn_top seal_shape) open_shape) show_shape) replay_shape)) c.in_ok-serve.ensures.shape in
+    subst (λ (a : App). IfOk c.with_command-5.result (λ command. app_of command ≡ a)) whole c.with_command-5.ensures
