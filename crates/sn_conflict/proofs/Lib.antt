@@ -1,0 +1,5 @@
+pub mod ListLemmas
+pub mod StringLemmas
+pub mod CheckLemmas
+pub mod MeetLemmas
+pub mod OneMeeting

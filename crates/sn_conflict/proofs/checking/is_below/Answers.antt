@@ -1,0 +1,8 @@
+use Rattle.sn_conflict.proofs.CheckLemmas.{less_decided, less_unstamped}
+use Rattle.sn_conflict.proofs.checking.is_below.Goals as goal
+
+pub returns-in-Some : goal.returns-in-Some
+returns-in-Some c = less_decided c.args.item.now c.in-Some.other c.args.stamp c.in-Some.ensures.some
+
+pub returns-in-None : goal.returns-in-None
+returns-in-None c = less_unstamped c.args.item.now c.args.stamp c.in-None.ensures.none

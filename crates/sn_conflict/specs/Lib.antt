@@ -1,0 +1,5 @@
+pub mod Checks
+pub mod Laws
+pub mod Lists
+pub mod Meetings
+pub mod Versions
