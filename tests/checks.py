@@ -6,8 +6,9 @@ import sys
 import time
 import unittest
 
-# Where this is set, a check that is skipped fails.
+# Where this is set, a check that is skipped fails, but for these, whose programs not every place that checks can install.
 NOTHING_SKIPPED = bool(os.environ.get("SN_NOTHING_SKIPPED"))
+MAY_BE_SKIPPED = {("test_serve", "BehindAProxy")}
 
 
 class Result(unittest.TextTestResult):
@@ -46,9 +47,10 @@ def main():
     print("end-to-end checks: %.1f s" % (time.time() - began))
     for line in skipped_classes(result):
         print(line)
-    if skipped and NOTHING_SKIPPED:
-        print("nothing may be skipped where CI is set, so these fail")
-        failed, skipped = failed + skipped, 0
+    barred = [test for test, _ in result.skipped if (type(test).__module__, type(test).__name__) not in MAY_BE_SKIPPED]
+    if barred and NOTHING_SKIPPED:
+        print("nothing of %s may be skipped where CI is set, so these fail" % ", ".join(sorted({type(test).__name__ for test in barred})))
+        failed, skipped = failed + len(barred), skipped - len(barred)
     print(last_line(result.passed, failed, skipped))
     return 1 if failed else 0
 

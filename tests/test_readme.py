@@ -4,6 +4,7 @@
 import os
 import re
 import shutil
+import socket
 import subprocess
 import tempfile
 import unittest
@@ -11,7 +12,7 @@ import unittest
 import program
 import scratch
 
-NEEDED = ("diff", "openssl")
+NEEDED = ("curl", "diff", "openssl")
 MISSING = [name for name in NEEDED if shutil.which(name) is None]
 
 
@@ -23,6 +24,13 @@ def blocks():
     return [re.sub(r"^    ", "", block, flags=re.M) for block in found]
 
 
+def at_a_free_port(block):
+    """The block with a port that is free in place of the one that it names, and that port."""
+    with socket.create_server(("127.0.0.1", 0)) as listener:
+        port = str(listener.getsockname()[1])
+    return block.replace("8003", port), port.encode()
+
+
 def report():
     with open(os.path.join(program.TOP, "examples", "one-note.report"), "rb") as file:
         return file.read()
@@ -32,7 +40,8 @@ def report():
 class TryIt(unittest.TestCase):
     def wanted(self):
         """What each block writes, in order."""
-        return [b"sn 0.1.0\n", report(), b"as worked out by hand\n", b"my note"]
+        served = b'listening 8003\n{"error":{"tag":"unknown"}}'
+        return [b"sn 0.1.0\n", report(), b"as worked out by hand\n", served, b"my note"]
 
     def test_each_is_known(self):
         self.assertEqual(len(blocks()), len(self.wanted()))
@@ -44,12 +53,16 @@ class TryIt(unittest.TestCase):
             for name in ("sn", "examples"):
                 os.symlink(os.path.realpath(os.path.join(program.TOP, name)), os.path.join(folder, name))
             for block, wanted in zip(blocks(), self.wanted()):
+                block, port = at_a_free_port(block)
+                wanted = wanted.replace(b"8003", port)
                 pipes = dict(stdin=subprocess.DEVNULL, stdout=subprocess.PIPE, stderr=subprocess.PIPE)
                 done = subprocess.run(["bash", "-eo", "pipefail", "-c", block], cwd=folder, **pipes)
                 self.assertEqual((done.returncode, done.stdout, done.stderr), (0, wanted, b""), block)
 
     def test_each_as_the_first_of_a_fresh_clone(self):
         for block, wanted in zip(blocks(), self.wanted()):
+            block, port = at_a_free_port(block)
+            wanted = wanted.replace(b"8003", port)
             clone = scratch.Clone(built=program.SN, with_tools=NEEDED)
             self.addCleanup(clone.close)
             shutil.copytree(os.path.join(program.TOP, "examples"), os.path.join(clone.top, "examples"))

@@ -12,7 +12,7 @@ import scratch
 # A gate that is refused, so that the run ends behind it.
 GATE = '#!/usr/bin/env bash\necho "0 passed, 1 failed (stub)"\nexit 1\n'
 TOLD = '#!/usr/bin/env bash\necho "$0 $*" | sed "s|.*/||" >>"$SCRATCH/told"\n'
-TOOLS = ("bash", "cat", "cut", "dirname", "env", "flock", "openssl", "python3", "sed")
+TOOLS = ("bash", "cat", "curl", "cut", "dirname", "env", "flock", "openssl", "python3", "sed")
 
 
 class Machine(unittest.TestCase):
