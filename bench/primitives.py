@@ -310,4 +310,5 @@ def main():
     results.put(section)
 
 
-main()
+if __name__ == "__main__":
+    main()
