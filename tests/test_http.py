@@ -192,8 +192,8 @@ TABLE = [
     (get(AUTH + b"Bearer T\xff"), message()),
     (get(AUTH + b"Bearer " + b"t" * 1024), message(token=b"t" * 1024)),
     (get(AUTH + b"Bearer " + b"t" * 1025), message()),
-    (get(AUTH + b"Bearer tk", AUTH + b"Bearer T2"), message(token=b"tk")),
-    (get(AUTH + b"Basic x", AUTH + b"Bearer T2"), message()),
+    (get(AUTH + b"Bearer tk", AUTH + b"Bearer other"), message(token=b"tk")),
+    (get(AUTH + b"Basic x", AUTH + b"Bearer other"), message()),
     # connections that close
     (get(version=b"1.0"), message(closing=True)),
     (get(b"Connection: keep-alive", version=b"1.0"), message(closing=True)),
