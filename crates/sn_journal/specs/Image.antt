@@ -31,9 +31,12 @@ abbrev pub IsClosed : List ℕ → Type 0
 IsClosed [] = ⊥
 IsClosed (gate ∷ rest) = gate ≢ 1
 
--- at most 2^30 bytes
+-- a payload has 2^30 bytes at most
+abbrev pub most_payload : ℕ
+most_payload = 2 ^ 30
+
 abbrev pub IsBounded : List ℕ → Type 0
-IsBounded payload = length payload ≤ 2 ^ 30
+IsBounded payload = length payload ≤ most_payload
 
 -- the header, these batches and a closed gate; what stands behind means nothing
 pub record IsChain (owner : Owner) (file : List ℕ) (payloads : List (List ℕ)) : Type 0 where

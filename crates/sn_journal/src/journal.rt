@@ -1,12 +1,11 @@
 // The journal and its one change.
-ghost use Rattle.std.specs.Prelude.{◌≡◌, ◌+◌, ◌<◌, ◌≤◌, ◌^◌, ◌++◌, [], ◌∷◌, List, ℕ, length, IfOk, IfErr, OnOk};
-ghost use Rattle.sn_journal.specs.Image.{counted};
+ghost use Rattle.std.specs.Prelude.{◌≡◌, ◌+◌, ◌<◌, ◌≤◌, ◌++◌, [], ◌∷◌, List, ℕ, length, IfOk, IfErr, OnOk};
+ghost use Rattle.sn_journal.specs.Image.{counted, most_payload};
 
 use crate::Owner;
+use crate::reading::MOST_PAYLOAD;
 use sn_disk::{Disk, MemDisk, Stop, write_durably};
 use std::alloc::{AllocError, Global};
-
-const MOST_PAYLOAD: usize = 1 << 30;
 
 /// An open journal: its disk, the place of its closed gate, and how many batches stand before it.
 #[derive(Drop)]
@@ -85,7 +84,7 @@ impl<D: Disk> Journal<D> {
             LeavesOnly D.moment D.left_since (disk_of self) (disk_after result) (IsBeforeOrAfter (owner_of self) payloads payload.now) }
 
         ensures refused { IfErr result (IsRefusal self (length payload.now)) }
-        ensures large { 2 ^ 30 < length payload.now → result ≡ Err (AppendError.TooLarge self (length payload.now)) }
+        ensures large { most_payload < length payload.now → result ≡ Err (AppendError.TooLarge self (length payload.now)) }
         // Four changing calls: the batch behind its gate, a sync, the gate, a sync.
         ensures calls { D.told → Counts 4 (D.moment (disk_of self)) (D.moment (disk_after result)) result }
 
@@ -140,7 +139,7 @@ impl Journal<MemDisk> {
 // What stands behind the gate: the length, the payload and the next gate, closed.
 #[tactic(auto, unfolding(crate::specs::Image::counted))]
 fn behind_gate(alloc: Global, payload: &[u8]) -> Result<Vec<u8>, AllocError>
-    requires { length payload.now ≤ 2 ^ 30 }
+    requires { length payload.now ≤ most_payload }
     ensures { IfOk result (λ bytes. bytes.items ≡ counted payload.now ++ 0 ∷ []) }
 {
     let mut bytes = Vec::with_capacity(alloc, payload.len() + 5)?;

@@ -6,7 +6,8 @@ ghost use Rattle.sn_journal.specs.Reading.{IsBatches, IsWhole, IsBroken, IsBroke
 
 use std::marker::Model;
 
-const MOST_PAYLOAD: usize = 1 << 30;
+/// The most bytes of a payload.
+pub(crate) const MOST_PAYLOAD: usize = 1 << 30;
 
 /// Reads batches, one payload after the other. A contract sees the bytes that are left.
 #[derive(Debug, Drop)]

@@ -17,6 +17,10 @@ IsNonce text = (1 ≤ length text) × (length text ≤ 256)
 abbrev pub last_stamp : ℕ
 last_stamp = 253402300799999999
 
+-- a content has 700,000 bytes at most
+abbrev pub longest_content : ℕ
+longest_content = 700000
+
 -- a string of an item on a server has 1,048,576 bytes at most
 abbrev pub most_string : ℕ
 most_string = 1048576

@@ -3,6 +3,9 @@
 /// The last stamp: the last microsecond of the year 9999, counted from the first of 1970 in UTC.
 pub const LAST_STAMP: u64 = 253_402_300_799_999_999;
 
+/// The most bytes of a content.
+pub const LONGEST_CONTENT: usize = 700_000;
+
 /// The most bytes of a string of an item on a server.
 pub const MOST_STRING: usize = 1_048_576;
 

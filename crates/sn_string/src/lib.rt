@@ -19,7 +19,7 @@ pub mod uuid_texts;
 pub mod writer;
 
 pub use base64_texts::{base64_bytes, base64_text};
-pub use bounds::{LAST_STAMP, MOST_ACCOUNTS, MOST_BYTES, MOST_STRING};
+pub use bounds::{LAST_STAMP, LONGEST_CONTENT, MOST_ACCOUNTS, MOST_BYTES, MOST_STRING};
 pub use bytes::Bytes;
 pub use ciphertexts::is_ciphertext;
 pub use forms::{is_hash, is_iv, is_uuid};
