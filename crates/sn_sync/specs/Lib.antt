@@ -11,4 +11,6 @@ pub mod Requests
 pub mod Answers
 pub mod Written
 pub mod Fits
+pub mod Versions
+pub mod Routes
 pub mod Laws

@@ -1,5 +1,7 @@
 //! Requests.
 
+ghost use Rattle.std.specs.Prelude.{◌≡◌};
+
 use crate::item::Item;
 use sn_string::{Many, Params, Text};
 
@@ -16,6 +18,33 @@ pub enum Route {
     ChangePw,
     /// `POST /items/sync`
     Sync,
+}
+
+impl Route {
+    ghost use Rattle.sn_sync.specs.Routes.{method_of, path_to};
+
+    /// Its method.
+    pub fn method(self) -> &'static str
+        ensures { result.now ≡ method_of self }
+    {
+        match self {
+            Route::Params => "GET",
+            Route::Register | Route::SignIn | Route::ChangePw | Route::Sync => "POST",
+        }
+    }
+
+    /// Its path.
+    pub fn path(self) -> &'static str
+        ensures { result.now ≡ path_to self }
+    {
+        match self {
+            Route::Register => "/auth",
+            Route::Params => "/auth/params",
+            Route::SignIn => "/auth/sign_in",
+            Route::ChangePw => "/auth/change_pw",
+            Route::Sync => "/items/sync",
+        }
+    }
 }
 
 /// A request, with the session token that came with it. Of none the token is empty.
