@@ -19,8 +19,8 @@ use Rattle.sn_laws.specs.declared.moves.Move.{Move}
 use Rattle.sn_laws.specs.declared.moves.Move.TheVariants.{Register, Join, Edit, Post, Accept, Settle}
 use Rattle.sn_laws.specs.Each.{Each, One}
 use Rattle.sn_laws.specs.Lookups.{Bytes, account_named, account_of, device_named, draft_at, has_item, is_account, is_of, last_of}
-use Rattle.sn_laws.specs.Moves.{after, all_below, allows, has_live, is_as, is_content_of, is_last, is_live, is_live_at, is_new_stamp, is_on_last, is_plain, is_said, is_sent_under, is_unsent, is_writable, longest_text, may_accept, may_delete, may_edit, may_join, may_post, may_settle, may_stand, may_write, number_is, same_base, sent_content}
-use Rattle.sn_string.specs.Bounds.{last_stamp}
+use Rattle.sn_laws.specs.Moves.{after, all_below, allows, has_live, is_as, is_content_of, is_last, is_live, is_live_at, is_new_stamp, is_on_last, is_plain, is_said, is_sent_under, is_unsent, is_writable, may_accept, may_delete, may_edit, may_join, may_post, may_settle, may_stand, may_write, number_is, same_base, sent_content}
+use Rattle.sn_string.specs.Bounds.{longest_content, last_stamp}
 use Rattle.sn_laws.specs.Relation.{HasDraft, HasLive, HeldBefore, IsAllowed, IsContentOf, IsLive, IsLiveAt, IsNewStamp, IsOnLast, IsPlain, IsSaid, MayAccept, MayDelete, MayEdit, MayJoin, MayPost, MayRegister, MaySettle, MayWrite, Moves}
 use Rattle.sn_laws.specs.Runs.{step_of}
 use Rattle.sn_laws.proofs.EachLemmas.{and_both, at_most, below, clash, each_from, each_to, is_at_most, is_below, none_from, none_to, not_false, not_true, number_same, one_from, one_to, or_cases, or_left, or_right, same_number, same_text, text_same}
@@ -168,13 +168,13 @@ base_to None (Some n) h = absurd (cc)
 base_to (Some m) None h = absurd (cc)
 base_to (Some m) (Some n) h = let same : m ≡ n = cc in number_same n m (sym same)
 
-writable_from : (text : Bytes) → is_writable text ≡ true → (length text ≤ longest_text) × IsTrue (is_object text)
+writable_from : (text : Bytes) → is_writable text ≡ true → (length text ≤ longest_content) × IsTrue (is_object text)
 writable_from text h =
-    let both = and_parts (nat_le (length text) longest_text) (is_object text) h in
-    (at_most (length text) longest_text both.0, both.1)
+    let both = and_parts (nat_le (length text) longest_content) (is_object text) h in
+    (at_most (length text) longest_content both.0, both.1)
 
-writable_to : (text : Bytes) → length text ≤ longest_text → IsTrue (is_object text) → is_writable text ≡ true
-writable_to text short object = and_both (nat_le (length text) longest_text) (is_object text) (is_at_most (length text) longest_text short) object
+writable_to : (text : Bytes) → length text ≤ longest_content → IsTrue (is_object text) → is_writable text ≡ true
+writable_to text short object = and_both (nat_le (length text) longest_content) (is_object text) (is_at_most (length text) longest_content short) object
 
 write_from : (s : Ideal) (device uuid kind : Bytes) (base : Option ℕ) (text : Bytes) (a : Account) (d : Option Draft)
     → account_of s device ≡ Some a → draft_at s device uuid ≡ d → may_write a d uuid kind base text ≡ true → MayWrite s device uuid kind base text

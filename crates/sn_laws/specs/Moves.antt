@@ -14,7 +14,7 @@ use Rattle.sn_laws.specs.declared.ideal.Posted.{Posted}
 use Rattle.sn_laws.specs.declared.ideal.Draft.{Draft}
 use Rattle.sn_laws.specs.declared.ideal.Device.{Device}
 use Rattle.sn_laws.specs.declared.ideal.Ideal.{Ideal}
-use Rattle.sn_string.specs.Bounds.{last_stamp}
+use Rattle.sn_string.specs.Bounds.{last_stamp, longest_content}
 use Rattle.sn_string.specs.declared.params.KeySet.{KeySet}
 use Rattle.sn_laws.specs.declared.moves.Move.{Move}
 use Rattle.sn_laws.specs.declared.moves.Move.TheVariants.{Register, Join, Edit, Post, Accept, Settle}
@@ -22,11 +22,8 @@ use Rattle.sn_laws.specs.declared.moves.Move.TheVariants.{Register, Join, Edit, 
 -- contents, and versions of them
 
 -- a text that an edit may write: an object text of at most 700,000 bytes
-abbrev pub longest_text : ℕ
-longest_text = 700000
-
 abbrev pub is_writable : Bytes → Bool
-is_writable text = nat_le (length text) longest_text && is_object text
+is_writable text = nat_le (length text) longest_content && is_object text
 
 abbrev pub is_plain : Content → Bool
 is_plain (Plain text) = true

@@ -3,8 +3,8 @@ use Rattle.std.specs.Prelude.{◌≡◌, ◌≢◌, ◌⊎◌, ◌<◌, ◌≤�
 use Rattle.sn_items.specs.Objects.{is_object}
 use Rattle.sn_laws.specs.Each.{Each, One}
 use Rattle.sn_laws.specs.Lookups.{Bytes, account_named, account_of, device_named, draft_at, last_of}
-use Rattle.sn_laws.specs.Moves.{after, longest_text}
-use Rattle.sn_string.specs.Bounds.{last_stamp}
+use Rattle.sn_laws.specs.Moves.{after}
+use Rattle.sn_string.specs.Bounds.{longest_content, last_stamp}
 use Rattle.sn_laws.specs.declared.ideal.Content.{Content}
 use Rattle.sn_laws.specs.declared.ideal.Content.TheVariants.{Plain, Deleted}
 use Rattle.sn_laws.specs.declared.ideal.Body.{Body}
@@ -67,7 +67,7 @@ HasLive a uuid kind stamp = One (IsLiveAt uuid kind stamp) a.versions
 pub record MayWrite (s : Ideal) (device uuid kind : Bytes) (base : Option ℕ) (text : Bytes) : Type 0 where
   pub account : Account
   pub has : account_of s device ≡ Some account
-  pub short : length text ≤ longest_text
+  pub short : length text ≤ longest_content
   pub object : IsTrue (is_object text)
   pub new : draft_at s device uuid ≡ None → (stamp : ℕ) → base ≡ Some stamp → HasLive account uuid kind stamp
   pub there : (d : Draft) → draft_at s device uuid ≡ Some d → (d.kind ≡ kind) × (d.base ≡ base) × IsPlain d.latest

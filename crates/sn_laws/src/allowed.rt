@@ -13,17 +13,14 @@ use crate::lookups::{
 };
 use crate::moves::Move;
 use sn_items::is_object;
-use sn_string::{LAST_STAMP, Text};
+use sn_string::{LAST_STAMP, LONGEST_CONTENT, Text};
 use std::alloc::{AllocError, Global};
 use uuid::Uuid;
-
-/// The longest content of an edit, in bytes.
-pub const LONGEST_TEXT: usize = 700_000;
 
 fn is_writable(alloc: Global, text: &Text) -> Result<bool, AllocError>
     ensures { IfOk result (λ found. found ≡ is_writable text.now) }
 {
-    if text.as_str().len() <= LONGEST_TEXT {
+    if text.as_str().len() <= LONGEST_CONTENT {
         is_object(alloc, text.as_str())
     } else {
         Ok(false)

@@ -11,7 +11,6 @@ pub mod moves;
 mod run;
 mod twins;
 
-pub use allowed::LONGEST_TEXT;
 pub use ideal::{Account, Body, Content, Device, Draft, Ideal, Posted, Version};
 pub use moves::Move;
 pub use run::{first_illegal, step};

@@ -10,7 +10,8 @@ use Rattle.uuid.specs.Text.{lower, hex_digit, nibble, digit_place, is_hyphen_pla
 use Rattle.uuid.proofs.TextLemmas.{by_index_length}
 use Rattle.sn_items.specs.Objects.{is_object}
 use Rattle.sn_string.specs.Uuids.{uuid_text}
-use Rattle.sn_notes.specs.Copies.{comma, copy_of, is_space, longest_content, marked, marked_or, opened, trimmed}
+use Rattle.sn_notes.specs.Copies.{comma, copy_of, is_space, marked, marked_or, opened, trimmed}
+use Rattle.sn_string.specs.Bounds.{longest_content}
 
 -- behind this place a text has white space alone
 pub record IsTrimmedTo (text : List ℕ) (end : ℕ) : Type 0 where

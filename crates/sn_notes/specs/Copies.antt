@@ -2,11 +2,8 @@
 use Rattle.std.specs.Prelude.{ℕ, ◌-◌, ◌==◌, ◌||◌, ◌&&◌, nat_le, List, [], ◌++◌, length, take, slice_index, codes, Bool, cond, Option, Some, None}
 use Rattle.std.specs.List.{suffix_len}
 use Rattle.sn_items.specs.Objects.{is_object}
+use Rattle.sn_string.specs.Bounds.{longest_content}
 use Rattle.sn_string.specs.Uuids.{uuid_text}
-
--- what a content that is put or edited, and one that a copy is made of, may have in bytes
-abbrev pub longest_content : ℕ
-longest_content = 700000
 
 -- white space (RFC 8259, 2): a space, a tab, a line feed, a carriage return
 abbrev pub is_space : ℕ → Bool

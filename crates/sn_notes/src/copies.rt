@@ -5,12 +5,9 @@ ghost use Rattle.sn_items.specs.Objects.{is_object};
 ghost use Rattle.sn_notes.specs.Copies.{comma, copy_of, is_space, marked, opened, trimmed};
 
 use sn_items::is_object;
-use sn_string::uuid_text;
+use sn_string::{LONGEST_CONTENT, uuid_text};
 use std::alloc::{AllocError, Global};
 use uuid::Uuid;
-
-// What a content that is put or edited may have in bytes.
-const LONGEST_CONTENT: usize = 700_000;
 
 /// The copy of a content for the item with this uuid: the content with the member `conflict_of`. A
 /// content of more than 700,000 bytes, or whose copy so made is no object, is its own copy.
