@@ -1,10 +1,10 @@
 -- Payloads that are read one after the other.
 use Rattle.std.proofs.Common.{◌≡◌, ◌⊎◌, ℕ, ◌+◌, ◌-◌, ◌<◌, ◌≤◌, ◌^◌, List, [], ◌∷◌, ◌++◌, length, refl, sym, ap, subst, ◌∙◌, arith, length-append, append_assoc, append-nil, All}
-use Rattle.std.specs.Prelude.{map, min, None}
+use Rattle.std.specs.Prelude.{map, min, Bool, true, false, Option, Some, None, if◌then◌else◌}
 use Rattle.std.specs.List.{flat_map}
 use Rattle.std.proofs.lemmas.List.{map-append}
-use Rattle.std.proofs.lemmas.List.Elements.{All-push, All-nil, recursion_from_All}
-use Rattle.std.proofs.lemmas.List.Concat.{flat_map-append}
+use Rattle.std.proofs.lemmas.List.Elements.{All-append, All-head, All-nil, All-push, All-tail, recursion_from_All}
+use Rattle.std.proofs.lemmas.List.Concat.{flat_map-append, flat_map-cons}
 use Rattle.sn_journal.specs.Facts.{length-header, length-front_more}
 use Rattle.sn_journal.specs.Image.{batch, front, header_of, IsBounded, IsClosed}
 use Rattle.sn_journal.specs.Reading.{AreIn, IsBroken}
@@ -12,14 +12,16 @@ use Rattle.sn_journal.specs.Unique.{behind_read, first_read, one_reading}
 use Rattle.sn_journal.specs.declared.owner.Owner.{Owner}
 use Rattle.sn_row_map.specs.RowMaps.{row_in}
 use Rattle.sn_row_map.specs.declared.row_map.RowMap.{RowMap}
-use Rattle.sn_rows.specs.Facts.{batch_follows}
+use Rattle.sn_rows.specs.Facts.{batch_follows, keys_compare}
+use Rattle.sn_rows.specs.Kinds.{key_kind}
 use Rattle.sn_rows.specs.Spelling.{spelled}
-use Rattle.sn_rows.specs.Table.{row_after}
+use Rattle.sn_rows.specs.Table.{changed, key_of, row_after, same_key, value_of}
 use Rattle.sn_rows.specs.declared.change.Change.{Change}
 use Rattle.sn_rows.specs.declared.key.Key.{Key}
-use Rattle.sn_table.specs.Batches.{IsBatch, IsNoBatch}
+use Rattle.sn_rows.specs.declared.value.Value.{Value}
+use Rattle.sn_table.specs.Batches.{IsBatch, IsNoBatch, IsOf, owner_of_kind}
 use Rattle.sn_rows.specs.Facts.{kind_after}
-use Rattle.sn_table.specs.Logs.{HasKinds}
+use Rattle.sn_table.specs.Logs.{HasKinds, HasOwned}
 use Rattle.sn_table.specs.Reading.{IsAdded, AreRead, AreTaken, IsUnread, IsAddError, IsReadError}
 use Rattle.sn_table.specs.declared.reading.Unread.{Unread}
 use Rattle.sn_table.specs.declared.reading.Unread.TheVariants.{Memory, NoBatch}
@@ -61,6 +63,33 @@ all_taken owner bytes rest rows gate payloads taken over are =
 -- the rows that were read are of their keys' kinds
 pub taken_kinds : (owner : Owner) (bytes rest : List ℕ) (rows : RowMap) (gate : ℕ) → AreTaken owner bytes rest rows gate → HasKinds rows
 taken_kinds owner bytes rest rows gate taken key value is = kind_after None key (flat_map (λ (b : List Change). b) taken.batches) (λ v none. absurd cc) value (sym (taken.rows key) ∙ is)
+
+-- a row of this key is of this owner's
+abbrev IsOwn : Owner → Key → Option Value → Type 0
+IsOwn owner key found = (value : Value) → found ≡ Some value → owner_of_kind (key_kind key) ≡ owner
+
+changed_own : (owner : Owner) (found : Option Value) (key : Key) (change : Change) → IsOf owner change → IsOwn owner key found → IsOwn owner key (changed found key change)
+changed_own owner found key change own had = go (same_key (key_of change) key) refl
+  where
+    go : (b : Bool) → same_key (key_of change) key ≡ b → IsOwn owner key (if b then value_of change else found)
+    go true e = λ value is. subst (λ (k : Key). owner_of_kind (key_kind k) ≡ owner) ((keys_compare (key_of change) key).0 e) own
+    go false e = had
+
+row_own : (owner : Owner) (found : Option Value) (key : Key) (changes : List Change) → All (IsOf owner) changes → IsOwn owner key found → IsOwn owner key (row_after found key changes)
+row_own owner found key [] all had = had
+row_own owner found key (c ∷ cs) all had =
+    row_own owner (changed found key c) key cs (All-tail (IsOf owner) c cs all) (changed_own owner found key c (All-head (IsOf owner) c cs all) had)
+
+batches_own : (owner : Owner) (batches : List (List Change)) → All (IsBatch owner) batches → All (IsOf owner) (flat_map (λ (b : List Change). b) batches)
+batches_own owner [] all = All-nil (IsOf owner)
+batches_own owner (b ∷ bs) all =
+    subst (All (IsOf owner)) (sym (flat_map-cons (λ (l : List Change). l) b bs))
+    (All-append (IsOf owner) b (flat_map (λ (l : List Change). l) bs) (All-head (IsBatch owner) b bs all).owned (batches_own owner bs (All-tail (IsBatch owner) b bs all)))
+
+-- the rows that were read are of the owner's
+pub taken_owned : (owner : Owner) (bytes rest : List ℕ) (rows : RowMap) (gate : ℕ) → AreTaken owner bytes rest rows gate → HasOwned owner rows
+taken_owned owner bytes rest rows gate taken key value is =
+    row_own owner None key (flat_map (λ (b : List Change). b) taken.batches) (batches_own owner taken.batches taken.each) (λ v none. absurd cc) value (sym (taken.rows key) ∙ is)
 
 front_short : (owner : Owner) (first later : List (List ℕ)) → length (front owner first) ≤ length (front owner (first ++ later))
 front_short owner first later = omega (arith, length-append (header_of owner) (flat_map batch first), length-append (header_of owner) (flat_map batch (first ++ later)), ap length (flat_map-append batch first later), length-append (flat_map batch first) (flat_map batch later))

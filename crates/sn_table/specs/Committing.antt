@@ -1,5 +1,6 @@
 -- What became of a commit.
-use Rattle.std.specs.Prelude.{◌≡◌, ◌<◌, ◌^◌, List, length}
+use Rattle.std.specs.Prelude.{◌≡◌, ◌<◌, List, length}
+use Rattle.sn_journal.specs.Image.{most_payload}
 use Rattle.sn_rows.specs.Spelling.{spelled}
 use Rattle.sn_rows.specs.declared.change.Change.{Change}
 use Rattle.sn_table.specs.declared.committed.Committed.{Committed}
@@ -36,5 +37,5 @@ module _ {S D : Type 0} where
 
 -- why changes were refused
 abbrev pub IsCause : List Change → CommitError → Type 0
-IsCause changes (TooLarge size) = (2 ^ 30 < length (spelled changes)) × (size ≡ length (spelled changes))
+IsCause changes (TooLarge size) = (most_payload < length (spelled changes)) × (size ≡ length (spelled changes))
 IsCause changes Memory = Unit {0}

@@ -6,3 +6,4 @@ pub mod Laws
 pub mod Logs
 pub mod Reading
 pub mod Tables
+pub mod Kept

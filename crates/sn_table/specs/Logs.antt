@@ -14,7 +14,7 @@ use Rattle.sn_rows.specs.Table.{rows_of_batches}
 use Rattle.sn_rows.specs.declared.change.Change.{Change}
 use Rattle.sn_rows.specs.declared.key.Key.{Key}
 use Rattle.sn_rows.specs.declared.value.Value.{Value}
-use Rattle.sn_table.specs.Batches.{IsBatch, IsStore}
+use Rattle.sn_table.specs.Batches.{IsBatch, IsStore, owner_of_kind}
 use Rattle.sn_table.specs.Reading.{IsUnread}
 use Rattle.sn_table.specs.declared.log.Log.{Log}
 use Rattle.sn_table.specs.declared.error.TableError.{TableError}
@@ -23,6 +23,10 @@ use Rattle.sn_table.specs.declared.error.TableError.TheVariants.{Foreign, Damage
 -- each row's value is of its key's kind
 abbrev pub HasKinds : RowMap → Type 0
 HasKinds rows = (key : Key) (value : Value) → row_in rows key ≡ Some value → key_kind key ≡ value_kind value
+
+-- each row is of this owner's
+abbrev pub HasOwned : Owner → RowMap → Type 0
+HasOwned owner rows = (key : Key) (value : Value) → row_in rows key ≡ Some value → owner_of_kind (key_kind key) ≡ owner
 
 module _ {D : Type 0} {g : Ghosts D} where
   abbrev pub log_disk : Log D g → D

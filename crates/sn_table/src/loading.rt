@@ -6,7 +6,7 @@ ghost use Rattle.sn_journal.specs.Image.{SameBatches, missing_writes};
 ghost use Rattle.sn_row_map.specs.RowMaps.{IsTidy};
 ghost use Rattle.sn_rows.specs.declared.change.Change.{Change};
 ghost use Rattle.sn_table.specs.Batches.{IsStore, IsAllOrNothing};
-ghost use Rattle.sn_table.specs.Logs.{IsLoadError, loaded_disk};
+ghost use Rattle.sn_table.specs.Logs.{HasOwned, IsLoadError, loaded_disk};
 ghost use Rattle.sn_table.specs.Tables.{IsOpen, IsOpened, table_disk, table_owner, table_rows};
 
 use crate::error::TableError;
@@ -23,6 +23,7 @@ pub fn load<D: Disk>(alloc: Global, disk: D, owner: Owner) -> Result<Table<D>, (
     // It is open with the batches that the disk's bytes stand for.
     ensures loaded { D.told → IfOk result (IsOpened owner (D.seen disk)) }
     ensures owner { IfOk result (λ table. table_owner table ≡ owner) }
+    ensures owned { IfOk result (λ table. HasOwned owner (table_rows table)) }
     ensures tidy { IfOk result (λ table. IsTidy (table_rows table)) }
 
     // A crash at any moment leaves what it might have left before, or the same batches.

@@ -1,6 +1,7 @@
 // The log, and its one change.
 
-ghost use Rattle.std.specs.Prelude.{◌≡◌, ◌⊎◌, ◌+◌, ◌*◌, ◌<◌, ◌≤◌, ◌^◌, ◌++◌, [], ◌∷◌, List, ℕ, All, length, IfOk, IfErr, OnOk};
+ghost use Rattle.std.specs.Prelude.{◌≡◌, ◌⊎◌, ◌+◌, ◌*◌, ◌<◌, ◌≤◌, ◌++◌, [], ◌∷◌, List, ℕ, All, length, IfOk, IfErr, OnOk};
+ghost use Rattle.sn_journal.specs.Image.{most_payload};
 ghost use Rattle.sn_rows.specs.Spelling.{spelled, AreInForm};
 ghost use Rattle.sn_rows.specs.declared.change.Change.{Change};
 
@@ -66,7 +67,7 @@ impl<D: Disk> Log<D> {
 
         // A refused batch leaves all as it was.
         ensures refused { IfRefused result (λ log error. (log ≡ self) × IsCause changes.now error) }
-        ensures large { 2 ^ 30 < length (spelled changes.now) → IsRefused result }
+        ensures large { most_payload < length (spelled changes.now) → IsRefused result }
 
         // Four changing calls.
         ensures four { D.told → IfDone result (λ log. D.moment (log_disk log) ≡ D.moment (log_disk self) + 4) }

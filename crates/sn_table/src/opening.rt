@@ -6,7 +6,7 @@ ghost use Rattle.sn_journal.specs.Image.{SameBatches, missing_writes};
 ghost use Rattle.sn_row_map.specs.RowMaps.{IsTidy};
 ghost use Rattle.sn_rows.specs.declared.change.Change.{Change};
 ghost use Rattle.sn_table.specs.Batches.{IsStore, IsAllOrNothing};
-ghost use Rattle.sn_table.specs.Logs.{HasKinds, HasRows, IsLoaded, IsLoadError, log_disk, log_owner, loaded_disk};
+ghost use Rattle.sn_table.specs.Logs.{HasKinds, HasOwned, HasRows, IsLoaded, IsLoadError, log_disk, log_owner, loaded_disk};
 
 use crate::error::{TableError, of_journal};
 use crate::log::Log;
@@ -28,6 +28,7 @@ pub fn load_log<D: Disk>(
     ensures loaded { D.told → IfOk result (λ found. IsLoaded owner (D.seen disk) found.0 found.1) }
     ensures owner { IfOk result (λ found. log_owner found.0 ≡ owner) }
     ensures kinds { IfOk result (λ found. HasKinds found.1) }
+    ensures owned { IfOk result (λ found. HasOwned owner found.1) }
     ensures tidy { IfOk result (λ found. IsTidy found.1) }
 
     // A crash at any moment leaves what it might have left before, or the same batches.
@@ -63,6 +64,7 @@ fn open_log<D: Disk>(
     ensures loaded { D.told → IfOk result (λ found. IsLoaded owner (D.seen disk) found.0 found.1) }
     ensures owner { IfOk result (λ found. log_owner found.0 ≡ owner) }
     ensures kinds { IfOk result (λ found. HasKinds found.1) }
+    ensures owned { IfOk result (λ found. HasOwned owner found.1) }
     ensures tidy { IfOk result (λ found. IsTidy found.1) }
     ensures any_moment { D.told → LeavesOnly D.moment D.left_since disk (loaded_disk (λ found. log_disk found.0) result)
         (λ c. D.may_leave disk c ⊎ SameBatches owner (D.seen disk) c) }

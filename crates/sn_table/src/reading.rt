@@ -7,7 +7,7 @@ ghost use Rattle.sn_row_map.specs.RowMaps.{IsTidy};
 ghost use Rattle.sn_rows.specs.Kinds.{key_kind};
 ghost use Rattle.sn_rows.specs.Spelling.{spelled};
 ghost use Rattle.sn_table.specs.Batches.{owner_of_kind, IsOf, IsBatch, IsNoBatch};
-ghost use Rattle.sn_table.specs.Logs.{HasKinds};
+ghost use Rattle.sn_table.specs.Logs.{HasKinds, HasOwned};
 ghost use Rattle.sn_table.specs.Reading.{IsAdded, AreRead, IsAddError, IsReadError};
 ghost use Rattle.sn_table.specs.declared.reading.Unread.TheVariants.{Memory};
 
@@ -105,6 +105,7 @@ fn add_batch(
 pub(crate) fn rows_of(alloc: Global, owner: Owner, batches: &Batches) -> Result<RowMap, Unread>
     ensures read { (payloads : List (List ℕ)) → AreIn batches.now payloads → IfOk result (AreRead owner payloads) }
     ensures kinds { IfOk result HasKinds }
+    ensures owned { IfOk result (HasOwned owner) }
     ensures tidy { IfOk result IsTidy }
     ensures refused { (payloads : List (List ℕ)) → AreIn batches.now payloads → length (front owner payloads) < 2 ^ 64 → IfErr result (IsReadError owner payloads) }
 {

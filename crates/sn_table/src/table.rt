@@ -1,7 +1,8 @@
 // The table, and its one change.
 
-ghost use Rattle.std.specs.Prelude.{◌≡◌, ◌⊎◌, ◌+◌, ◌<◌, ◌≤◌, ◌^◌, ◌++◌, [], ◌∷◌, List, ℕ, All, length, IfOk, OnOk, IfSome, Some};
+ghost use Rattle.std.specs.Prelude.{◌≡◌, ◌⊎◌, ◌+◌, ◌<◌, ◌≤◌, ◌++◌, [], ◌∷◌, List, ℕ, All, length, IfOk, OnOk, IfSome, Some};
 ghost use Rattle.std.specs.Option.{option_copied};
+ghost use Rattle.sn_journal.specs.Image.{most_payload};
 ghost use Rattle.sn_rows.specs.Kinds.{key_kind, value_kind};
 ghost use Rattle.sn_rows.specs.Spelling.{spelled};
 ghost use Rattle.sn_rows.specs.Table.{row_after};
@@ -65,6 +66,14 @@ impl<D: Disk> Table<D> {
         self.log.count()
     }
 
+    /// Its rows.
+    pub fn rows(&self) -> &RowMap
+        ensures rows { result.now ≡ table_rows self.now }
+        ensures kinds { HasKinds result.now }
+    {
+        &self.rows
+    }
+
     /// The row of a key. Takes no memory, and the time is logarithmic.
     pub fn get(&self, key: &Key) -> Option<&Value>
         ensures row { option_copied result ≡ row_in (table_rows self.now) key.now }
@@ -101,7 +110,7 @@ impl<D: Disk> Table<D> {
         // A refused batch leaves all as it was.
         ensures refused { IfRefused result (λ table error. IsUntouched self table × IsCause changes.items error) }
         ensures stays { (batches : List (List Change)) → IsOpen self batches → IfRefused result (λ table error. IsOpen table batches) }
-        ensures large { 2 ^ 30 < length (spelled changes.items) → IsRefused result }
+        ensures large { most_payload < length (spelled changes.items) → IsRefused result }
 
         // Four changing calls.
         ensures four { D.told → IfDone result (λ table. D.moment (table_disk table) ≡ D.moment (table_disk self) + 4) }

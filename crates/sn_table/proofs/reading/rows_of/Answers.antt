@@ -1,6 +1,6 @@
 use Rattle.std.proofs.Common.{refl}
 use Rattle.std.proofs.lemmas.Result.{err_from_is_err_and}
-use Rattle.sn_table.proofs.ReadLemmas.{taken_none, taken_more, all_taken, taken_kinds, not_taken}
+use Rattle.sn_table.proofs.ReadLemmas.{taken_none, taken_more, all_taken, taken_kinds, taken_owned, not_taken}
 use Rattle.sn_table.proofs.reading.rows_of.Goals as goal
 
 pub payloads-init : goal.payloads-init
@@ -24,3 +24,6 @@ returns-in-None-clause-read c = λ payloads are. all_taken c.args.owner c.args.b
 
 pub returns-in-None-clause-kinds : goal.returns-in-None-clause-kinds
 returns-in-None-clause-kinds c = taken_kinds c.args.owner c.args.batches.now c.payloads.payloads c.payloads.rows c.payloads.gate c.payloads.invariant.taken
+
+pub returns-in-None-clause-owned : goal.returns-in-None-clause-owned
+returns-in-None-clause-owned c = taken_owned c.args.owner c.args.batches.now c.payloads.payloads c.payloads.rows c.payloads.gate c.payloads.invariant.taken
