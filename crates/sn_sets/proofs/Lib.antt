@@ -1,2 +1,4 @@
 pub mod Facts
+pub mod LaterLemmas
+pub mod SealedLemmas
 pub mod SetLemmas

@@ -1,5 +1,5 @@
 -- What opens under the sets that are held.
-use Rattle.std.proofs.Common.{◌≡◌, ◌≢◌, ◌∙◌, sym, subst, ℕ, ◌⊎◌, inl, inr, List, Option, Some, None, Result, Ok, Err, IfOk, IfSome, IfNone}
+use Rattle.std.proofs.Common.{◌≡◌, ◌≢◌, sym, subst, ℕ, inl, inr, List, Option, Some, None, Result, Ok, Err, IfOk, IfSome, IfNone}
 use Rattle.sn_items.specs.ItemRefusals.{ItemHasCause}
 use Rattle.sn_items.specs.Items.{OpensItem}
 use Rattle.sn_items.specs.declared.error.ItemError.{ItemError}

@@ -1,2 +1,3 @@
 pub mod Laws
+pub mod Seals
 pub mod Sets
