@@ -6,6 +6,7 @@ use Rattle.sn_laws.specs.Each.{One}
 use Rattle.sn_laws.specs.Laws.{Keeps}
 use Rattle.sn_laws.specs.Lookups.{Bytes, account_named, account_of, device_named, draft_at, greatest, has_item, is_account, is_of}
 use Rattle.sn_laws.specs.Moves.{after, allows, body_under, sent_content, version_of}
+use Rattle.sn_sets.specs.Sets.{sealed_of}
 use Rattle.sn_string.specs.Bounds.{last_stamp}
 use Rattle.sn_laws.specs.Runs.{LegalFrom, end_from}
 use Rattle.sn_laws.specs.declared.ideal.Account.{Account}
@@ -30,7 +31,6 @@ use Rattle.sn_rows.specs.declared.server_rows.AccountRow.{AccountRow}
 use Rattle.sn_rows.specs.declared.value.Value.{Value}
 use Rattle.sn_rows.specs.declared.value.Value.TheVariants as value
 use Rattle.sn_rows.specs.Facts.{put_elsewhere}
-use Rattle.sn_shows.specs.Devices.{sealed_of}
 use Rattle.sn_shows.specs.Laws.{AreApart, HasAccount, PutsVersion, created_of}
 use Rattle.sn_shows.specs.Servers.{ShowsAccounts, ShowsIdentity, ShowsStrings, account_at, first_of, stamps_in}
 use Rattle.sn_shows.specs.Sets.{OpensUnder}

@@ -11,13 +11,13 @@ use Rattle.sn_rows.specs.declared.key.Key.{Key}
 use Rattle.sn_rows.specs.declared.key.Key.TheVariants as key
 use Rattle.sn_rows.specs.declared.value.Value.{Value}
 use Rattle.sn_rows.specs.declared.value.Value.TheVariants as value
-use Rattle.sn_shows.specs.Devices.{sealed_of}
+use Rattle.sn_sets.proofs.Facts.{fits_server}
+use Rattle.sn_sets.specs.Sets.{sealed_of}
 use Rattle.sn_shows.specs.Laws.{PutsPosted}
 use Rattle.sn_ends.specs.Batches.{draft_in, drafts_from, if_draft, next_in, next_number, sent_of}
 use Rattle.sn_ends.specs.Changes.{AreDrafts, ArePosted, AreSettled, PostsItem}
 use Rattle.sn_ends.specs.Opened.{AreOpen, AreSentAs, IsSendable, IsSentAs, OpenAreDrafts, PostOpen, PutOpen, SettleOpen}
 use Rattle.sn_ends.proofs.ExchangeRows.{as_batch_follows, drafts_past, numbers_apart, one_batch, posts_spare, rows_append}
-use Rattle.sn_ends.proofs.SealedLemmas.{server_fits}
 
 low_or : (a b : ℕ) → (a < b) ⊎ (b ≤ a)
 low_or a zero = inr (omega arith)
@@ -240,7 +240,7 @@ put_open device device_after settled items uuid text h p short =
     ∙ put_here rows put.row (key.Local p.owner.next) (value.Local put.item) put.row_puts in
     let there : after key.Owner ≡ Some (value.Owner put.next_puts.row) =
     put_here first put.next key.Owner (value.Owner put.next_puts.row) put.next_puts.puts in
-    let fits = server_fits (sealed_of put.strings) uuid text put.set put.opens short in
+    let fits = fits_server (sealed_of put.strings) uuid put.set text put.opens short in
     let latest : put.item.latest ≡ Some (body.Sealed put.strings) = put.new.latest in
     let sendable : IsSendable put.item =
     record {

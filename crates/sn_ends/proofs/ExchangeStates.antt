@@ -25,7 +25,8 @@ use Rattle.sn_rows.specs.declared.key.Key.TheVariants as key
 use Rattle.sn_rows.specs.declared.value.Value.{Value}
 use Rattle.sn_rows.specs.declared.value.Value.TheVariants as value
 use Rattle.sn_rows.specs.Facts.{put_elsewhere, put_or_not}
-use Rattle.sn_shows.specs.Devices.{ShowsContent, ShowsDevice, ShowsDeviceAs, ShowsDraft, ShowsDrafted, ShowsHolder, ShowsPosted, sealed_of}
+use Rattle.sn_sets.specs.Sets.{sealed_of}
+use Rattle.sn_shows.specs.Devices.{ShowsContent, ShowsDevice, ShowsDeviceAs, ShowsDraft, ShowsDrafted, ShowsHolder, ShowsPosted}
 use Rattle.sn_shows.specs.Laws.{HasAccount}
 use Rattle.sn_shows.specs.Servers.{ShowsAccounts}
 use Rattle.sn_shows.specs.Sets.{OpensUnder}

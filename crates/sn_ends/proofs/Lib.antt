@@ -36,7 +36,6 @@ pub mod RegularPut
 pub mod RegularRegister
 pub mod RequestLemmas
 pub mod RowLemmas
-pub mod SealedLemmas
 pub mod SeedLemmas
 pub mod SettleLemmas
 pub mod StayLemmas

@@ -5,7 +5,7 @@ use Rattle.rand_chacha.specs.ChaCha.{ChaCha}
 use Rattle.sn_items.specs.Objects.{is_object}
 use Rattle.sn_laws.proofs.Facts.{below, found_passes, is_below, is_false, not_false, number_same, same_number}
 use Rattle.sn_laws.specs.Lookups.{Bytes, device_named}
-use Rattle.sn_laws.specs.Moves.{longest_text}
+use Rattle.sn_string.specs.Bounds.{longest_content}
 use Rattle.sn_laws.specs.Runs.{LegalFrom, end_from}
 use Rattle.sn_laws.specs.declared.ideal.Device.{Device}
 use Rattle.sn_laws.specs.declared.ideal.Ideal.{Ideal}
@@ -67,7 +67,7 @@ module _ (server : Record) (devices devices_after : Bytes → Record) (labels : 
   abbrev tests : Bool → Bool → Bool → Outcome
   tests long object used = picked name text words next (fresh_uuid labels words) (last_uuid words) long object used
 
-  of_tests : (d : Device) (long object used : Bool) → device_named s name ≡ Some d → nat_lt longest_text (length text) ≡ long → is_object text ≡ object
+  of_tests : (d : Device) (long object used : Bool) → device_named s name ≡ Some d → nat_lt longest_content (length text) ≡ long → is_object text ≡ object
       → (next == 18446744073709551615) ≡ used → asks (device_named s name) ≡ tests long object used
   of_tests d long object used there e k l =
       ap asks there
@@ -75,10 +75,10 @@ module _ (server : Record) (devices devices_after : Bytes → Record) (labels : 
       ∙ ap (λ (b : Bool). tests long b (next == 18446744073709551615)) k
       ∙ ap (λ (b : Bool). tests long object b) l
 
-  not_long : length text ≤ longest_text → nat_lt longest_text (length text) ≡ false
+  not_long : length text ≤ longest_content → nat_lt longest_content (length text) ≡ false
   not_long short =
-      is_false (nat_lt longest_text (length text))
-      (λ e. let long : longest_text < length text = below longest_text (length text) e in omega arith)
+      is_false (nat_lt longest_content (length text))
+      (λ e. let long : longest_content < length text = below longest_content (length text) e in omega arith)
 
   not_used : next ≢ 18446744073709551615 → (next == 18446744073709551615) ≡ false
   not_used room = is_false (next == 18446744073709551615) (λ e. room (same_number next 18446744073709551615 e))
@@ -95,7 +95,7 @@ module _ (server : Record) (devices devices_after : Bytes → Record) (labels : 
       let there = some_owned (rows_of_batches (devices name)) s name (h.shows.devices name) has.0 in
       let of = of_tests there.0 in
       ⊎_elim
-      (λ long. of true (is_object text) (next == 18446744073709551615) there.1 (is_below longest_text (length text) long.0) refl refl ∙ ap refused (sym long.1))
+      (λ long. of true (is_object text) (next == 18446744073709551615) there.1 (is_below longest_content (length text) long.0) refl refl ∙ ap refused (sym long.1))
       (λ short.
       ⊎_elim
       (λ other. of false false (next == 18446744073709551615) there.1 (not_long short.0) other.0 refl ∙ ap refused (sym other.1))

@@ -25,9 +25,10 @@ use Rattle.sn_rows.specs.declared.key.Slot.TheVariants.{Present}
 use Rattle.sn_rows.specs.declared.value.Value.{Value}
 use Rattle.sn_rows.specs.declared.value.Value.TheVariants as value
 use Rattle.sn_rows.specs.Facts.{neither_put, put_elsewhere, put_or_not, second_put}
+use Rattle.sn_sets.specs.Sets.{sealed_of}
 use Rattle.sn_string.proofs.Facts.{same_keys}
 use Rattle.sn_string.specs.declared.params.KeySet.{KeySet}
-use Rattle.sn_shows.specs.Devices.{IsSetRow, ShowsBase, ShowsDevice, ShowsDrafted, ShowsHolder, ShowsLocal, sealed_of}
+use Rattle.sn_shows.specs.Devices.{IsSetRow, ShowsBase, ShowsDevice, ShowsDrafted, ShowsHolder, ShowsLocal}
 use Rattle.sn_shows.specs.Sets.{OpensUnder}
 use Rattle.sn_shows.specs.Laws.{HasAccount, IsNewAt, PutsItem, PutsTokens}
 use Rattle.sn_shows.proofs.Facts.{edit_keeps, edited_shows, holder_of, tokens_show}

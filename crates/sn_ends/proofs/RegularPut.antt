@@ -5,7 +5,8 @@ use Rattle.std.specs.Str.{bytes_eq}
 use Rattle.sn_items.specs.Objects.{is_object}
 use Rattle.sn_laws.specs.Each.{Each}
 use Rattle.sn_laws.specs.Lookups.{Bytes, device_named, draft_at, has_item, is_draft, is_of}
-use Rattle.sn_laws.specs.Moves.{after, longest_text}
+use Rattle.sn_laws.specs.Moves.{after}
+use Rattle.sn_string.specs.Bounds.{longest_content}
 use Rattle.sn_laws.specs.Runs.{LegalFrom}
 use Rattle.sn_laws.specs.declared.ideal.Account.{Account}
 use Rattle.sn_laws.specs.declared.ideal.Content.TheVariants.{Plain}
@@ -111,7 +112,7 @@ draft_regular labels s name uuid text h free =
     }
 
 legal : (labels : Labels) (s : Ideal) (name uuid text : Bytes) (d : Device) → IsRegular labels [] s → device_named s name ≡ Some d
-    → draft_at s name uuid ≡ None → length text ≤ longest_text → is_object text ≡ true
+    → draft_at s name uuid ≡ None → length text ≤ longest_content → is_object text ≡ true
     → LegalFrom s (Edit name uuid (codes "Note") None (Plain text) ∷ [])
 legal labels s name uuid text d h is none short object =
     let account = h.with_account name d is in (
@@ -128,7 +129,7 @@ legal labels s name uuid text d h is none short object =
 
 pub put_regular : (labels : Labels) (s : Ideal) (name uuid text : Bytes) (d : Device)
     → IsRegular labels [] s → device_named s name ≡ Some d → is_labelled labels uuid ≡ false
-    → length text ≤ longest_text → is_object text ≡ true
+    → length text ≤ longest_content → is_object text ≡ true
     → (draft_at s name uuid ≡ None)
     × LegalFrom s (Edit name uuid (codes "Note") None (Plain text) ∷ [])
     × IsRegular (labelled labels uuid) [] (after s (Edit name uuid (codes "Note") None (Plain text)))

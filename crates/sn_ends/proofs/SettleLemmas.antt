@@ -23,7 +23,8 @@ use Rattle.sn_rows.specs.declared.key.Key.TheVariants as key
 use Rattle.sn_rows.specs.declared.value.Value.{Value}
 use Rattle.sn_rows.specs.declared.value.Value.TheVariants as value
 use Rattle.sn_rows.specs.Facts.{put_elsewhere, put_here}
-use Rattle.sn_shows.specs.Devices.{IsBase, ShowsDevice, sealed_of}
+use Rattle.sn_sets.specs.Sets.{sealed_of}
+use Rattle.sn_shows.specs.Devices.{IsBase, ShowsDevice}
 use Rattle.sn_shows.specs.Laws.{HasAccount, PutsSettled}
 use Rattle.sn_shows.specs.Sets.{OpensUnder}
 use Rattle.sn_ends.specs.Batches.{next_in}

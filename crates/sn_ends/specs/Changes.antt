@@ -2,6 +2,7 @@
 use Rattle.std.specs.Prelude.{◌≡◌, ◌≢◌, ℕ, suc, ◌+◌, ◌-◌, ◌≤◌, List, [], ◌∷◌, ◌++◌, length, false, Option, Some, None, codes}
 use Rattle.sn_items.specs.Items.{OpensItem}
 use Rattle.sn_laws.specs.Lookups.{Bytes}
+use Rattle.sn_sets.specs.Sets.{sealed_of}
 use Rattle.sn_string.specs.Bounds.{last_stamp}
 use Rattle.sn_rows.specs.Table.{Puts, Rows, rows_of_batches}
 use Rattle.sn_rows.specs.declared.body.RowBody.{RowBody}
@@ -18,7 +19,6 @@ use Rattle.sn_rows.specs.declared.server_rows.ItemRow.{ItemRow}
 use Rattle.sn_rows.specs.declared.server_rows.StoreRow.{StoreRow}
 use Rattle.sn_rows.specs.declared.value.Value.{Value}
 use Rattle.sn_rows.specs.declared.value.Value.TheVariants as value
-use Rattle.sn_shows.specs.Devices.{sealed_of}
 use Rattle.sn_shows.specs.Laws.{PutsAccount, PutsPosted}
 use Rattle.sn_string.specs.declared.params.KeySet.{KeySet}
 use Rattle.sn_ends.specs.Batches.{sent_of}

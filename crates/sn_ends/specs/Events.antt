@@ -3,7 +3,7 @@ use Rattle.std.specs.Prelude.{◌≡◌, ◌≢◌, ◌⊎◌, ℕ, ◌<◌, ◌
 use Rattle.rand_chacha.specs.ChaCha.{ChaCha}
 use Rattle.sn_items.specs.Objects.{is_object}
 use Rattle.sn_laws.specs.Lookups.{Bytes, device_named}
-use Rattle.sn_laws.specs.Moves.{longest_text}
+use Rattle.sn_string.specs.Bounds.{longest_content}
 use Rattle.sn_laws.specs.Runs.{LegalFrom, end_from}
 use Rattle.sn_laws.specs.declared.ideal.Content.TheVariants.{Plain}
 use Rattle.sn_laws.specs.declared.ideal.Ideal.{Ideal}
@@ -114,8 +114,8 @@ pub record PutRefused (device device_after : Record) (text : Bytes) (labels : La
   pub why : Last
   pub cause : HasNone device × (why ≡ last.Refused refusal.NoAccount)
       ⊎ ((owner_in (rows_of_batches device key.Owner) ≢ None) × (
-      ((longest_text < length text) × (why ≡ last.Refused (refusal.TooLong (length text))))
-      ⊎ ((length text ≤ longest_text) × (
+      ((longest_content < length text) × (why ≡ last.Refused (refusal.TooLong (length text))))
+      ⊎ ((length text ≤ longest_content) × (
       ((is_object text ≡ false) × (why ≡ last.Refused refusal.NotObject))
       ⊎ ((is_object text ≡ true) × (
       ((next_number (rows_of_batches device) ≡ 18446744073709551615) × (why ≡ last.Refused (refusal.NumbersUsed (next_number (rows_of_batches device)))))
@@ -127,15 +127,15 @@ pub record PutRefused (device device_after : Record) (text : Bytes) (labels : La
 abbrev pub IsPutCause : Record → Bytes → Last → Type 0
 IsPutCause device text why = HasNone device × (why ≡ last.Refused refusal.NoAccount)
     ⊎ ((owner_in (rows_of_batches device key.Owner) ≢ None) × (
-    ((longest_text < length text) × (why ≡ last.Refused (refusal.TooLong (length text))))
-    ⊎ ((length text ≤ longest_text) × (
+    ((longest_content < length text) × (why ≡ last.Refused (refusal.TooLong (length text))))
+    ⊎ ((length text ≤ longest_content) × (
     ((is_object text ≡ false) × (why ≡ last.Refused refusal.NotObject))
     ⊎ ((is_object text ≡ true) × (next_number (rows_of_batches device) ≡ 18446744073709551615)
     × (why ≡ last.Refused (refusal.NumbersUsed (next_number (rows_of_batches device)))))))))
 
 pub record MayPut (device : Record) (text : Bytes) : Type 0 where
   pub owner : IsSome (owner_in (rows_of_batches device key.Owner))
-  pub short : length text ≤ longest_text
+  pub short : length text ≤ longest_content
   pub object : is_object text ≡ true
   pub room : next_number (rows_of_batches device) ≢ 18446744073709551615
   pub more : next_number (rows_of_batches device) + 1 < 2 ^ 64
@@ -143,7 +143,7 @@ pub record MayPut (device : Record) (text : Bytes) : Type 0 where
 pub record PutDone (device device_after : Record) (name text : Bytes) (labels : Labels) (words : ChaCha) (moves : List Move) (ends : Last) : Type 0 where
   pub uuid : Bytes
   pub fresh : fresh_uuid labels words ≡ Some uuid
-  pub short : length text ≤ longest_text
+  pub short : length text ≤ longest_content
   pub object : is_object text ≡ true
   pub room : next_number (rows_of_batches device) ≢ 18446744073709551615
   pub puts : PutsNew device device_after uuid text

@@ -2,7 +2,7 @@
 use Rattle.std.specs.Prelude.{◌≡◌, ℕ, ◌+◌, ◌<◌, ◌≤◌, List, [], ◌∷◌, ◌++◌, length, Some, None}
 use Rattle.sn_laws.specs.Each.{Each}
 use Rattle.sn_laws.specs.Lookups.{Bytes}
-use Rattle.sn_laws.specs.Moves.{longest_text}
+use Rattle.sn_string.specs.Bounds.{longest_content}
 use Rattle.sn_rows.specs.Bounds.{HasLength, most_string}
 use Rattle.sn_rows.specs.Table.{Rows, rows_of_batches}
 use Rattle.sn_rows.specs.declared.body.RowBody.TheVariants as body
@@ -63,7 +63,7 @@ SettleOpen = (device device_after : List (List Change)) (owner : OwnerRow) (sett
 -- a new item is the last draft
 abbrev pub PutOpen : Type 0
 PutOpen = (device device_after : List (List Change)) (settled : ℕ) (items : List LocalItem) (uuid text : Bytes)
-    → AreOpen (rows_of_batches device) settled items → PutsNew device device_after uuid text → length text ≤ longest_text
+    → AreOpen (rows_of_batches device) settled items → PutsNew device device_after uuid text → length text ≤ longest_content
     → (item : LocalItem) × AreOpen (rows_of_batches device_after) settled (items ++ item ∷ [])
 
 -- the drafts of a device are those that are open, where no item has the next number yet

@@ -5,7 +5,7 @@ use Rattle.rand_chacha.specs.ChaCha.{ChaCha}
 use Rattle.sn_items.specs.Objects.{is_object}
 use Rattle.sn_keys.specs.Keys.{AreKeysOf}
 use Rattle.sn_laws.specs.Lookups.{Bytes, device_named, greatest, is_account}
-use Rattle.sn_laws.specs.Moves.{longest_text}
+use Rattle.sn_string.specs.Bounds.{longest_content}
 pub use Rattle.sn_string.specs.Bounds.{last_stamp, most_accounts}
 use Rattle.sn_laws.specs.declared.ideal.Content.TheVariants.{Plain}
 use Rattle.sn_laws.specs.declared.ideal.Device.{Device}
@@ -86,7 +86,7 @@ put_as device text words None None = refused last.Done
 abbrev pub put_outcome : Bytes → Bytes → Labels → ChaCha → ℕ → Option Device → Outcome
 put_outcome device text labels words next None = refused (last.Refused refusal.NoAccount)
 put_outcome device text labels words next (Some d) =
-    if nat_lt longest_text (length text) then refused (last.Refused (refusal.TooLong (length text)))
+    if nat_lt longest_content (length text) then refused (last.Refused (refusal.TooLong (length text)))
     else if not (is_object text) then refused (last.Refused refusal.NotObject)
     else if next == 18446744073709551615 then refused (last.Refused (refusal.NumbersUsed next))
     else put_as device text words (fresh_uuid labels words) (last_uuid words)

@@ -5,8 +5,8 @@ use Rattle.std.specs.List.{list_any}
 use Rattle.sn_items.specs.Objects.{is_object}
 use Rattle.sn_laws.specs.Each.{Each, One}
 use Rattle.sn_laws.specs.Lookups.{Bytes, account_named, account_of, device_named, draft_at, greatest, has_item, is_account, last_of}
-use Rattle.sn_laws.specs.Moves.{after, allows, is_content_of, longest_text, version_of}
-use Rattle.sn_string.specs.Bounds.{last_stamp}
+use Rattle.sn_laws.specs.Moves.{after, allows, is_content_of, version_of}
+use Rattle.sn_string.specs.Bounds.{longest_content, last_stamp}
 use Rattle.sn_laws.specs.Relation.{IsPlain}
 use Rattle.sn_laws.specs.Runs.{LegalFrom, end_from}
 use Rattle.sn_laws.specs.declared.ideal.Account.{Account}
@@ -60,7 +60,7 @@ RegisterRegular = (labels : Labels) (s : Ideal) (name identifier : Bytes) (set :
 abbrev pub PutRegular : Type 0
 PutRegular = (labels : Labels) (s : Ideal) (name uuid text : Bytes) (d : Device)
     → IsRegular labels [] s → device_named s name ≡ Some d → is_labelled labels uuid ≡ false
-    → length text ≤ longest_text → is_object text ≡ true
+    → length text ≤ longest_content → is_object text ≡ true
     → (draft_at s name uuid ≡ None)
     × LegalFrom s (Edit name uuid (codes "Note") None (Plain text) ∷ [])
     × IsRegular (labelled labels uuid) [] (after s (Edit name uuid (codes "Note") None (Plain text)))

@@ -4,7 +4,7 @@ use Rattle.std.specs.List.{list_any}
 use Rattle.sn_items.specs.Objects.{is_object}
 use Rattle.sn_laws.specs.Each.{One}
 use Rattle.sn_laws.specs.Lookups.{Bytes, device_named, is_account}
-use Rattle.sn_laws.specs.Moves.{longest_text}
+use Rattle.sn_string.specs.Bounds.{longest_content}
 use Rattle.sn_laws.specs.Runs.{LegalFrom, end_from}
 use Rattle.sn_laws.specs.declared.ideal.Account.{Account}
 use Rattle.sn_laws.specs.declared.ideal.Content.TheVariants.{Plain}
@@ -56,7 +56,7 @@ RegisterStands = (server server_after : Record) (devices devices_after : Bytes �
 abbrev pub PutStands : Type 0
 PutStands = (server : Record) (devices devices_after : Bytes → Record) (labels : Labels) (s : Ideal) (name uuid text : Bytes) (d : Device)
     → Stands server devices labels s → device_named s name ≡ Some d → is_labelled labels uuid ≡ false
-    → length text ≤ longest_text → is_object text ≡ true
+    → length text ≤ longest_content → is_object text ≡ true
     → PutsNew (devices name) (devices_after name) uuid text → Others name devices devices_after
     → LegalFrom s (Edit name uuid (codes "Note") None (Plain text) ∷ [])
     × Stands server devices_after (labelled labels uuid) (end_from s (Edit name uuid (codes "Note") None (Plain text) ∷ []))

@@ -3,7 +3,7 @@
 ghost use Rattle.std.specs.Prelude.{◌≡◌, ◌<◌, ◌≤◌, ◌+◌, ◌≢◌, ◌++◌, [], ◌∷◌, ℕ, List, Some, None, IfOk, IfSome, OnOk, OnErr, IsTrue, MatchOption, length};
 ghost use Rattle.std.specs.Option.{option_copied};
 ghost use Rattle.sn_items.specs.Objects.{is_object};
-ghost use Rattle.sn_laws.specs.Moves.{longest_text};
+ghost use Rattle.sn_string.specs.Bounds.{longest_content};
 ghost use Rattle.sn_rows.specs.Table.{rows_of_batches};
 ghost use Rattle.sn_rows.specs.declared.device_rows.LocalItem.{LocalItem};
 ghost use Rattle.sn_rows.specs.declared.device_rows.OwnerRow.{OwnerRow};

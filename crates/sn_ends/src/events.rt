@@ -2,7 +2,7 @@
 
 ghost use Rattle.std.specs.Prelude.{◌≡◌, ◌∷◌, [], ◌<◌, ◌≤◌, ◌^◌, None, Some, IfOk, IfSome, IfNone, OnOk, IsSome, MatchOption, length, codes};
 ghost use Rattle.sn_items.specs.Objects.{is_object};
-ghost use Rattle.sn_laws.specs.Moves.{longest_text};
+ghost use Rattle.sn_string.specs.Bounds.{longest_content, IsIdentifier};
 ghost use Rattle.sn_laws.specs.declared.ideal.Content.TheVariants.{Plain};
 ghost use Rattle.sn_laws.specs.declared.moves.Move.TheVariants.{Edit, Join, Register};
 ghost use Rattle.sn_report.specs.Labels.{labels_of};
@@ -15,7 +15,6 @@ ghost use Rattle.sn_ends.specs.Events.{IsPutCause, IsRegisterCause, MayPut, MayR
 ghost use Rattle.sn_ends.specs.Index.{IsIndex};
 ghost use Rattle.sn_ends.specs.Outcomes.{IsFirstSet};
 ghost use Rattle.sn_ends.specs.Rows.{owner_in, set_in};
-ghost use Rattle.sn_string.specs.Bounds.{IsIdentifier};
 ghost use Rattle.sn_ends.specs.Settings.{words_of};
 
 use crate::device::PlainDevice;
@@ -24,9 +23,9 @@ use crate::server::PlainServer;
 use crate::settings::Settings;
 use sn_items::is_object;
 use sn_keys::derive;
-use sn_laws::{Content, LONGEST_TEXT, Move};
+use sn_laws::{Content, Move};
 use sn_report::{DeviceRefusal, Labels, Last, ServerRefusal};
-use sn_string::{KeySet, MOST_ACCOUNTS, Many, Params, Text, Twin};
+use sn_string::{KeySet, LONGEST_CONTENT, MOST_ACCOUNTS, Many, Params, Text, Twin};
 use std::alloc::{AllocError, Global};
 use uuid::Uuid;
 
@@ -176,7 +175,7 @@ fn put_cause(alloc: Global, device: &PlainDevice, text: &str) -> Result<Option<L
     let Some(owner) = device.owner() else {
         return Ok(Some(Last::Refused(DeviceRefusal::NoAccount)));
     };
-    if text.len() > LONGEST_TEXT {
+    if text.len() > LONGEST_CONTENT {
         let length = text.len() as u64;
         return Ok(Some(Last::Refused(DeviceRefusal::TooLong { length })));
     }

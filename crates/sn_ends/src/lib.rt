@@ -14,7 +14,6 @@ mod put;
 mod registering;
 pub mod regular_laws;
 mod requests;
-mod sealing;
 pub mod server;
 pub mod settings;
 mod settling;

@@ -2,7 +2,7 @@
 
 ghost use Rattle.std.specs.Prelude.{◌≡◌, ◌<◌, ◌≤◌, ◌^◌, ◌+◌, Some, None, IfOk, IsSome, IsTrue, OnOk, OnErr, length, codes};
 ghost use Rattle.sn_items.specs.Objects.{is_object};
-ghost use Rattle.sn_laws.specs.Moves.{longest_text};
+ghost use Rattle.sn_string.specs.Bounds.{longest_content};
 ghost use Rattle.sn_rows.specs.Table.{rows_of_batches};
 ghost use Rattle.sn_rows.specs.declared.key.Key.TheVariants as key;
 ghost use Rattle.sn_rows.specs.declared.key.Slot.TheVariants.{Present};
@@ -12,9 +12,9 @@ ghost use Rattle.sn_ends.specs.Rows.{owner_in, set_in};
 
 use crate::changes::{put_local, put_owner};
 use crate::device::{PlainDevice, key_set};
-use crate::sealing::sealed_strings;
 use sn_items::Words;
 use sn_rows::{Change, LocalItem, OwnerRow, RowBody, RowStrings, SetRow};
+use sn_sets::seal_strings;
 use sn_string::{Many, Text, Twin};
 use std::alloc::{AllocError, Global};
 use uuid::Uuid;
@@ -29,7 +29,7 @@ impl PlainDevice {
         text: &str,
     ) -> Result<(), AllocError>
         requires object { IsTrue (is_object text.now) }
-        requires short { length text.now ≤ longest_text }
+        requires short { length text.now ≤ longest_content }
         requires owner { IsSome (owner_in (rows_of_batches self.old.store key.Owner)) }
         requires keys { IsSome (set_in (rows_of_batches self.old.store (key.Set Present))) }
         requires next { next_number (rows_of_batches self.old.store) + 1 < 2 ^ 64 }
@@ -56,12 +56,12 @@ pub(crate) fn put_changes(
     text: &str,
 ) -> Result<Many<Change>, AllocError>
     requires object { IsTrue (is_object text.now) }
-    requires short { length text.now ≤ longest_text }
+    requires short { length text.now ≤ longest_content }
     requires next { owner.now.next + 1 < 2 ^ 64 }
     ensures { IfOk result (IsPut owner.now keys.now uuid text.now) }
 {
     let set = key_set(alloc, owner, keys)?;
-    let strings = sealed_strings(alloc, words, uuid, &set, text)?;
+    let strings = seal_strings(alloc, words, uuid, &set, text)?;
     let item = new_item(alloc, uuid, strings)?;
     let row = put_local(alloc, owner.next, item)?;
     let next = with_next(alloc, owner, owner.next + 1)?;

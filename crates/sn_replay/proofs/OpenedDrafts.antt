@@ -7,7 +7,8 @@ use Rattle.sn_laws.specs.declared.ideal.Content.TheVariants as content
 use Rattle.sn_rows.specs.declared.body.RowBody.{RowBody}
 use Rattle.sn_rows.specs.declared.body.RowBody.TheVariants as body
 use Rattle.sn_rows.specs.declared.body.RowStrings.{RowStrings}
-use Rattle.sn_shows.specs.Devices.{ShowsContent, sealed_of}
+use Rattle.sn_sets.specs.Sets.{sealed_of}
+use Rattle.sn_shows.specs.Devices.{ShowsContent}
 use Rattle.sn_shows.specs.Sets.{OpensUnder, set_at}
 use Rattle.sn_string.specs.declared.params.KeySet.{KeySet}
 

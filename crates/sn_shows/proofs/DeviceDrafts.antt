@@ -17,9 +17,10 @@ use Rattle.sn_rows.specs.declared.change.Change.{Change}
 use Rattle.sn_rows.specs.declared.device_rows.LocalItem.{LocalItem}
 use Rattle.sn_rows.specs.declared.key.Key.TheVariants as key
 use Rattle.sn_rows.specs.declared.value.Value.TheVariants as value
+use Rattle.sn_sets.specs.Sets.{sealed_of}
 use Rattle.sn_string.specs.declared.params.KeySet.{KeySet}
 use Rattle.sn_shows.specs.Sets.{OpensUnder}
-use Rattle.sn_shows.specs.Devices.{HasRow, ListsBase, ShowsBase, ShowsContent, ShowsDevice, ShowsDraft, ShowsDrafted, ShowsHolder, ShowsLocal, ShowsPosted, sealed_of}
+use Rattle.sn_shows.specs.Devices.{HasRow, ListsBase, ShowsBase, ShowsContent, ShowsDevice, ShowsDraft, ShowsDrafted, ShowsHolder, ShowsLocal, ShowsPosted}
 use Rattle.sn_shows.specs.Laws.{EditedShows, HasAccount, IsNewAt, PostedShows, PutsItem, PutsPosted, PutsSettled, SettledShows}
 use Rattle.sn_shows.proofs.DeviceItems.{IsPut, put_asks, put_holder}
 use Rattle.sn_shows.proofs.DeviceLookups.{find_changed, find_new, find_past_changed, find_past_new, find_past_without, find_without}

@@ -1,6 +1,5 @@
 -- What a device's rows show of the ideal state: its account, the sets that it holds, its drafts and what they stand on, and nothing else.
 use Rattle.std.specs.Prelude.{◌≡◌, ℕ, List, [], ◌∷◌, Option, Some, None, IsSome}
-use Rattle.sn_items.specs.declared.sealed.Sealed.{Sealed}
 use Rattle.sn_laws.specs.Each.{One}
 use Rattle.sn_laws.specs.Lookups.{Bytes, account_named, device_named, draft_at, greatest}
 use Rattle.sn_laws.specs.declared.ideal.Account.{Account}
@@ -24,12 +23,9 @@ use Rattle.sn_rows.specs.declared.key.Key.TheVariants as key
 use Rattle.sn_rows.specs.declared.key.Slot.TheVariants.{Present, Older, Asked}
 use Rattle.sn_rows.specs.declared.value.Value.{Value}
 use Rattle.sn_rows.specs.declared.value.Value.TheVariants as value
+use Rattle.sn_sets.specs.Sets.{sealed_of}
 use Rattle.sn_string.specs.declared.params.KeySet.{KeySet}
 use Rattle.sn_shows.specs.Sets.{set_at, OpensUnder}
-
--- the two strings of a device's row
-abbrev pub sealed_of : RowStrings → Sealed
-sealed_of strings = record { content = strings.content; enc = strings.enc }
 
 -- a draft's content, sealed under the set of this number
 abbrev pub ShowsContent : List KeySet → ℕ → Bytes → RowBody → Content → Type 0

@@ -27,10 +27,11 @@ use Rattle.sn_rows.specs.declared.server_rows.GenerationRow.{GenerationRow}
 use Rattle.sn_rows.specs.declared.server_rows.ItemRow.{ItemRow}
 use Rattle.sn_rows.specs.declared.server_rows.StoreRow.{StoreRow}
 use Rattle.sn_rows.specs.declared.value.Value.TheVariants as value
+use Rattle.sn_sets.specs.Sets.{sealed_of}
 use Rattle.sn_string.specs.declared.params.KeySet.{KeySet}
 use Rattle.sn_shows.specs.Sets.{OpensUnder}
 use Rattle.sn_shows.specs.Servers.{ShowsServer, ShowsAccounts, ShowsStrings, account_at, first_of, stamps_in}
-use Rattle.sn_shows.specs.Devices.{ShowsDevice, IsSetRow, IsBase, sealed_of}
+use Rattle.sn_shows.specs.Devices.{ShowsDevice, IsSetRow, IsBase}
 
 -- the server
 
