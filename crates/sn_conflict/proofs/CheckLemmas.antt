@@ -8,7 +8,7 @@ use Rattle.sn_conflict.specs.Checks.{AreBelow, IsAbove, IsConflictOf, IsNew, IsR
 use Rattle.sn_conflict.specs.Lists.{AllRight}
 use Rattle.sn_conflict.proofs.ListLemmas.{contains_at, place_of}
 use Rattle.sn_sync.specs.Stamps.{IsStampText}
-use Rattle.sn_conflict.specs.Versions.{NamesStamp, item_of}
+use Rattle.sn_sync.specs.Versions.{NamesStamp, item_of}
 use Rattle.sn_sync.specs.declared.answer.Conflict.{Conflict}
 use Rattle.sn_sync.specs.declared.answer.Conflict.TheVariants as conflict
 use Rattle.sn_sync.specs.declared.item.Item.{Item}

@@ -7,7 +7,7 @@ use Rattle.sn_conflict.specs.declared.error.CheckError.TheVariants as wrong
 use Rattle.sn_items.specs.Opens.{NamesItem}
 use Rattle.sn_string.specs.Grammar.{Reading}
 use Rattle.sn_sync.specs.Members.{Bytes}
-use Rattle.sn_conflict.specs.Versions.{IsShort, NamesStamp, conflict_uuids, item_of, uuids}
+use Rattle.sn_sync.specs.Versions.{IsShort, NamesStamp, conflict_uuids, item_of, uuids}
 use Rattle.sn_sync.specs.declared.answer.Conflict.{Conflict}
 use Rattle.sn_sync.specs.declared.answer.Conflict.TheVariants as conflict
 use Rattle.sn_sync.specs.declared.item.Body.{Body}

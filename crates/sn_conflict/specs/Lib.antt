@@ -2,4 +2,3 @@ pub mod Checks
 pub mod Laws
 pub mod Lists
 pub mod Meetings
-pub mod Versions

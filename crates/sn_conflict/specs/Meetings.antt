@@ -10,7 +10,7 @@ use Rattle.sn_rows.specs.declared.device_rows.LocalItem.{LocalItem}
 use Rattle.sn_sets.specs.Sets.{OpensHeld, OpensNowhere, sealed_of}
 use Rattle.sn_sets.specs.declared.sets.Sets.{Sets}
 use Rattle.sn_sync.specs.Members.{Bytes}
-use Rattle.sn_conflict.specs.Versions.{NamesStamp}
+use Rattle.sn_sync.specs.Versions.{NamesStamp}
 use Rattle.sn_sync.specs.declared.item.Body.{Body}
 use Rattle.sn_sync.specs.declared.item.Body.TheVariants as body
 use Rattle.sn_sync.specs.declared.item.Item.{Item}

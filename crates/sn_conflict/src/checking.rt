@@ -6,7 +6,7 @@ ghost use Rattle.sn_conflict.specs.Checks.{AreBelow, FailsAt, HasConflictOf, IsA
 ghost use Rattle.sn_conflict.specs.Lists.{AllRight, IsFirstWrong};
 ghost use Rattle.sn_conflict.specs.declared.error.CheckError.TheVariants as wrong;
 ghost use Rattle.sn_sync.specs.Stamps.{IsStampText};
-ghost use Rattle.sn_conflict.specs.Versions.{NamesStamp, conflict_uuids, item_of, uuids};
+ghost use Rattle.sn_sync.specs.Versions.{NamesStamp, conflict_uuids, item_of, uuids};
 
 use crate::error::CheckError;
 use crate::strings::has_its_strings;

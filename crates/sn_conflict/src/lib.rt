@@ -11,6 +11,7 @@ pub use checking::check;
 pub use error::CheckError;
 pub use laws::one_meeting;
 pub use meeting::{Meeting, meet};
+pub use strings::names_item;
 
 #[cfg(test)]
 mod tests;

@@ -2,6 +2,8 @@
 
 ghost use Rattle.std.specs.Prelude.{◌≡◌, ◌≢◌, ◌↔◌, false, IfOk, IsTrue};
 ghost use Rattle.sn_conflict.specs.Checks.{HasItsStrings, IsStringOf};
+ghost use Rattle.sn_items.specs.Opens.{NamesItem};
+ghost use Rattle.sn_string.specs.Grammar.{Reading};
 ghost use Rattle.sn_string.specs.Uuids.{IsUuidText};
 ghost use Rattle.sn_string.specs.declared.reader.StringError.TheVariants.{Memory};
 
@@ -29,6 +31,13 @@ fn is_string_of(alloc: Global, uuid: Uuid, text: &str) -> Result<bool, AllocErro
     if text.len() > MOST_STRING {
         return Ok(false);
     }
+    names_item(alloc, uuid, text)
+}
+
+/// Whether a text is a 003 string of this uuid, of whatever length.
+pub fn names_item(alloc: Global, uuid: Uuid, text: &str) -> Result<bool, AllocError>
+    ensures { IfOk result (λ named. IsTrue named ↔ ((reading : Reading) × NamesItem text.now reading uuid)) }
+{
     match read(alloc, text) {
         Ok(parts) => Ok(is_text_of(parts.uuid, uuid)),
         Err(error) => is_none(error),

@@ -2,7 +2,7 @@ use Rattle.std.proofs.Common.{arith, ◌≡◌, ◌∙◌, ap, sym, rules}
 use Rattle.std.specs.Prelude.{IsTrue, ◌↔◌}
 use Rattle.sn_conflict.proofs.ListLemmas.{named_here, named_nowhere, none_beyond}
 use Rattle.sn_conflict.proofs.MeetLemmas.{not_holds}
-use Rattle.sn_conflict.specs.Versions.{item_of}
+use Rattle.sn_sync.specs.Versions.{item_of}
 use Rattle.sn_sync.specs.declared.answer.Conflict.{Conflict}
 use Rattle.sn_sync.specs.declared.item.Item.{Item}
 use Rattle.sn_conflict.proofs.checking.has_conflict.Goals as goal

@@ -1,6 +1,6 @@
 use Rattle.std.proofs.Common.{◌≡◌}
 use Rattle.sn_conflict.proofs.ListLemmas.{NoneBefore}
-use Rattle.sn_conflict.specs.Versions.{item_of}
+use Rattle.sn_sync.specs.Versions.{item_of}
 use Rattle.sn_sync.specs.declared.answer.Conflict.{Conflict}
 use Rattle.sn_conflict.proofs.checking.has_conflict.Given as goal
 
