@@ -1,5 +1,5 @@
 -- The five cases of one item, as the code finds them.
-use Rattle.std.proofs.Common.{◌≡◌, ◌≢◌, ◌∙◌, ℕ, suc, max, ◌+◌, ◌<◌, ◌≤◌, List, [], ◌∷◌, ◌++◌, Bool, true, false, Option, Some, None, Result, Ok, Err, IfOk, IfSome, IsTrue, ◌↔◌, ◌⊎◌, inl, inr, refl, sym, ap, subst, arith}
+use Rattle.std.proofs.Common.{◌≡◌, ◌≢◌, ◌∙◌, ℕ, ◌+◌, ◌≤◌, List, [], ◌∷◌, ◌++◌, Bool, true, false, Option, Some, None, Result, Ok, Err, IfOk, IsTrue, ◌↔◌, ◌⊎◌, inl, inr, refl, sym, ap, subst, arith}
 use Rattle.std.specs.Prelude.{IsSome, is_some, length}
 use Rattle.sn_rows.specs.Bounds.{HasLength}
 use Rattle.sn_rows.specs.Table.{Puts, Rows, rows_after}
@@ -19,12 +19,11 @@ use Rattle.sn_string.specs.declared.reader.StringError.TheVariants as error
 use Rattle.sn_string.proofs.Unique.{one_reading, read_back}
 use Rattle.sn_sync.specs.Laws.{AreBytes, FitsKind}
 use Rattle.sn_sync.specs.Stamps.{last_stamp}
-use Rattle.sn_sync.specs.declared.answer.Conflict.{Conflict}
 use Rattle.sn_sync.specs.declared.answer.Conflict.TheVariants as conflict
 use Rattle.sn_sync.specs.declared.item.Body.{Body}
 use Rattle.sn_sync.specs.declared.item.Body.TheVariants as body
 use Rattle.sn_sync.specs.declared.item.Item.{Item}
-use Rattle.sn_account.specs.Incoming.{IsAbsent, IsFree, IsNews, IsOwnBody, IsOwnString, Names, Progress, PutsVersion, SameVersion, Takes, TakesForeign, TakesNew, TakesOther, TakesSame, TakesUnread, stamp_of}
+use Rattle.sn_account.specs.Incoming.{IsAbsent, IsNews, IsOwnBody, IsOwnString, Names, Progress, PutsVersion, SameVersion, Takes, TakesNew, stamp_of}
 use Rattle.sn_account.specs.Lookups.{Bytes, HasItem}
 use Rattle.sn_account.specs.Pages.{weight}
 use Rattle.sn_account.specs.Sound.{NamesItem}

@@ -7,6 +7,8 @@ pub mod ListLemmas
 pub mod NamedLemmas
 pub mod NamesLemmas
 pub mod PageLemmas
+pub mod PlaceLemmas
+pub mod FoundLemmas
 pub mod PasswordLemmas
 pub mod PresentLemmas
 pub mod PutsLemmas

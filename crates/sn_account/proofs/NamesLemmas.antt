@@ -1,6 +1,6 @@
 -- Where accounts stand by their identifiers, as changes come and go.
 use Rattle.std.proofs.Common.{arith, below_more, ◌+◌, ◌<◌, ◌≤◌, ◌≡◌, ◌∙◌, ℕ, Bool, true, false, cond, List, [], ◌∷◌, ◌++◌, Option, Some, None, All, IsTrue, refl, sym, ap, subst, ⊎_elim, length, get_or}
-use Rattle.std.specs.Prelude.{◌==◌, ◌↔◌, if◌then◌else◌}
+use Rattle.std.specs.Prelude.{◌==◌, ◌↔◌}
 use Rattle.std.specs.BTreeMap.{BTreeMap, get_by_text}
 use Rattle.std.specs.List.{list_any}
 use Rattle.std.specs.Map.{update}
@@ -9,15 +9,13 @@ use Rattle.std.specs.Str.{bytes_eq}
 use Rattle.std.specs.declared.string.String.{String}
 use Rattle.std.proofs.lemmas.Bool.{cases_Bool, eqb-true}
 use Rattle.std.proofs.lemmas.List.{get_or_default}
-use Rattle.std.proofs.lemmas.List.Elements.{All-head, All-tail}
+use Rattle.std.proofs.lemmas.List.Elements.{All-weaker}
 use Rattle.std.proofs.lemmas.List.Folds.{Any-from_list_any, list_any-append}
 use Rattle.std.proofs.lemmas.Slice.Eq.{bytes_eq-Decides}
 use Rattle.sn_row_map.specs.RowMaps.{row_in}
 use Rattle.sn_row_map.specs.declared.row_map.RowMap.{RowMap}
-use Rattle.sn_rows.specs.Facts.{keys_compare}
-use Rattle.sn_rows.specs.Table.{changed, row_after, same_key}
+use Rattle.sn_rows.specs.Table.{Puts, row_after}
 use Rattle.sn_rows.specs.declared.change.Change.{Change}
-use Rattle.sn_rows.specs.declared.change.Change.TheVariants.{Put, Remove}
 use Rattle.sn_rows.specs.declared.key.Key.{Key}
 use Rattle.sn_rows.specs.declared.key.Key.TheVariants as key
 use Rattle.sn_rows.specs.declared.server_rows.AccountRow.{AccountRow}
@@ -29,6 +27,7 @@ use Rattle.sn_account.specs.States.{IsUnmarked, state_rows}
 use Rattle.sn_account.specs.declared.names.Names.{Names}
 use Rattle.sn_account.specs.declared.state.State.{State}
 use Rattle.sn_account.proofs.BehindLemmas.{unmarked_rows}
+use Rattle.sn_account.proofs.PutsLemmas.{left_or_put}
 
 -- ---- one number more at one identifier
 
@@ -60,32 +59,14 @@ module _ {Y : Type 0} (old new : BTreeMap (String Y) (List ℕ)) (identifier : B
 
 -- ---- changes
 
--- an account that changes leave stood before, or one of them puts it
-found_listed : (names : Names) (n : ℕ) (found : Option Value) (changes : List Change)
-    → ((a : AccountRow) → found ≡ Some (value.Account a) → Lists names a.identifier n) → All (ListsChange names) changes
-    → (a : AccountRow) → row_after found (key.Account n) changes ≡ Some (value.Account a) → Lists names a.identifier n
-found_listed names n found [] before listed a is = before a is
-found_listed names n found (c ∷ cs) before listed a is =
-    found_listed names n (changed found (key.Account n) c) cs (here c (All-head (ListsChange names) c cs listed)) (All-tail (ListsChange names) c cs listed) a is
-  where
-    here : (c : Change) → ListsChange names c → (b : AccountRow) → changed found (key.Account n) c ≡ Some (value.Account b) → Lists names b.identifier n
-    here (Put r) one b left =
-        ⊎_elim
-        (λ (same : same_key r.key (key.Account n) ≡ true). let value_is : Some r.value ≡ Some (value.Account b) =
-        sym (ap (λ t. if t then Some r.value else found) same) ∙ left in one n b (record { key_is = (keys_compare r.key (key.Account n)).0 same; value_is = value_is }))
-        (λ (apart : same_key r.key (key.Account n) ≡ false). before b (sym (ap (λ t. if t then Some r.value else found) apart) ∙ left))
-        (cases_Bool (same_key r.key (key.Account n)))
-    here (Remove k) one b left =
-        ⊎_elim
-        (λ (same : same_key k (key.Account n) ≡ true). let none : None ≡ Some (value.Account b) = sym (ap (λ t. if t then None else found) same) ∙ left in
-        absurd cc)
-        (λ (apart : same_key k (key.Account n) ≡ false). before b (sym (ap (λ t. if t then None else found) apart) ∙ left))
-        (cases_Bool (same_key k (key.Account n)))
-
 pub after_listed : (names : Names) (map other : RowMap) (changes : List Change) → ListsRows names map → All (ListsChange names) changes
     → ((k : Key) → row_in other k ≡ row_after (row_in map k) k changes) → ListsRows names other
 after_listed names map other changes listed added same n a there =
-    found_listed names n (row_in map (key.Account n)) changes (λ b is. listed n b is) added a (sym (same (key.Account n)) ∙ there)
+    left_or_put (λ v. (b : AccountRow) → v ≡ value.Account b → Lists names b.identifier n) (key.Account n) (row_in map (key.Account n)) changes
+    (λ v stands b is. listed n b (stands ∙ ap Some is))
+    (All-weaker (ListsChange names) (λ c. (v : Value) → Puts c (key.Account n) v → (b : AccountRow) → v ≡ value.Account b → Lists names b.identifier n)
+    (λ c one v puts b is. one n b (subst (λ (w : Value). Puts c (key.Account n) w) is puts)) changes added)
+    (value.Account a) (sym (same (key.Account n)) ∙ there) a refl
 
 -- no rows, and then those of changes
 pub put_listed : (names : Names) (empty map : RowMap) (changes : List Change) → ((k : Key) → row_in empty k ≡ None) → All (ListsChange names) changes

@@ -1,7 +1,7 @@
 -- Elements of lists, and lists that rise by a number of each element.
-use Rattle.std.proofs.Common.{◌≡◌, ◌⊎◌, ◌<◌, ℕ, List, [], ◌∷◌, ◌++◌, map, Less, Equal, Greater, refl, sym, ap, subst, ⊎_elim, inl, inr, arith}
+use Rattle.std.proofs.Common.{◌≡◌, ◌⊎◌, ◌<◌, ℕ, ◌∙◌, Bool, true, false, cond, List, [], ◌∷◌, ◌++◌, map, Less, Equal, Greater, refl, sym, ap, subst, ⊎_elim, inl, inr, arith}
 use Rattle.std.specs.Cmp.{nat_cmp_is}
-use Rattle.std.specs.List.{Contains}
+use Rattle.std.specs.List.{AllByRecursion, Contains, filter}
 use Rattle.std.specs.Ordering.{nat_cmp}
 use Rattle.std.specs.List.Sorted.{IsStrictlyIncreasing, IsStrictlySortedBy}
 use Rattle.std.proofs.Math.Nat.{eq-or-lt_of_le}
@@ -41,6 +41,18 @@ of_image f (y ∷ xs) b has =
     (λ behind. let at = of_image f xs b behind in (at.0, behind_head y xs at.0 at.1, at.2))
     (head_or_behind (f y) (map f xs) b has)
 
+-- an element that passes stays in a filter
+pub in_filter : {A : Type 0} (test : A → Bool) (xs : List A) (x : A) → Contains xs x → test x ≡ true → Contains (filter test xs) x
+in_filter test [] x has passes = absurd (none_of x has)
+in_filter {A} test (y ∷ xs) x has passes = by_test (test y) refl (head_or_behind y xs x has) (λ behind. in_filter test xs x behind passes)
+  where
+    by_test : (b : Bool) → test y ≡ b → (y ≡ x) ⊎ Contains xs x → (Contains xs x → Contains (filter test xs) x)
+        → Contains (cond b (y ∷ filter test xs) (filter test xs)) x
+    by_test true e (inl same) more = subst (λ (z : A). Contains (y ∷ filter test xs) z) same (at_head y (filter test xs))
+    by_test true e (inr behind) more = behind_head y (filter test xs) x (more behind)
+    by_test false e (inl same) more = (let no : test x ≡ false = ap test (sym same) ∙ e in absurd cc)
+    by_test false e (inr behind) more = more behind
+
 less_lt : (a b : ℕ) → nat_cmp a b ≡ Less → a < b
 less_lt a b is =
     elim (cases_lt a b) [
@@ -64,12 +76,35 @@ later_above (x ∷ front) a left b sorted has = later_above front a left b sorte
 abbrev pub Rises : {A : Type 0} → (A → ℕ) → List A → Type 0
 Rises number xs = IsStrictlySortedBy nat_cmp (map number xs)
 
+-- each of these is above a number
+pub all_above : {A : Type 0} (number : A → ℕ) (a : ℕ) (xs : List A) → ((z : A) → Contains xs z → a < number z) → AllByRecursion (λ c. nat_cmp a c ≡ Less) (map number xs)
+all_above number a [] above = tt
+all_above number a (x ∷ xs) above =
+    (sym (nat_cmp_is a (number x) Less (above x (at_head x xs))), all_above number a xs (λ z has. above z (behind_head x xs z has)))
+
+pub none_rise : {A : Type 0} (number : A → ℕ) → Rises number []
+unfolding IsStrictlySortedBy
+none_rise number = tt
+
+pub rises_cons : {A : Type 0} (number : A → ℕ) (x : A) (xs : List A) → ((z : A) → Contains xs z → number x < number z) → Rises number xs → Rises number (x ∷ xs)
+unfolding IsStrictlySortedBy
+rises_cons number x xs above rises = (all_above number (number x) xs above, rises)
+
 rises_behind : {A : Type 0} (number : A → ℕ) (x : A) (xs : List A) → Rises number (x ∷ xs) → Rises number xs
 unfolding IsStrictlySortedBy
 rises_behind number x xs rises = rises.1
 
 pub above_head : {A : Type 0} (number : A → ℕ) (x : A) (xs : List A) (z : A) → Rises number (x ∷ xs) → Contains xs z → number x < number z
 above_head number x xs z rises has = later_above [] (number x) (map number xs) (number z) rises (image number xs z has)
+
+-- what stands before the last is below it
+pub below_last : {A : Type 0} (number : A → ℕ) (xs : List A) (x : A) (z : A) → Rises number (xs ++ x ∷ []) → Contains xs z → number z < number x
+below_last number [] x z rises has = absurd (none_of z has)
+below_last {A} number (y ∷ xs) x z rises has =
+    ⊎_elim
+    (λ (same : y ≡ z). subst (λ (w : A). number w < number x) same (above_head number y (xs ++ x ∷ []) x rises (Contains-push xs x)))
+    (λ behind. below_last number xs x z (rises_behind number y (xs ++ x ∷ []) rises) behind)
+    (head_or_behind y xs z has)
 
 -- an element of the one list behind its head is one of the other list behind the same head
 behind_both : {A : Type 0} (number : A → ℕ) (x : A) (xs ys : List A) (z : A) → Rises number (x ∷ xs) → (Contains (x ∷ xs) z → Contains (x ∷ ys) z)

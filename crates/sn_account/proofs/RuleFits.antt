@@ -1,8 +1,7 @@
 -- What is answered is within the bounds of an answer.
-use Rattle.std.proofs.Common.{arith, ◌≡◌, ◌≢◌, ◌⊎◌, ◌≤◌, ◌++◌, ℕ, List, [], ◌∷◌, Option, Some, Bool, true, false, All, length, refl, sym, ap, ◌∙◌, subst, inl, inr}
+use Rattle.std.proofs.Common.{arith, ◌≡◌, ◌≢◌, ◌≤◌, ◌++◌, ℕ, List, [], ◌∷◌, Option, Bool, true, false, All, length, refl, sym, subst, inl, inr}
 use Rattle.std.specs.Prelude.{if◌then◌else◌}
-use Rattle.std.specs.List.{AllZip, Contains}
-use Rattle.std.proofs.lemmas.Bool.{cases_Bool}
+use Rattle.std.specs.List.{Contains}
 use Rattle.std.proofs.lemmas.List.Elements.{All-append, All-cons, All-contains, All-head, All-nil, All-tail, Contains-append_left, Contains-append_right, Contains-push}
 use Rattle.sn_rows.specs.Table.{Rows}
 use Rattle.sn_rows.specs.declared.change.Change.{Change}
@@ -24,8 +23,8 @@ use Rattle.sn_sync.specs.declared.request.Request.TheVariants as request
 use Rattle.sn_sync.specs.declared.request.Route.{Route}
 use Rattle.sn_sync.specs.declared.request.Route.TheVariants as route
 use Rattle.sn_account.specs.Incoming.{Progress, Takes, TakesAll}
-use Rattle.sn_account.specs.Lookups.{Bytes, HasItem}
-use Rattle.sn_account.specs.Pages.{AreGiven, Found, IsPage}
+use Rattle.sn_account.specs.Lookups.{Bytes}
+use Rattle.sn_account.specs.Pages.{AreGiven, Found}
 use Rattle.sn_account.specs.RuleLaws.{AnswersFit, status_of}
 use Rattle.sn_account.specs.Rules.{ChangesKeys, ChangesPassword, Registers, SignsIn, TellsParams}
 use Rattle.sn_account.specs.Sessions.{account_uuid, session_token}

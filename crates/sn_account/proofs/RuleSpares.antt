@@ -1,6 +1,5 @@
 -- A request leaves the rows of every account that it doesn't act for as they are.
-use Rattle.std.proofs.Common.{◌≡◌, ◌≢◌, ◌⊎◌, ℕ, suc, List, [], ◌∷◌, ◌++◌, Option, All, refl, sym, ap, ◌∙◌, subst, inl, inr}
-use Rattle.std.specs.Prelude.{◌↔◌}
+use Rattle.std.proofs.Common.{◌≡◌, ◌≢◌, ◌⊎◌, ℕ, suc, List, [], ◌∷◌, ◌++◌, All, refl, sym, ap, ◌∙◌, subst, inl, inr}
 use Rattle.sn_rows.specs.Facts.{put_elsewhere}
 use Rattle.sn_rows.specs.Kinds.{key_kind}
 use Rattle.sn_rows.specs.Table.{Puts, Rows, rows_after}
@@ -16,7 +15,6 @@ use Rattle.sn_sync.specs.Laws.{FitsSent}
 use Rattle.sn_sync.specs.declared.answer.Answer.{Answer}
 use Rattle.sn_sync.specs.declared.item.Item.{Item}
 use Rattle.sn_sync.specs.declared.request.Request.TheVariants as request
-use Rattle.sn_account.specs.Incoming.{Progress}
 use Rattle.sn_account.specs.Lookups.{Bytes, HasItem, HasStore}
 use Rattle.sn_account.specs.RuleLaws.{SparesAccount, SparesEveryOther}
 use Rattle.sn_account.specs.Rules.{Begins, ChangesPassword, Registers}

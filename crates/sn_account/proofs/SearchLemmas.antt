@@ -1,5 +1,5 @@
 -- The walk over all items to the first that is behind.
-use Rattle.std.proofs.Common.{◌≡◌, ◌∙◌, ℕ, suc, ◌+◌, ◌-◌, ◌<◌, ◌≤◌, List, [], ◌∷◌, length, get_or, drop, Option, Some, None, refl, sym, ap, subst, arith, add-one, length-drop}
+use Rattle.std.proofs.Common.{◌≡◌, ◌∙◌, ℕ, suc, ◌+◌, ◌-◌, ◌<◌, List, ◌∷◌, length, get_or, drop, Option, Some, None, sym, ap, arith, add-one, length-drop}
 use Rattle.std.proofs.Math.Seq.{drop-cons}
 use Rattle.sn_rows.specs.Table.{Rows}
 use Rattle.sn_rows.specs.declared.key.Key.{Key}

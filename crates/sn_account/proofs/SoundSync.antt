@@ -1,5 +1,5 @@
 -- Sound rows are sound after a sync.
-use Rattle.std.proofs.Common.{◌≡◌, ◌≢◌, ◌≤◌, ℕ, suc, List, [], ◌∷◌, ◌++◌, Option, Some, All, refl, sym, ap, ◌∙◌, subst, inl, inr, arith}
+use Rattle.std.proofs.Common.{◌≡◌, ◌≢◌, ◌≤◌, ℕ, List, [], ◌∷◌, ◌++◌, Option, Some, All, sym, ap, ◌∙◌, subst, inl, inr}
 use mathlib.Core.Path.{fun_ext}
 use Rattle.sn_rows.specs.Facts.{put_elsewhere, put_here, row_after-append}
 use Rattle.sn_rows.specs.Kinds.{key_kind, value_kind}
@@ -15,14 +15,13 @@ use Rattle.sn_rows.specs.declared.server_rows.StoreRow.{StoreRow}
 use Rattle.sn_rows.specs.declared.value.Value.{Value}
 use Rattle.sn_rows.specs.declared.value.Value.TheVariants as value
 use Rattle.sn_string.specs.declared.params.Params.{Params}
-use Rattle.sn_sync.specs.Laws.{AreBytes, FitsSent}
+use Rattle.sn_sync.specs.Laws.{FitsSent}
 use Rattle.sn_sync.specs.declared.answer.Answer.{Answer}
 use Rattle.sn_sync.specs.declared.item.Item.{Item}
-use Rattle.sn_account.specs.Incoming.{Progress}
-use Rattle.sn_account.specs.Lookups.{Bytes, HasAccount, HasGeneration, HasItem, HasStore}
-use Rattle.sn_account.specs.Sound.{IsSound, IsSoundItem, most_accounts, most_generations}
+use Rattle.sn_account.specs.Lookups.{Bytes, HasAccount, HasGeneration, HasItem}
+use Rattle.sn_account.specs.Sound.{IsSound, IsSoundItem, most_accounts}
 use Rattle.sn_account.specs.Syncs.{AreChanges, Synced, start}
-use Rattle.sn_account.proofs.SoundRegistering.{one_store, sound_unchanged}
+use Rattle.sn_account.proofs.SoundRegistering.{sound_unchanged}
 use Rattle.sn_account.proofs.SyncSteps.{Items, Ran, ran_all}
 
 -- the items of sound rows

@@ -1,5 +1,5 @@
 -- A sync that is served.
-use Rattle.std.proofs.Common.{◌≡◌, ◌≢◌, ◌∙◌, ℕ, suc, max, ◌<◌, ◌≤◌, List, [], ◌∷◌, ◌++◌, length, Bool, true, false, Option, Some, None, Result, Ok, Err, IfOk, ◌⊎◌, inl, inr, refl, sym, ap, subst, arith, ⊎_elim}
+use Rattle.std.proofs.Common.{◌≡◌, ◌≢◌, ◌∙◌, ℕ, ◌≤◌, List, [], ◌∷◌, ◌++◌, length, Bool, true, false, Option, Some, None, Result, Ok, Err, IfOk, inl, inr, refl, sym, ap, subst, arith}
 use Rattle.std.specs.Prelude.{◌↔◌, if◌then◌else◌}
 use Rattle.std.proofs.lemmas.Bool.{false_from_ne_true}
 use Rattle.sn_rows.specs.Facts.{put_here, put_or_not}
@@ -8,7 +8,6 @@ use Rattle.sn_rows.specs.declared.change.Change.{Change}
 use Rattle.sn_rows.specs.declared.key.Key.TheVariants as key
 use Rattle.sn_rows.specs.declared.server_rows.ItemRow.{ItemRow}
 use Rattle.sn_rows.specs.declared.server_rows.StoreRow.{StoreRow}
-use Rattle.sn_rows.specs.declared.value.Value.{Value}
 use Rattle.sn_rows.specs.declared.value.Value.TheVariants as value
 use Rattle.sn_string.specs.declared.params.Params.{Params}
 use Rattle.sn_sync.specs.Laws.{FitsAnswer, FitsRequest}
@@ -17,10 +16,9 @@ use Rattle.sn_sync.specs.Tokens.{IsToken}
 use Rattle.sn_sync.specs.declared.answer.Answer.{Answer}
 use Rattle.sn_sync.specs.declared.item.Item.{Item}
 use Rattle.sn_sync.specs.declared.request.Request.{Request}
-use Rattle.sn_account.specs.Candidates.{IsPageOf}
 use Rattle.sn_account.specs.Incoming.{PutsVersion, Progress, Takes, TakesAll, stamp_of}
 use Rattle.sn_account.specs.Lookups.{Bytes, HasItem, HasStore}
-use Rattle.sn_account.specs.Pages.{Found, IsGreatest, IsLastOf}
+use Rattle.sn_account.specs.Pages.{Found, IsGreatest, IsLastOf, IsPageOf}
 use Rattle.sn_account.specs.Replies.{IsReply, greatest_after}
 use Rattle.sn_account.specs.Rules.{IsPresent}
 use Rattle.sn_account.specs.Sound.{IsSound}

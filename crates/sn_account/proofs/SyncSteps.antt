@@ -1,6 +1,6 @@
 -- What the items of a sync leave of the rows: accepted ones are put, each at a stamp above the last, and every other row stays.
-use Rattle.std.proofs.Common.{◌≡◌, ◌≢◌, ◌⊎◌, ◌<◌, ◌≤◌, ℕ, suc, List, [], ◌∷◌, ◌++◌, Option, Some, true, false, All, refl, sym, ap, ◌∙◌, subst, inl, inr, arith, append_assoc}
-use Rattle.std.specs.Prelude.{max, Bool, if◌then◌else◌}
+use Rattle.std.proofs.Common.{◌≡◌, ◌≢◌, ◌⊎◌, ◌<◌, ◌≤◌, ℕ, List, [], ◌∷◌, ◌++◌, Option, Some, false, All, refl, sym, ap, ◌∙◌, subst, inl, inr, arith, append_assoc}
+use Rattle.std.specs.Prelude.{Bool, if◌then◌else◌}
 use Rattle.std.proofs.lemmas.List.{append-nil}
 use Rattle.std.proofs.lemmas.List.Elements.{All-head, All-tail}
 use Rattle.sn_rows.specs.Facts.{put_elsewhere, put_here, put_or_not, row_after-append}
@@ -14,16 +14,14 @@ use Rattle.sn_rows.specs.declared.server_rows.AccountRow.{AccountRow}
 use Rattle.sn_rows.specs.declared.server_rows.ItemRow.{ItemRow}
 use Rattle.sn_rows.specs.declared.value.Value.{Value}
 use Rattle.sn_rows.specs.declared.value.Value.TheVariants as value
-use Rattle.sn_string.specs.Grammar.{Is003, Reading}
 use Rattle.sn_string.specs.declared.params.Params.{Params}
 use Rattle.sn_sync.specs.Laws.{AreBytes, FitsSent}
 use Rattle.sn_sync.specs.declared.item.Body.{Body}
 use Rattle.sn_sync.specs.declared.item.Body.TheVariants as body
 use Rattle.sn_sync.specs.declared.item.Item.{Item}
-use Rattle.sn_account.specs.Incoming.{IsFree, IsHeld, IsNews, IsOwnBody, IsOwnString, Names, Progress, PutsVersion, SameVersion, Takes, TakesAll, stamp_of}
+use Rattle.sn_account.specs.Incoming.{IsFree, IsNews, IsOwnBody, IsOwnString, Progress, PutsVersion, Takes, TakesAll, stamp_of}
 use Rattle.sn_account.specs.Lookups.{Bytes, HasAccount, HasItem}
 use Rattle.sn_account.specs.Sound.{IsSoundItem, NamesItem}
-use Rattle.sn_account.specs.Stored.{body_of}
 
 -- a table has one row of an item
 pub one_item : (rows : Rows) (u : Bytes) (i j : ItemRow) → HasItem rows u i → HasItem rows u j → i ≡ j

@@ -1,8 +1,8 @@
 -- The rows that changes leave, as the code finds them.
-use Rattle.std.proofs.Common.{◌≡◌, ◌≢◌, ◌∙◌, List, [], ◌∷◌, ◌++◌, Bool, true, false, Option, Some, None, refl, sym, ap, ℕ, ◌<◌, ◌+◌, length, get_or, take}
-use Rattle.std.specs.Prelude.{IsTrue, ◌↔◌, if◌then◌else◌}
+use Rattle.std.proofs.Common.{◌≡◌, ◌≢◌, ◌∙◌, List, [], ◌∷◌, ◌++◌, Bool, Option, ap, ℕ, ◌<◌, ◌+◌, length, get_or, take}
+use Rattle.std.specs.Prelude.{if◌then◌else◌}
 use Rattle.sn_rows.specs.Facts.{apart_keys, keys_compare, row_after-append}
-use Rattle.sn_rows.specs.Table.{Rows, changed, key_of, row_after, rows_after, same_key, value_of}
+use Rattle.sn_rows.specs.Table.{Rows, changed, key_of, row_after, rows_after, value_of}
 use Rattle.sn_rows.specs.declared.change.Change.{Change}
 use Rattle.sn_rows.specs.declared.key.Key.{Key}
 use Rattle.sn_rows.specs.declared.value.Value.{Value}

@@ -1,9 +1,7 @@
 -- An account has a page from any stamp on, and a greatest stamp.
-use Rattle.std.proofs.Common.{◌≡◌, ◌≢◌, ◌⊎◌, ℕ, zero, suc, ◌<◌, ◌≤◌, Bool, true, false, List, [], ◌∷◌, ◌++◌, length, map, Option, Some, None, sum_by, Less, codes, decimal, refl, sym, ap, ◌∙◌, subst, inl, inr, ⊎_elim, arith, append_assoc}
-use Rattle.std.specs.Cmp.{nat_cmp_is}
-use Rattle.std.specs.List.{AllByRecursion, Contains}
+use Rattle.std.proofs.Common.{◌≡◌, ◌≢◌, ◌⊎◌, ℕ, zero, suc, ◌<◌, ◌≤◌, Bool, List, [], ◌∷◌, ◌++◌, length, map, Option, Some, None, sum_by, codes, decimal, refl, sym, ap, ◌∙◌, subst, inl, inr, ⊎_elim, arith, append_assoc}
+use Rattle.std.specs.List.{Contains}
 use Rattle.std.specs.List.Sorted.{IsStrictlySortedBy}
-use Rattle.std.specs.Ordering.{nat_cmp}
 use Rattle.std.proofs.lemmas.Bool.{cases_lt}
 use Rattle.std.proofs.lemmas.List.Elements.{Contains-append_left, Contains-push, Contains-push_cases}
 use Rattle.std.proofs.lemmas.Map.Keys.{IsStrictlyIncreasing-from_sorted}
@@ -18,23 +16,14 @@ use Rattle.sn_account.specs.Lookups.{Bytes, HasItem}
 use Rattle.sn_account.specs.Pages.{AreAbove, AreGiven, FitsPage, Found, IsCandidate, IsGreatest, IsLastOf, IsPage, most_bytes, weight}
 use Rattle.sn_account.specs.Stored.{IsGiven}
 use Rattle.sn_account.specs.Syncs.{AreTokens}
-use Rattle.sn_account.proofs.Deciding.{Decided, IsLeast, at_most, both, decided_so, least_or_none, same_bool, same_number}
-use Rattle.sn_account.proofs.RisingLists.{Rises, above_head, at_head, behind_head, none_of}
+use Rattle.sn_account.proofs.Deciding.{Decided, IsLeast, at_most, both, decided_so, least_or_none, same_number}
+use Rattle.sn_account.proofs.FoundLemmas.{candidate_or_not}
+use Rattle.sn_account.proofs.RisingLists.{Rises, above_head, all_above, at_head, behind_head, none_of, none_rise}
 use Rattle.sn_account.proofs.SyncSteps.{Items, one_item}
 use Rattle.sn_account.proofs.TotalItems.{has_given}
 use Rattle.sn_account.proofs.TotalRows.{stored_or_not}
 
 -- ---- lists that rise
-
--- each of these is above a number
-all_above : {A : Type 0} (number : A → ℕ) (a : ℕ) (xs : List A) → ((z : A) → Contains xs z → a < number z) → AllByRecursion (λ c. nat_cmp a c ≡ Less) (map number xs)
-all_above number a [] above = tt
-all_above number a (x ∷ xs) above =
-    (sym (nat_cmp_is a (number x) Less (above x (at_head x xs))), all_above number a xs (λ z has. above z (behind_head x xs z has)))
-
-no_rise : Rises (λ (f : Found). f.1.updated) []
-unfolding IsStrictlySortedBy
-no_rise = tt
 
 rises_push : {A : Type 0} (number : A → ℕ) (xs : List A) (x : A) → Rises number xs → ((z : A) → Contains xs z → number z < number x) → Rises number (xs ++ x ∷ [])
 unfolding IsStrictlySortedBy
@@ -109,14 +98,6 @@ module _ (rows : Rows) (last n : ℕ) (items : Items rows last n) where
   -- ---- all candidates
 
   module _ (above : ℕ) (first : Bool) where
-    candidate_or_not : (i : ItemRow) → Decided (IsCandidate n above first i)
-    candidate_or_not i =
-        decided_so (λ p. (p.0, p.1.0, p.1.1)) (λ c. (c.0, (c.1, c.2))) (both (same_number i.account n) (both (at_most (suc above) i.updated) (by_first first refl)))
-      where
-        by_first : (b : Bool) → first ≡ b → Decided (first ≡ true → i.deleted ≡ false)
-        by_first false e = inl (λ whole. absurd cc)
-        by_first true e = decided_so (λ live whole. live) (λ over. over e) (same_bool i.deleted false)
-
     -- those up to a stamp
     record HasAbove (k : ℕ) : Type 0 where
       found : List Found
@@ -127,14 +108,14 @@ module _ (rows : Rows) (last n : ℕ) (items : Items rows last n) where
     above_upto : (k : ℕ) → HasAbove k
     above_upto zero = record {
       found = [];
-      rising = no_rise;
+      rising = none_rise (λ (f : Found). f.1.updated);
       each = λ f has. absurd (none_of f has);
       whole = λ u i has is low. (let over = is.1 in absurd (omega arith));
     }
-    above_upto (suc k) = by_stamp (above_upto k) (at_stamp (IsCandidate n above first) candidate_or_not (suc k))
+    above_upto (suc k) = by_stamp (above_upto k) (at_stamp (IsCandidate n above first) (candidate_or_not n above first) (suc k))
       where
-        by_stamp : HasAbove k → ((u : Bytes) × IsAt (IsCandidate n above first) candidate_or_not (suc k) u)
-            ⊎ ((u : Bytes) → IsAt (IsCandidate n above first) candidate_or_not (suc k) u → ⊥) → HasAbove (suc k)
+        by_stamp : HasAbove k → ((u : Bytes) × IsAt (IsCandidate n above first) (candidate_or_not n above first) (suc k) u)
+            ⊎ ((u : Bytes) → IsAt (IsCandidate n above first) (candidate_or_not n above first) (suc k) u → ⊥) → HasAbove (suc k)
         by_stamp below (inl (u, (i, has, is, stamp))) = record {
           found = below.found ++ (u, i) ∷ [];
           rising = rises_push (λ (f : Found). f.1.updated) below.found (u, i) below.rising

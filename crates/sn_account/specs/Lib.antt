@@ -7,11 +7,11 @@ pub mod Pages
 pub mod Incoming
 pub mod Syncs
 pub mod Taking
-pub mod Candidates
 pub mod Replies
 pub mod Rule
 pub mod Room
 pub mod Names
+pub mod Places
 pub mod States
 pub mod Laws
 pub mod RuleLaws

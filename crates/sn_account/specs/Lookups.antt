@@ -1,13 +1,11 @@
 -- What a server's rows have: the store's own row, accounts, generations of their keys, and items.
 use Rattle.std.specs.Prelude.{◌≡◌, ℕ, List, Some}
 use Rattle.sn_rows.specs.Table.{Rows}
-use Rattle.sn_rows.specs.declared.key.Key.{Key}
 use Rattle.sn_rows.specs.declared.key.Key.TheVariants as key
 use Rattle.sn_rows.specs.declared.server_rows.AccountRow.{AccountRow}
 use Rattle.sn_rows.specs.declared.server_rows.GenerationRow.{GenerationRow}
 use Rattle.sn_rows.specs.declared.server_rows.ItemRow.{ItemRow}
 use Rattle.sn_rows.specs.declared.server_rows.StoreRow.{StoreRow}
-use Rattle.sn_rows.specs.declared.value.Value.{Value}
 use Rattle.sn_rows.specs.declared.value.Value.TheVariants as value
 
 abbrev pub Bytes : Type 0

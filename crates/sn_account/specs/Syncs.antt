@@ -8,11 +8,10 @@ use Rattle.sn_rows.specs.declared.value.Value.TheVariants as value
 pub use Rattle.sn_string.specs.Bounds.{most_string}
 use Rattle.sn_string.specs.declared.params.Params.{Params}
 use Rattle.sn_sync.specs.Tokens.{IsToken}
+pub use Rattle.sn_sync.specs.Versions.{AreShort, IsShort, strings_in}
 use Rattle.sn_sync.specs.declared.answer.Answer.{Answer}
 use Rattle.sn_sync.specs.declared.answer.Answer.TheVariants as answer
 use Rattle.sn_sync.specs.declared.answer.More.TheVariants as more
-use Rattle.sn_sync.specs.declared.item.Body.{Body}
-use Rattle.sn_sync.specs.declared.item.Body.TheVariants as body
 use Rattle.sn_sync.specs.declared.item.Item.{Item}
 use Rattle.sn_account.specs.Incoming.{Progress, RunsOut, TakesAll}
 use Rattle.sn_account.specs.Lookups.{Bytes}
@@ -47,17 +46,6 @@ is_first sync cursor = false
 
 abbrev pub most_items : ℕ
 most_items = 500
-
--- the strings of a body, the content before the item key
-abbrev pub strings_in : Body → List Bytes
-strings_in body.Deleted = []
-strings_in (body.Strings content enc) = content ∷ enc ∷ []
-
-abbrev pub IsShort : Bytes → Type 0
-IsShort string = length string ≤ most_string
-
-abbrev pub AreShort : List Bytes → Type 0
-AreShort strings = All IsShort strings
 
 abbrev pub NoneLong : List Item → Type 0
 NoneLong items = All (λ i. AreShort (strings_in i.body)) items

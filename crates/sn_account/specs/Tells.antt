@@ -1,5 +1,5 @@
 -- What an answer to a sync tells a device of the rows that it leaves.
-use Rattle.std.specs.Prelude.{◌≡◌, ◌≢◌, ◌⊎◌, ℕ, ◌<◌, ◌≤◌, Bool, true, List, [], ◌∷◌, map, Option, Some, None}
+use Rattle.std.specs.Prelude.{◌≡◌, ◌≢◌, ◌⊎◌, ℕ, ◌<◌, ◌≤◌, Bool, true, List, Option, Some, None}
 use Rattle.std.specs.List.{Contains}
 use Rattle.sn_rows.specs.Table.{Rows, rows_after}
 use Rattle.sn_rows.specs.declared.change.Change.{Change}
@@ -7,6 +7,7 @@ use Rattle.sn_rows.specs.declared.server_rows.ItemRow.{ItemRow}
 use Rattle.sn_rows.specs.declared.server_rows.StoreRow.{StoreRow}
 use Rattle.sn_string.specs.declared.params.Params.{Params}
 use Rattle.sn_sync.specs.Tokens.{IsToken}
+pub use Rattle.sn_sync.specs.Versions.{AreApart, conflict_uuids, item_of, uuids}
 use Rattle.sn_sync.specs.declared.answer.Answer.TheVariants as answer
 use Rattle.sn_sync.specs.declared.answer.Conflict.{Conflict}
 use Rattle.sn_sync.specs.declared.answer.Conflict.TheVariants as conflict
@@ -21,22 +22,6 @@ use Rattle.sn_account.specs.Sessions.{IsSession}
 use Rattle.sn_account.specs.Sound.{IsSound}
 use Rattle.sn_account.specs.Stored.{IsGiven}
 use Rattle.sn_account.specs.Syncs.{IsStampOf, above_of, is_first}
-
-abbrev pub uuids : List Item → List Bytes
-uuids items = map (λ i. i.uuid) items
-
-abbrev pub item_of : Conflict → Item
-item_of (conflict.Sync server) = server
-item_of (conflict.Uuid unsaved) = unsaved
-item_of (conflict.Content unsaved) = unsaved
-
-abbrev pub conflict_uuids : List Conflict → List Bytes
-conflict_uuids conflicts = map (λ c. (item_of c).uuid) conflicts
-
--- none stands twice
-abbrev pub AreApart : List Bytes → Type 0
-AreApart [] = Unit {0}
-AreApart (u ∷ us) = ¬ (Contains us u) × AreApart us
 
 -- the account has the item so
 abbrev pub IsStored : Rows → ℕ → Item → Type 0

@@ -16,6 +16,8 @@ mod names;
 pub mod page;
 mod pages;
 pub mod passwords;
+mod place;
+mod places;
 mod refusals;
 mod replies;
 mod row_tests;

@@ -9,6 +9,7 @@ ghost use Rattle.sn_rows.specs.declared.key.Key.{Key};
 ghost use Rattle.sn_rows.specs.declared.value.Value.{Value};
 
 use crate::names::Names;
+use crate::places::Places;
 use crate::state::State;
 use sn_row_map::RowMap;
 use sn_rows::{Change, Key, Row, Value};
@@ -29,11 +30,13 @@ impl State {
         names.add_all(&puts)?;
         let mut map = RowMap::new(alloc);
         map.add_all(puts)?;
+        let places = Places::of_rows(alloc, &map)?;
         Ok(State {
             alloc,
             rows: map,
             marked: Many::new(alloc),
             names,
+            places,
         })
     }
 
@@ -47,8 +50,12 @@ impl State {
         ensures rooms { HasNoRooms self.old → HasNoRooms self.new }
     {
         let marked = twins(self.alloc, changes)?;
-        if self.names.add_all(changes).is_err() || self.rows.make_room_for(changes).is_err() {
+        if self.names.add_all(changes).is_err()
+            || self.places.add_all(&self.rows, changes).is_err()
+            || self.rows.make_room_for(changes).is_err()
+        {
             self.names.remove_all(&self.rows, changes);
+            self.places.sweep(&self.rows);
             self.rows.sweep_for(changes);
             return Err(AllocError);
         }
@@ -64,6 +71,7 @@ impl State {
     {
         let changes = mem::replace(&mut self.marked, Many::new(self.alloc));
         self.names.remove_all(&self.rows, changes.as_slice());
+        self.places.sweep(&self.rows);
         self.rows.sweep_for(changes.as_slice());
     }
 
@@ -75,6 +83,7 @@ impl State {
     {
         let changes = mem::replace(&mut self.marked, Many::new(self.alloc));
         self.rows.set_all(changes.into_vec());
+        self.places.sweep(&self.rows);
     }
 
     /// The row of a key. Takes no memory.

@@ -1,21 +1,10 @@
-//! A page of an account's items, and what it is made of.
+//! A page of an account's items.
 
 ghost use Rattle.std.specs.Prelude.{◌≤◌};
 ghost use Rattle.sn_sync.specs.Stamps.{last_stamp};
 
 use sn_string::Many;
 use sn_sync::Item;
-use std::collections::BTreeMap;
-use uuid::Uuid;
-
-/// The items that a page may give, and the greatest stamp of all items of the account, 0 where it has none.
-#[derive(Drop)]
-pub struct Candidates {
-    /// By the stamp of the last acceptance.
-    pub by_stamp: BTreeMap<u64, Uuid>,
-    pub greatest: u64,
-    pub ghost greatest_fits: { greatest ≤ last_stamp },
-}
 
 /// The items of a page as an answer gives them.
 #[derive(Drop)]

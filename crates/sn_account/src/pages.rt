@@ -1,21 +1,23 @@
 //! Pages of an account's items.
 
-ghost use Rattle.std.specs.Prelude.{◌≡◌, ◌≢◌, ◌↔◌, ◌⊎◌, ◌<◌, ◌≤◌, ℕ, Bool, IfOk, IsTrue, OnOk};
-ghost use Rattle.sn_account.specs.Candidates.{AreCandidates, AreThere, IsPageOf, Notes, NotesRow};
-ghost use Rattle.sn_account.specs.Pages.{most_bytes};
+ghost use Rattle.std.specs.Prelude.{◌≡◌, ◌≢◌, ◌↔◌, ◌⊎◌, ◌<◌, ◌≤◌, IfNone, IfOk, IfSome, IsTrue};
+ghost use Rattle.sn_account.specs.Lookups.{HasItem};
+ghost use Rattle.sn_account.specs.Pages.{IsCandidate, IsGreatest, IsPageOf, most_bytes};
+ghost use Rattle.sn_account.specs.Places.{IsAt};
 ghost use Rattle.sn_account.specs.Sound.{IsSound};
 ghost use Rattle.sn_account.specs.States.{IsUnmarked, state_rows};
+ghost use Rattle.sn_rows.specs.declared.server_rows.ItemRow.{ItemRow};
 ghost use Rattle.sn_sync.specs.Stamps.{last_stamp};
 
-use crate::page::{Candidates, Page};
+use crate::page::Page;
+use crate::place::Place;
+use crate::places::{bounds_above, is_at};
 use crate::state::State;
 use crate::stored::{given, weight};
-use sn_rows::{ItemRow, Key, RowKind, Value};
+use sn_rows::ItemRow;
 use sn_string::{MOST_BYTES, Many};
 use sn_sync::Item;
 use std::alloc::{AllocError, Global};
-use std::collections::BTreeMap;
-use uuid::Uuid;
 
 /// The next items of an account above a stamp, by rising stamp: at most so many, but at least one where there is one.
 /// A first page leaves deleted ones out.
@@ -31,103 +33,67 @@ pub(crate) fn next_page(
     requires sound { IsSound (state_rows state.now) }
     ensures { IfOk result (IsPageOf (state_rows state.now) number above first limit) }
 {
-    let candidates = candidates(alloc, state, number, above, first)?;
-    page_of(alloc, state, &candidates, limit)
-}
-
-// The candidates of a page, by a walk over all items.
-fn candidates(
-    alloc: Global,
-    state: &State,
-    number: u64,
-    above: u64,
-    first: bool,
-) -> Result<Candidates, AllocError>
-    requires unmarked { IsUnmarked state.now }
-    requires sound { IsSound (state_rows state.now) }
-    ensures { IfOk result (AreCandidates (state_rows state.now) number above first) }
-{
-    let mut candidates = Candidates {
-        by_stamp: BTreeMap::new(alloc),
-        greatest: 0,
-    };
-    let mut found = state.rows.first(RowKind::Item);
-    'rows: while let Some((key, value)) = found {
-        note_row(&mut candidates, key, value, number, above, first)?;
-        found = state.rows.next_after(key);
-    }
-    Ok(candidates)
-}
-
-// Takes note of one row.
-fn note_row(
-    candidates: &mut Candidates,
-    key: &Key,
-    value: &Value,
-    number: u64,
-    above: u64,
-    first: bool,
-) -> Result<(), AllocError>
-    ensures { OnOk result (NotesRow number above first candidates.old key.now value.now candidates.new) }
-{
-    match (key, value) {
-        (Key::Item(uuid), Value::Item(row)) => note(candidates, *uuid, row, number, above, first),
-        _ => Ok(()),
-    }
-}
-
-// Takes note of one item.
-fn note(
-    candidates: &mut Candidates,
-    uuid: Uuid,
-    row: &ItemRow,
-    number: u64,
-    above: u64,
-    first: bool,
-) -> Result<(), AllocError>
-    ensures { OnOk result (Notes number above first candidates.old uuid row.now candidates.new) }
-{
-    if row.account() != number {
-        return Ok(());
-    }
-    candidates.greatest = candidates.greatest.max(row.updated());
-    if row.updated() <= above || (first && row.is_deleted()) {
-        return Ok(());
-    }
-    match candidates.by_stamp.insert(row.updated(), uuid) {
-        Ok(_) => Ok(()),
-        Err(_) => Err(AllocError),
-    }
-}
-
-// The first of the candidates, as many as fit.
-fn page_of(
-    alloc: Global,
-    state: &State,
-    candidates: &Candidates,
-    limit: u32,
-) -> Result<Page, AllocError>
-    requires unmarked { IsUnmarked state.now }
-    requires there { AreThere (state_rows state.now) candidates.now }
-    ensures { (n above : ℕ) (first : Bool) → AreCandidates (state_rows state.now) n above first candidates.now
-        → IfOk result (IsPageOf (state_rows state.now) n above first limit) }
-{
+    let greatest = greatest(state, number);
     let mut items = Many::new(alloc);
     let mut last = 0;
     let mut bytes = 0;
-    'stamps: for (stamp, uuid) in candidates.by_stamp.iter() {
-        let Some(row) = state.item(*uuid) else {
-            unreachable!();
+    'places: for place in state.places.entries.range(bounds_above(number, above)) {
+        let Some(row) = candidate_at(state, *place, number, above, first) else {
+            continue;
         };
         let sum = bytes + weight(row);
         if is_full(items.len(), limit, sum) {
-            return Ok(page_with(items, last, true, candidates.greatest));
+            return Ok(page_with(items, last, true, greatest));
         }
-        items.push(given(alloc, *uuid, row)?)?;
-        last = *stamp;
+        items.push(given(alloc, place.uuid, row)?)?;
+        last = place.stamp;
         bytes = sum;
     }
-    Ok(page_with(items, last, false, candidates.greatest))
+    Ok(page_with(items, last, false, greatest))
+}
+
+// The greatest stamp of an account's items, 0 where it has none.
+fn greatest(state: &State, number: u64) -> u64
+    requires unmarked { IsUnmarked state.now }
+    requires sound { IsSound (state_rows state.now) }
+    ensures greatest { IsGreatest (state_rows state.now) number result }
+    ensures bound { result ≤ last_stamp }
+{
+    let mut places = state.places.entries.range(bounds_above(number, 0));
+    'places: while let Some(place) = places.next_back() {
+        if let Some(row) = candidate_at(state, *place, number, 0, false) {
+            return row.updated();
+        }
+    }
+    0
+}
+
+// The item that stands at a place, if it is one that a page may give.
+fn candidate_at(
+    state: &State,
+    place: Place,
+    number: u64,
+    above: u64,
+    first: bool,
+) -> Option<&ItemRow>
+    requires { IsUnmarked state.now }
+    ensures some { IfSome result (λ row. HasItem (state_rows state.now) place.uuid row.now × IsAt place row.now
+        × IsCandidate number above first row.now) }
+    ensures none { IfNone result ((row : ItemRow) → HasItem (state_rows state.now) place.uuid row → IsAt place row
+        → ¬ (IsCandidate number above first row)) }
+{
+    let row = state.item(place.uuid)?;
+    if is_at(place, row) && is_candidate(row, number, above, first) {
+        return Some(row);
+    }
+    None
+}
+
+// Whether a page may give the item.
+fn is_candidate(row: &ItemRow, number: u64, above: u64, first: bool) -> bool
+    ensures { IsTrue result ↔ IsCandidate number above first row.now }
+{
+    row.account() == number && above < row.updated() && !(first && row.is_deleted())
 }
 
 // Whether so many items, with one more so many bytes, leave no room for that one. The first has room in any case.

@@ -2,10 +2,12 @@
 
 ghost use Rattle.std.specs.Prelude.{All};
 ghost use Rattle.sn_account.specs.Names.{ListsChange, ListsRows, lists_changes-prop, lists_rows-prop};
+ghost use Rattle.sn_account.specs.Places.{PlacesChange, PlacesRows, places_changes-prop, places_rows-prop};
 ghost use Rattle.sn_account.specs.Room.{all_fit-prop};
 ghost use Rattle.sn_row_map.specs.RowMaps.{FitsIn};
 
 use crate::names::Names;
+use crate::places::Places;
 use sn_row_map::RowMap;
 use sn_rows::Change;
 use sn_string::Many;
@@ -20,9 +22,13 @@ pub struct State {
     pub(crate) marked: Many<Change>,
     // The accounts of the rows and of the marked changes, by their identifiers.
     pub(crate) names: Names,
+    // The places of the items of both.
+    pub(crate) places: Places,
     pub(crate) ghost fits: { All (FitsIn rows) marked } by { all_fit-prop rows marked },
     pub(crate) ghost listed: { ListsRows names rows } by { lists_rows-prop names rows },
     pub(crate) ghost added: { All (ListsChange names) marked } by { lists_changes-prop names marked },
+    pub(crate) ghost placed: { PlacesRows places rows } by { places_rows-prop places rows },
+    pub(crate) ghost to_place: { All (PlacesChange places) marked } by { places_changes-prop places marked },
 }
 
 impl State {
@@ -37,11 +43,13 @@ impl State {
         ensures unmarked { IfOk result IsUnmarked }
     {
         let names = Names::of_rows(alloc, &rows)?;
+        let places = Places::of_rows(alloc, &rows)?;
         Ok(State {
             alloc,
             rows,
             marked: Many::new(alloc),
             names,
+            places,
         })
     }
 }

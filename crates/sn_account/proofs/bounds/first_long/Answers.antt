@@ -1,4 +1,4 @@
-use Rattle.std.proofs.Common.{◌≡◌, ◌<◌, ◌≤◌, suc, drop, get_or, take, length, List, refl, subst, arith}
+use Rattle.std.proofs.Common.{◌≤◌, suc, drop, take, length, List, refl, subst, arith}
 use Rattle.std.proofs.lemmas.List.{take_all}
 use Rattle.std.proofs.lemmas.List.Elements.{All-more}
 use Rattle.sn_sync.specs.declared.item.Item.{Item}

@@ -1,7 +1,6 @@
-use Rattle.std.proofs.Common.{[], ◌∷◌, refl, sym, ap, arith}
+use Rattle.std.proofs.Common.{[], ◌∷◌, refl, arith}
 use Rattle.std.proofs.lemmas.List.Elements.{All-cons, All-nil}
-use Rattle.sn_account.specs.Lookups.{Bytes}
-use Rattle.sn_account.specs.Syncs.{IsFirstLongIn, IsShort}
+use Rattle.sn_account.specs.Syncs.{IsShort}
 use Rattle.sn_account.proofs.bounds.long_in.Goals as goal
 
 pub returns-then-len-gt-MOST_STRING-clause-some : goal.returns-then-len-gt-MOST_STRING-clause-some

@@ -1,4 +1,4 @@
-use Rattle.std.proofs.Common.{◌≡◌, ◌≤◌, arith}
+use Rattle.std.proofs.Common.{◌≤◌, arith}
 use Rattle.sn_sync.specs.Stamps.{last_stamp}
 use Rattle.sn_account.proofs.IncomingLemmas.{not_holds, takes_new_ok, takes_unread}
 use Rattle.sn_account.proofs.incoming.effect_of_news.Goals as goal

@@ -1,6 +1,5 @@
-use Rattle.std.proofs.Common.{◌≡◌, ◌∙◌, inl, inr, refl, sym}
+use Rattle.std.proofs.Common.{◌∙◌, inr, refl, sym}
 use Rattle.sn_account.specs.Incoming.{IsNews}
-use Rattle.sn_account.specs.Taking.{IsEffect}
 use Rattle.sn_account.proofs.IncomingLemmas.{not_holds, takes_foreign, takes_other, takes_same}
 use Rattle.sn_account.proofs.incoming.effect_on.Goals as goal
 

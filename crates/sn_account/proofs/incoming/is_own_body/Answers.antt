@@ -1,4 +1,3 @@
-use Rattle.std.proofs.Common.{◌≡◌, subst, sym}
 use Rattle.sn_account.proofs.IncomingLemmas.{own_not_first, own_second}
 use Rattle.sn_account.proofs.incoming.is_own_body.Goals as goal
 

@@ -1,4 +1,4 @@
-use Rattle.sn_account.proofs.IncomingLemmas.{other_read, own_none, own_read}
+use Rattle.sn_account.proofs.IncomingLemmas.{own_none, own_read}
 use Rattle.sn_account.proofs.incoming.is_own_string.Goals as goal
 
 pub returns-in-Err : goal.returns-in-Err

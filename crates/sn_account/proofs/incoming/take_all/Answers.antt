@@ -1,8 +1,8 @@
-use Rattle.std.proofs.Common.{◌≡◌, ◌<◌, ◌≤◌, length, subst, arith}
+use Rattle.std.proofs.Common.{◌<◌, ◌≤◌, arith}
 use Rattle.sn_account.specs.Pages.{most_bytes}
 use Rattle.sn_account.specs.States.{state_rows}
 use Rattle.sn_account.specs.Syncs.{start}
-use Rattle.sn_account.specs.Taking.{IsEffect, progress}
+use Rattle.sn_account.specs.Taking.{progress}
 use Rattle.sn_account.proofs.IncomingLemmas.{takes_effect}
 use Rattle.sn_account.proofs.TakesLemmas.{runs_out, takes_front, takes_more}
 use Rattle.sn_account.proofs.incoming.take_all.Goals as goal

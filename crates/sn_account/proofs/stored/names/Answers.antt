@@ -1,4 +1,4 @@
-use Rattle.std.proofs.Common.{◌≡◌, ◌∙◌, ℕ, Some, sym, ap, subst, arith, eqb-true, eq-eqb}
+use Rattle.std.proofs.Common.{◌≡◌, ◌∙◌, ℕ, sym, subst, eqb-true, eq-eqb}
 use Rattle.sn_sync.specs.Stamps.{IsStampText}
 use Rattle.sn_sync.proofs.OneStamp.{one_stamp}
 use Rattle.sn_account.specs.Lookups.{Bytes}

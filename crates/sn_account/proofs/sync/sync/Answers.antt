@@ -1,4 +1,3 @@
-use Rattle.std.proofs.Common.{◌≡◌}
 use Rattle.sn_account.specs.Sessions.{IsSession}
 use Rattle.sn_account.specs.States.{state_rows}
 use Rattle.sn_account.proofs.SyncLemmas.{syncs_ok}

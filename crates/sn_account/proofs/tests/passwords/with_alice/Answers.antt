@@ -1,7 +1,6 @@
 use Rattle.std.proofs.Common.{sym, subst, List}
 use Rattle.sn_rows.specs.Table.{Rows, rows_after}
 use Rattle.sn_rows.specs.declared.change.Change.{Change}
-use Rattle.sn_account.specs.Rules.{Registers}
 use Rattle.sn_account.specs.Sound.{IsSound}
 use Rattle.sn_account.specs.States.{state_rows}
 use Rattle.sn_account.proofs.FirstLemmas.{sound_after}
