@@ -1,5 +1,7 @@
+pub mod FirstBatch
 pub mod Gaining
 pub mod Handles
+pub mod LoadMoments
 pub mod Opening
 pub mod Owned
 pub mod Running

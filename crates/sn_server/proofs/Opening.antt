@@ -2,12 +2,10 @@
 use Rattle.std.specs.Prelude.{◌≡◌, ◌⊎◌, ◌++◌, ℕ, Bool, true, false, not, List, [], ◌∷◌, Option, Some, None, Result, Ok, Err, IfOk, IfErr, if◌then◌else◌}
 use Rattle.std.specs.Borrow.{Bor}
 use Rattle.std.specs.Option.{is_some}
-use Rattle.std.proofs.Common.{inl, inr, ⊎_elim, refl, ◌∙◌, ap, subst}
+use Rattle.std.proofs.Common.{inl, inr, refl, ◌∙◌, ap, subst}
 use Rattle.std.proofs.Math.Path.{fun_ext}
 use Rattle.rand_chacha.specs.ChaCha.{ChaCha}
 use Rattle.sn_items.specs.Draws.{drawn}
-use Rattle.sn_disk.specs.declared.disk.Disk.{Ghosts}
-use Rattle.sn_journal.specs.declared.owner.Owner.{Owner}
 use Rattle.sn_journal.specs.declared.owner.Owner.TheVariants.{Server as ServerOwner}
 use Rattle.sn_row_map.specs.RowMaps.{row_in}
 use Rattle.sn_row_map.specs.Steps.{IsFirst as IsFirstRow, lent}
@@ -23,13 +21,10 @@ use Rattle.sn_account.specs.Sound.{IsSound}
 use Rattle.sn_account.specs.Unsound.{IsFirstUnsound}
 use Rattle.sn_account.proofs.FirstLemmas.{first_sound}
 use Rattle.sn_table.specs.Batches.{IsStore}
-use Rattle.sn_table.specs.Facts.{log_each}
-use Rattle.sn_table.specs.Logs.{StandsFor, log_disk, log_owner}
-use Rattle.sn_table.specs.declared.log.Log.{Log}
 use Rattle.sn_server.specs.Beginning.{IsBegun, PutsFirst}
 use Rattle.sn_server.specs.Emptiness.{IsKindEmptyIff}
-use Rattle.sn_server.specs.Loads.{EachStandsOrBegins, EachStandsOrBeginsOneOf, HasSome, IsEmpty, IsFirst, IsLoaded, IsOpenError, IsServerError, Opens, kept_of, secret_of}
-use Rattle.sn_server.specs.Stores.{Kept, MayHave}
+use Rattle.sn_server.specs.Loads.{HasSome, IsEmpty, IsFirst, IsLoaded, IsOpenError, IsServerError, Opens, kept_of}
+use Rattle.sn_server.specs.Stores.{Kept}
 use Rattle.sn_server.specs.declared.error.ServerError.{ServerError}
 use Rattle.sn_server.specs.declared.error.ServerError.TheVariants.{Foreign, Damaged, Rows as UnsoundRows, DiskFault, Memory}
 
@@ -39,6 +34,10 @@ kind_empty map kind None false first is = absurd cc
 kind_empty map kind (Some row) true first is = absurd cc
 kind_empty map kind (Some row) false first is = (row.0.now, row.1.now, first.stands)
 
+-- a list that was empty has just what was put into it
+pub just_one : (changes old : List Change) (change : Change) → changes ≡ old ++ change ∷ [] → old ≡ [] → changes ≡ change ∷ []
+just_one changes old change is none = is ∙ ap (λ (l : List Change). l ++ change ∷ []) none
+
 pub first_of : (secret : List ℕ) (changes old : List Change) (change : Change) → PutsFirst secret change → changes ≡ old ++ change ∷ [] → old ≡ [] → IsFirst secret changes
 first_of secret changes old change p is none = record {
   store = p.store;
@@ -47,7 +46,7 @@ first_of secret changes old change p is none = record {
   accounts = p.accounts;
   change = change;
   puts = p.puts;
-  changes_are = is ∙ ap (λ (l : List Change). l ++ change ∷ []) none;
+  changes_are = just_one changes old change is none;
 }
 
 pub begun_sound : (rows base now : Rows) (secret : List ℕ) (changes : List Change) → IsEmpty rows → IsFirst secret changes → base ≡ rows → now ≡ rows_after base changes → IsSound now
@@ -63,41 +62,18 @@ begun_sound rows base now secret changes empty first base_is now_is =
 abbrev pub rows_with : List (List Change) → Rows → Kept
 rows_with batches rows = record { rows = rows; batches = batches }
 
-module _ {D : Type 0} {g : Ghosts D} where
-  -- a log that is given up leaves its batches
-  pub stands_each : (log : Log D g) (disk : D) (kept : Kept) (secret : List ℕ) → log_owner log ≡ ServerOwner → StandsFor log kept.batches → disk ≡ log_disk log
-      → EachStandsOrBegins g.may_leave kept secret disk
-  stands_each log disk kept secret owner stands same = λ c left.
-      inl (subst (λ (o : Owner). IsStore o c kept.batches) owner (log_each log kept.batches stands c (subst (λ (d : D). g.may_leave d c) same left)))
-
-  pub checked_each : {S E : Type 0} (log : Log D g) (kept : Kept) (secret : List ℕ) (result : Result S (D × E)) → log_owner log ≡ ServerOwner → StandsFor log kept.batches
-      → IfErr result (λ refusal. refusal.0 ≡ log_disk log) → IfErr result (λ refusal. EachStandsOrBegins g.may_leave kept secret refusal.0)
-  checked_each log kept secret (Ok server) owner stands same = same
-  checked_each log kept secret (Err refusal) owner stands same = stands_each log refusal.0 kept secret owner stands same
-
--- a first commit in which the disk failed
-pub begins_each : {D : Type 0} (told : Type 0) (may_leave : D → List ℕ → Type 0) (disk : D) (kept : Kept) (secret : List ℕ) (changes : List Change) → told → IsEmpty kept.rows
-    → IsFirst secret changes → MayHave told may_leave disk kept changes → EachStandsOrBegins may_leave kept secret disk
-begins_each told may_leave disk kept secret changes t empty first may = λ c left. ⊎_elim (λ s. inl s) (λ s. inr (empty, changes, first, s)) (may t c left)
-
-module _ {S D E : Type 0} (is_open : S → Kept → Type 0) (may_leave : D → List ℕ → Type 0) (words now_words : ChaCha) (result : Result S (D × E)) where
-  -- what loading leaves of these rows and batches
-  abbrev pub LoadEnds : Kept → Type 0
-  LoadEnds kept = IfOk result (Opens is_open kept words now_words) × IfErr result (λ refusal. EachStandsOrBegins may_leave kept (secret_of words) refusal.0)
-
+module _ {S E : Type 0} (is_open : S → Kept → Type 0) (words now_words : ChaCha) (result : Result S E) where
   -- the rows are those of the batches
-  pub same_ends : (batches : List (List Change)) (rows : Rows) → ((k : Key) → rows k ≡ rows_of_batches batches k) → LoadEnds (rows_with batches rows) → LoadEnds (kept_of batches)
-  same_ends batches rows are ends = subst (λ (r : Rows). LoadEnds (rows_with batches r)) (fun_ext are) ends
+  pub same_opens : (batches : List (List Change)) (rows : Rows) → ((k : Key) → rows k ≡ rows_of_batches batches k) → IfOk result (Opens is_open (rows_with batches rows) words now_words)
+      → IfOk result (Opens is_open (kept_of batches) words now_words)
+  same_opens batches rows are opens = subst (λ (r : Rows). IfOk result (Opens is_open (rows_with batches r) words now_words)) (fun_ext are) opens
 
 -- .. of the one or the other
-pub either_ends : {S D E : Type 0} (is_open : S → Kept → Type 0) (may_leave : D → List ℕ → Type 0) (words now_words : ChaCha) (one other : Kept) (result : Result S (D × E))
-    → LoadEnds is_open may_leave words now_words result one ⊎ LoadEnds is_open may_leave words now_words result other
+pub either_opens : {S E : Type 0} (is_open : S → Kept → Type 0) (words now_words : ChaCha) (one other : Kept) (result : Result S E)
+    → IfOk result (Opens is_open one words now_words) ⊎ IfOk result (Opens is_open other words now_words)
     → IfOk result (λ server. Opens is_open one words now_words server ⊎ Opens is_open other words now_words server)
-    × IfErr result (λ refusal. EachStandsOrBeginsOneOf may_leave one other (secret_of words) refusal.0)
-either_ends is_open may_leave words now_words one other (Ok server) (inl ends) = (inl ends.0, ends.1)
-either_ends is_open may_leave words now_words one other (Ok server) (inr ends) = (inr ends.0, ends.1)
-either_ends is_open may_leave words now_words one other (Err refusal) (inl ends) = (ends.0, λ c left. inl (ends.1 c left))
-either_ends is_open may_leave words now_words one other (Err refusal) (inr ends) = (ends.0, λ c left. inr (ends.1 c left))
+either_opens is_open words now_words one other (Ok server) opens = opens
+either_opens is_open words now_words one other (Err error) opens = tt
 
 module _ {S : Type 0} (is_open : S → Kept → Type 0) where
   pub opens_begun : {E : Type 0} (kept : Kept) (words now_words : ChaCha) (secret : List ℕ) (result : Result S E) → IsEmpty kept.rows → (secret, now_words) ≡ drawn 32 words

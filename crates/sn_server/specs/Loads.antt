@@ -3,6 +3,7 @@ use Rattle.std.specs.Prelude.{◌≡◌, ◌⊎◌, ℕ, List, [], ◌∷◌, �
 use Rattle.rand_chacha.specs.ChaCha.{ChaCha}
 use Rattle.sn_io.specs.Causes.{Rose}
 use Rattle.sn_items.specs.Draws.{drawn}
+use Rattle.sn_journal.specs.Image.{SameBatches}
 use Rattle.sn_journal.specs.Loading.{IsForeign, IsDamaged}
 use Rattle.sn_journal.specs.declared.owner.Owner.TheVariants.{Server as ServerOwner}
 use Rattle.sn_rows.specs.Table.{Puts, Rows, rows_of_batches}
@@ -60,13 +61,35 @@ abbrev pub StandsOrBegins : Kept → List ℕ → List ℕ → Type 0
 StandsOrBegins kept secret c = IsStore ServerOwner c kept.batches
     ⊎ (IsEmpty kept.rows × (changes : List Change) × IsFirst secret changes × IsStore ServerOwner c (kept.batches ++ changes ∷ []))
 
--- each outcome of a crash does
-abbrev pub EachStandsOrBegins : {D : Type 0} → (D → List ℕ → Type 0) → Kept → List ℕ → D → Type 0
-EachStandsOrBegins may_leave kept secret disk = (c : List ℕ) → may_leave disk c → StandsOrBegins kept secret c
+-- .. the one or the other of two lists of batches
+abbrev pub StandsOrBeginsOneOf : Kept → Kept → List ℕ → List ℕ → Type 0
+StandsOrBeginsOneOf one other secret c = StandsOrBegins one secret c ⊎ StandsOrBegins other secret c
 
--- .. of one of these two
-abbrev pub EachStandsOrBeginsOneOf : {D : Type 0} → (D → List ℕ → Type 0) → Kept → Kept → List ℕ → D → Type 0
-EachStandsOrBeginsOneOf may_leave one other secret disk = (c : List ℕ) → may_leave disk c → StandsOrBegins one secret c ⊎ StandsOrBegins other secret c
+-- what a crash might have left before, or bytes of the same batches as the file's
+abbrev pub Stays : (List ℕ → Type 0) → List ℕ → List ℕ → Type 0
+Stays before file c = before c ⊎ SameBatches ServerOwner file c
+
+-- The file stands for batches that leave no row, and these bytes for them with the whole first commit.
+pub record Begins (file secret c : List ℕ) : Type 0 where
+  pub batches : List (List Change)
+  pub store : IsStore ServerOwner file batches
+  pub empty : IsEmpty (rows_of_batches batches)
+  pub changes : List Change
+  pub first : IsFirst secret changes
+  pub begun : IsStore ServerOwner c (batches ++ changes ∷ [])
+
+-- what a crash leaves at any moment of a load
+abbrev pub StaysOrBegins : (List ℕ → Type 0) → List ℕ → List ℕ → List ℕ → Type 0
+StaysOrBegins before file secret c = Stays before file c ⊎ Begins file secret c
+
+-- What it leaves where the load is refused so. The first commit is begun only where the disk fails in it. Of a file that is
+-- foreign, or damaged at a batch that isn't whole, a crash leaves just what it might have left before.
+abbrev pub StaysRefused : ServerError → (List ℕ → Type 0) → List ℕ → List ℕ → List ℕ → Type 0
+StaysRefused (Foreign place) before file secret c = before c
+StaysRefused (Damaged place) before file secret c = before c ⊎ (IsDamagedBatch ServerOwner file place × SameBatches ServerOwner file c)
+StaysRefused (UnsoundRows kind) before file secret c = Stays before file c
+StaysRefused DiskFault before file secret c = StaysOrBegins before file secret c
+StaysRefused Memory before file secret c = Stays before file c
 
 -- the secret that is drawn from the words
 abbrev pub secret_of : ChaCha → List ℕ

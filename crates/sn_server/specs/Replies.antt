@@ -18,7 +18,7 @@ use Rattle.sn_server.specs.declared.reply.Reply.{Reply}
 abbrev pub reply_bytes : Reply → List ℕ
 reply_bytes reply = answer reply.status reply.allow reply.closing reply.body
 
--- memory was wanting
+-- memory was wanting; no commit is refused for another cause
 abbrev pub no_memory : Answer
 no_memory = Refused 503 (codes "memory") Nothing
 

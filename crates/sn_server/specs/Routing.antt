@@ -3,6 +3,7 @@ use Rattle.std.specs.Prelude.{◌≡◌, ◌≢◌, ◌⊎◌, ℕ, ◌==◌, Li
 use Rattle.std.specs.Str.{bytes_eq}
 use Rattle.sn_http.specs.declared.message.Message.{Message}
 use Rattle.sn_sync.specs.Requests.{IsRequest, RefusesRequest}
+use Rattle.sn_sync.specs.Routes.{method_of, path_to}
 use Rattle.sn_sync.specs.declared.answer.Answer.{Answer}
 use Rattle.sn_sync.specs.declared.answer.Answer.TheVariants as answer
 use Rattle.sn_sync.specs.declared.answer.More.TheVariants as more
@@ -24,19 +25,12 @@ query_of (byte ∷ bytes) = if byte == 63 then bytes else query_of bytes
 
 abbrev pub route_at : List ℕ → Option Route
 route_at path =
-    if bytes_eq path (codes "/auth") then Some route.Register
-    else if bytes_eq path (codes "/auth/params") then Some route.Params
-    else if bytes_eq path (codes "/auth/sign_in") then Some route.SignIn
-    else if bytes_eq path (codes "/auth/change_pw") then Some route.ChangePw
-    else if bytes_eq path (codes "/items/sync") then Some route.Sync
+    if bytes_eq path (path_to route.Register) then Some route.Register
+    else if bytes_eq path (path_to route.Params) then Some route.Params
+    else if bytes_eq path (path_to route.SignIn) then Some route.SignIn
+    else if bytes_eq path (path_to route.ChangePw) then Some route.ChangePw
+    else if bytes_eq path (path_to route.Sync) then Some route.Sync
     else None
-
-abbrev pub method_of : Route → List ℕ
-method_of route.Register = codes "POST"
-method_of route.Params = codes "GET"
-method_of route.SignIn = codes "POST"
-method_of route.ChangePw = codes "POST"
-method_of route.Sync = codes "POST"
 
 -- the text that is read: for parameters the query, else the body
 abbrev pub text_of : Route → Message → List ℕ

@@ -1,9 +1,11 @@
 //! One request: its rule, its commit, and then its answer.
 
-ghost use Rattle.std.specs.Prelude.{◌≡◌, ◌⊎◌, [], All, IfOk};
+ghost use Rattle.std.specs.Prelude.{◌≡◌, ◌≤◌, ◌⊎◌, [], All, IfOk, length};
 ghost use Rattle.sn_account.specs.Rule.{Rule};
 ghost use Rattle.sn_account.specs.Sound.{IsSound};
 ghost use Rattle.sn_account.specs.States.{IsUnmarked, state_rows};
+ghost use Rattle.sn_journal.specs.Image.{most_payload};
+ghost use Rattle.sn_rows.specs.Spelling.{spelled};
 ghost use Rattle.sn_rows.specs.Table.{rows_after};
 ghost use Rattle.sn_sync.specs.Laws.{FitsRequest};
 ghost use Rattle.sn_sync.specs.declared.answer.Answer.{Answer};
@@ -21,7 +23,7 @@ use sn_http::Message;
 use sn_rows::Change;
 use sn_string::{Many, Text};
 use sn_sync::{Answer, More, Request};
-use sn_table::Committed;
+use sn_table::{CommitError, Committed};
 use std::alloc::{AllocError, Global};
 
 /// What became of a request at a server `S` on a disk `D`.
@@ -80,7 +82,10 @@ impl<D: Disk> Server<D> {
         } = ruled;
         match self.commit(changes.as_slice()) {
             Committed::Done(server) => Handled::Done(server, given),
-            Committed::Refused(server, _) => Handled::Done(server, in_place_of(given)),
+            Committed::Refused(server, error) => match error {
+                CommitError::Memory => Handled::Done(server, in_place_of(given)),
+                CommitError::TooLarge { .. } => unreachable!(),
+            },
             Committed::Broken(disk) => {
                 in_place_of(given);
                 Handled::Broken(disk)
@@ -134,7 +139,10 @@ impl<D: Disk> Server<D> {
         };
         match self.commit(prepared.changes.as_slice()) {
             Committed::Done(server) => Replied::Done(server, prepared.reply),
-            Committed::Refused(server, _) => Replied::Done(server, Reply::unserved(closing)),
+            Committed::Refused(server, error) => match error {
+                CommitError::Memory => Replied::Done(server, Reply::unserved(closing)),
+                CommitError::TooLarge { .. } => unreachable!(),
+            },
             Committed::Broken(disk) => Replied::Broken(disk),
         }
     }
@@ -155,6 +163,7 @@ fn rule(alloc: Global, state: &State, request: &Request, now: u64) -> Result<Rul
     ensures rule { IfOk result (λ ruled. Rule (state_rows state.now) request.now now ruled.changes ruled.answer) }
     ensures sound { IfOk result (λ ruled. IsSound (rows_after (state_rows state.now) ruled.changes)) }
     ensures owned { IfOk result (λ ruled. All (IsOf ServerOwner) ruled.changes) }
+    ensures fits { IfOk result (λ ruled. length (spelled ruled.changes) ≤ most_payload) }
 {
     answer(alloc, state, request, now)
 }
@@ -173,6 +182,7 @@ fn prepare(
     ensures rule { IfOk result (λ p. (given : Answer) × Rule (state_rows state.now) request.now now p.changes given × IsSent given [] closing p.reply) }
     ensures sound { IfOk result (λ p. IsSound (rows_after (state_rows state.now) p.changes)) }
     ensures owned { IfOk result (λ p. All (IsOf ServerOwner) p.changes) }
+    ensures fits { IfOk result (λ p. length (spelled p.changes) ≤ most_payload) }
 {
     let ruled = rule(alloc, state, request, now)?;
     written(alloc, ruled, closing)

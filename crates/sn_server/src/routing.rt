@@ -2,7 +2,7 @@
 
 ghost use Rattle.std.specs.Prelude.{◌≡◌, ◌+◌, ◌≤◌, [], length, take, drop, IfErr, IfOk};
 ghost use Rattle.std.specs.Str.{IsUtf8};
-ghost use Rattle.sn_server.specs.Routing.{AsksFor, method_of, path_of, query_of, route_at, text_of};
+ghost use Rattle.sn_server.specs.Routing.{AsksFor, path_of, query_of, route_at, text_of};
 ghost use Rattle.sn_server.specs.Turning.{IsTurned, IsUnreadFor};
 ghost use Rattle.sn_sync.specs.Laws.{FitsRequest};
 ghost use Rattle.sn_server.specs.declared.routing.Turned.TheVariants.{Away};
@@ -30,8 +30,8 @@ pub(crate) fn request_of(alloc: Global, message: &Message) -> Result<Request, Tu
     let Some(route) = route_at(path_of(message.target.as_slice())) else {
         return Err(refused(404, "no-route", ""));
     };
-    if message.method.as_slice() != method_of(route).as_bytes() {
-        return Err(refused(405, "method", method_of(route)));
+    if message.method.as_slice() != route.method().as_bytes() {
+        return Err(refused(405, "method", route.method()));
     }
     let Ok(token) = str::from_utf8(message.token.as_slice()) else {
         unreachable!()
@@ -85,27 +85,18 @@ fn bad(status: u16, tag: &'static str, more: More) -> Turned
 fn route_at(path: &[u8]) -> Option<Route>
     ensures { result ≡ route_at path.now }
 {
-    if path == b"/auth".as_slice() {
+    if path == Route::Register.path().as_bytes() {
         Some(Route::Register)
-    } else if path == b"/auth/params".as_slice() {
+    } else if path == Route::Params.path().as_bytes() {
         Some(Route::Params)
-    } else if path == b"/auth/sign_in".as_slice() {
+    } else if path == Route::SignIn.path().as_bytes() {
         Some(Route::SignIn)
-    } else if path == b"/auth/change_pw".as_slice() {
+    } else if path == Route::ChangePw.path().as_bytes() {
         Some(Route::ChangePw)
-    } else if path == b"/items/sync".as_slice() {
+    } else if path == Route::Sync.path().as_bytes() {
         Some(Route::Sync)
     } else {
         None
-    }
-}
-
-fn method_of(route: Route) -> &'static str
-    ensures { result.now ≡ method_of route }
-{
-    match route {
-        Route::Params => "GET",
-        Route::Register | Route::SignIn | Route::ChangePw | Route::Sync => "POST",
     }
 }
 

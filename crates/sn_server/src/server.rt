@@ -24,10 +24,11 @@ pub struct Server<D: Disk> {
 
 impl<D: Disk> Server<D> {
     ghost use Rattle.std.specs.Prelude.{◌+◌, ◌*◌, ◌≤◌, ◌∷◌, [], List, ℕ, All, length};
+    ghost use Rattle.sn_disk.specs.Disk.{LeavesOnly};
     ghost use Rattle.sn_io.specs.Causes.{Rose};
     ghost use Rattle.sn_rows.specs.Table.{rows_after};
-    ghost use Rattle.sn_table.specs.Batches.{IsOf};
-    ghost use Rattle.sn_table.specs.Committing.{IfDone, IfRefused, IfBroken, disk_after};
+    ghost use Rattle.sn_table.specs.Batches.{IsAllOrNothing, IsOf};
+    ghost use Rattle.sn_table.specs.Committing.{IsCause, IfDone, IfRefused, IfBroken, disk_after};
     ghost use Rattle.sn_server.specs.Stores.{Kept, IsOpen, MayHave, after, batch_of, server_disk, server_rows};
 
     /// What it knows.
@@ -59,6 +60,9 @@ impl<D: Disk> Server<D> {
         ensures stays { (kept : Kept) → IsOpen self kept → IfRefused result (λ server error. IsOpen server kept) }
         ensures same { IfRefused result (λ server error. server_rows server ≡ server_rows self) }
         ensures still { IfRefused result (λ server error. server_disk server ≡ server_disk self) }
+        ensures cause { IfRefused result (λ server error. IsCause changes.now error) }
+        ensures any_moment { D.told → (kept : Kept) → IsOpen self kept →
+            LeavesOnly D.moment D.left_since (server_disk self) (disk_after server_disk result) (IsAllOrNothing ServerOwner kept.batches changes.now) }
         ensures broken { (kept : Kept) → IsOpen self kept → IfBroken result (λ disk. MayHave D.told D.may_leave disk kept changes.now) }
         ensures fault { IfBroken result (λ disk. Rose (D.fault_count (server_disk self)) (D.fault_count disk)) }
         ensures calls { D.told → IfDone result (λ server. D.moment (server_disk server) ≡ D.moment (server_disk self) + 4 * length (batch_of changes.now)) }

@@ -6,7 +6,7 @@ ghost use Rattle.sn_server.specs.Outcomes.{IfOver};
 ghost use Rattle.sn_server.specs.Stores.{server_rows};
 
 use crate::{Ended, Handled, Server, ServerError, Session};
-use sn_disk::{CrashImage, MemDisk, Stop};
+use sn_disk::{Call, CrashImage, MemDisk, Stop};
 use sn_io::{Failed, MemSink, MemSource};
 use sn_items::Words;
 use sn_net::MemClock;
@@ -250,6 +250,7 @@ fn refused_disks(rt: HostRuntime) -> Result<(), Fail> {
         };
         assert_eq!(rt; refused, error);
         assert_eq!(rt; disk.bytes(), file);
+        assert!(rt; matches!(disk.calls(), [Call::Synced]));
     }
     Ok(())
 }

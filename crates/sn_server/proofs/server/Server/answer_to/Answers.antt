@@ -7,8 +7,8 @@ pub returns-in-Done-clause-handled : goal.returns-in-Done-clause-handled
 returns-in-Done-clause-handled g c = λ kept stands.
     (c.as_slice.result.now, inl (ruled_on _ _ _ _ _ _ _ stands.rows_are c.as_slice.ensures c.in-Ok.ensures.rule), c.in-Done.ensures.done kept stands)
 
-pub returns-in-Refused-clause-handled : goal.returns-in-Refused-clause-handled
-returns-in-Refused-clause-handled g c = λ kept stands.
+pub returns-in-Memory-clause-handled : goal.returns-in-Memory-clause-handled
+returns-in-Memory-clause-handled g c = λ kept stands.
     ([], inr (refl, c.in_place_of.ensures), subst (λ (k : Kept). IsOpen c.in-Refused.server k) (sym (after_none kept)) (c.in-Refused.ensures.stays kept stands))
 
 pub returns-clause-handled : goal.returns-clause-handled
