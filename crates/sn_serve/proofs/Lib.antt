@@ -1,3 +1,4 @@
 pub mod OneList
 pub mod Stages
+pub mod Standing
 pub mod Visiting

@@ -14,20 +14,20 @@ use Rattle.sn_server.specs.declared.serving.Session.{Session}
 use Rattle.sn_server.specs.declared.serving.Session.TheVariants.{Over}
 use Rattle.sn_serve.specs.Visits.{Stand, Visit, AreVisits}
 
-steps_on : (kept : Kept) (steps more : List Step) → AreSteps kept steps → AreSteps (after_all kept steps) more → AreSteps kept (steps ++ more)
+pub steps_on : (kept : Kept) (steps more : List Step) → AreSteps kept steps → AreSteps (after_all kept steps) more → AreSteps kept (steps ++ more)
 steps_on kept [] more are on = on
 steps_on kept (step ∷ steps) more are on = (are.0, steps_on (after kept step.made) steps more are.1 on)
 
-after_on : (kept : Kept) (steps more : List Step) → after_all kept (steps ++ more) ≡ after_all (after_all kept steps) more
+pub after_on : (kept : Kept) (steps more : List Step) → after_all kept (steps ++ more) ≡ after_all (after_all kept steps) more
 after_on kept [] more = refl
 after_on kept (step ∷ steps) more = after_on (after kept step.made) steps more
 
 module _ {D : Type 0} {g : Ghosts D} where
   -- messages with which these rows become what a server has
-  abbrev Leads : Kept → Server D g → Type 0
+  abbrev pub Leads : Kept → Server D g → Type 0
   Leads kept server = (steps : List Step) × AreSteps kept steps × IsOpen server (after_all kept steps)
 
-  on : (kept : Kept) (steps more : List Step) (server : Server D g) → AreSteps kept steps → AreSteps (after_all kept steps) more
+  pub on : (kept : Kept) (steps more : List Step) (server : Server D g) → AreSteps kept steps → AreSteps (after_all kept steps) more
       → IsOpen server (after_all (after_all kept steps) more) → Leads kept server
   on kept steps more server are next stands =
       (steps ++ more, steps_on kept steps more are next, subst (λ (k : Kept). IsOpen server k) (sym (after_on kept steps more)) stands)
@@ -43,7 +43,7 @@ module _ {D : Type 0} {g : Ghosts D} where
   of_fault kept steps a b server are (inr (status, fails, part)) = (steps, are, fails.stands)
 
   -- the messages of a session that is over
-  of_session : (kept : Kept) (budget : ℕ) (a b : World) (server : Server D g) (how : Ended) (count : ℕ)
+  pub of_session : (kept : Kept) (budget : ℕ) (a b : World) (server : Server D g) (how : Ended) (count : ℕ)
       → SessionEnds {S = Server D g} {D = D} IsOpen (MayHave g.told g.may_leave) kept budget a b (Over server how count) → Leads kept server
   of_session kept budget a b server Budget count (steps, run, length_is, budget_is, stands) = (steps, run.serves.are, stands)
   of_session kept budget a b server End count (mid, steps, inl (length_is, ends)) = (steps, ends.run.serves.are, ends.ends.1.stands)

@@ -4,14 +4,18 @@ use Rattle.std.specs.declared.option.Option.{Option}
 use Rattle.std.specs.Fmt.{decimal}
 use Rattle.std.specs.Io.KnownBytes.{Appends}
 use Rattle.rand_chacha.specs.ChaCha.{ChaCha}
+use Rattle.sn_disk.specs.Disk.{LeavesOnly}
 use Rattle.sn_disk.specs.declared.disk.Disk.{Ghosts}
 use Rattle.sn_io.specs.Streams.{TakesPart}
+use Rattle.sn_journal.specs.declared.owner.Owner.TheVariants.{Server as ServerOwner}
 use Rattle.sn_net.specs.Connections.{Event}
-use Rattle.sn_server.specs.Loads.{IsLoaded, IsServerError}
+use Rattle.sn_rows.specs.declared.change.Change.{Change}
+use Rattle.sn_server.specs.Loads.{IsLoaded, IsServerError, Opens, StaysRefused, kept_of, secret_of}
 use Rattle.sn_server.specs.Stores.{IsOpen, server_disk}
 use Rattle.sn_server.specs.declared.error.ServerError.{ServerError}
 use Rattle.sn_server.specs.declared.error.ServerError.TheVariants as load
 use Rattle.sn_server.specs.declared.server.Server.{Server}
+use Rattle.sn_table.specs.Batches.{IsAllOrNothing, IsStore}
 use Rattle.sn_serve.specs.Hosting.{HostEnds}
 use Rattle.sn_serve.specs.Visits.{stand}
 use Rattle.sn_serve.specs.declared.ends.HostEnd.{HostEnd}
@@ -28,6 +32,15 @@ served_so host.Reached = Reached
 served_so host.PortFault = PortFault
 served_so host.DiskFault = DiskFault
 served_so host.Memory = Memory
+
+-- The server was loaded from this disk, with the words for what it draws: with what its bytes stand for, and with the batches
+-- that each crash might have left of it, of which it may have a last one whole or not at all.
+pub record LoadsFrom {D : Type 0} (g : Ghosts D) (disk : D) (words words_left : ChaCha) (server : Server D g) : Type 0 where
+  pub loaded : g.told → IsLoaded {S = Server D g} IsOpen (g.seen disk) words words_left server
+  pub same : g.told → (batches : List (List Change)) → ((c : List ℕ) → g.may_leave disk c → IsStore ServerOwner c batches)
+      → Opens {S = Server D g} IsOpen (kept_of batches) words words_left server
+  pub either : g.told → (batches : List (List Change)) (changes : List Change) → ((c : List ℕ) → g.may_leave disk c → IsAllOrNothing ServerOwner batches changes c)
+      → Opens {S = Server D g} IsOpen (kept_of batches) words words_left server ⊎ Opens {S = Server D g} IsOpen (kept_of (batches ++ changes ∷ [])) words words_left server
 
 -- what a server is handed beside its disk
 pub record Outside (P O C : Type 0) : Type 0 where
@@ -84,25 +97,26 @@ module _ {D P O C : Type 0} (g : Ghosts D) (goes : P → P → List Event → Ty
   ListenEnds server disk (Rows kind) = ⊥
   ListenEnds server disk Memory = IsUnwritten server disk ⊎ Hosts server disk host.Memory
 
-  -- the disk has no store that loads, for this cause, and all else is as it was
-  pub record IsUnloaded (disk : D) (back : D) (error : ServerError) : Type 0 where
+  -- The disk has no store that loads, for this cause. It isn't written over (`StaysRefused`), and all else is as it was.
+  pub record IsUnloaded (disk : D) (words : ChaCha) (back : D) (error : ServerError) : Type 0 where
     pub cause : IsServerError g.told (g.seen disk) (g.fault_count disk) (g.fault_count back) error
+    pub stays : g.told → LeavesOnly g.moment g.left_since disk back (StaysRefused error (g.may_leave disk) (g.seen disk) (secret_of words))
     pub untouched : new ≡ old
 
-  -- the disk's server was loaded, with the words for what it draws, and ended so
+  -- the disk's server was loaded, and ended so
   pub record IsServed (disk : D) (words : ChaCha) (back : D) (served : Served) : Type 0 where
     pub server : Server D g
     pub words_left : ChaCha
-    pub loaded : g.told → IsLoaded {S = Server D g} IsOpen (g.seen disk) words words_left server
+    pub loads : LoadsFrom g disk words words_left server
     pub ends : ListenEnds server back served
 
   -- how serving a disk ends
   abbrev pub DiskEnds : D → ChaCha → D → Served → Type 0
   DiskEnds disk words back Reached = IsServed disk words back Reached
-  DiskEnds disk words back DiskFault = IsUnloaded disk back load.DiskFault ⊎ IsServed disk words back DiskFault
+  DiskEnds disk words back DiskFault = IsUnloaded disk words back load.DiskFault ⊎ IsServed disk words back DiskFault
   DiskEnds disk words back PortFault = IsServed disk words back PortFault
   DiskEnds disk words back WriteFault = IsServed disk words back WriteFault
-  DiskEnds disk words back (Foreign place) = IsUnloaded disk back (load.Foreign place)
-  DiskEnds disk words back (Damaged place) = IsUnloaded disk back (load.Damaged place)
-  DiskEnds disk words back (Rows kind) = IsUnloaded disk back (load.Rows kind)
-  DiskEnds disk words back Memory = IsUnloaded disk back load.Memory ⊎ IsServed disk words back Memory
+  DiskEnds disk words back (Foreign place) = IsUnloaded disk words back (load.Foreign place)
+  DiskEnds disk words back (Damaged place) = IsUnloaded disk words back (load.Damaged place)
+  DiskEnds disk words back (Rows kind) = IsUnloaded disk words back (load.Rows kind)
+  DiskEnds disk words back Memory = IsUnloaded disk words back load.Memory ⊎ IsServed disk words back Memory

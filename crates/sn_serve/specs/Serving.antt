@@ -7,7 +7,10 @@ use Rattle.sn_disk.specs.declared.disk.Disk.{Ghosts}
 use Rattle.sn_io.specs.Causes.{Rose}
 use Rattle.sn_io.specs.Streams.{Gains}
 use Rattle.sn_net.specs.Connections.{Event}
+use Rattle.sn_rows.specs.declared.change.Change.{Change}
+use Rattle.sn_server.specs.Loads.{kept_of, secret_of}
 use Rattle.sn_serve.specs.Listening.{Outside, outside, DiskEnds}
+use Rattle.sn_serve.specs.Standing.{DiskStands, EachStands}
 use Rattle.sn_serve.specs.declared.ends.Served.{Served}
 use Rattle.sn_serve.specs.declared.ends.Served.TheVariants.{Reached, DiskFault, PortFault, WriteFault, Foreign, Damaged, Rows, Memory}
 
@@ -37,7 +40,7 @@ module _ {S D P O C R : Type 0} (g : Ghosts D) (told : Type 0) (slot : S → Lis
     pub untouched : outside_in new ≡ outside_in old
 
   -- The disk of this name was taken, and given back once serving had ended so. It is the same disk, gone on, and no other
-  -- has changed. One seed was drawn.
+  -- has changed. One seed was drawn. What a crash leaves of the disk then, `stands` says.
   pub record HasServed (served : Served) : Type 0 where
     pub disk : D
     pub back : D
@@ -48,6 +51,7 @@ module _ {S D P O C R : Type 0} (g : Ghosts D) (told : Type 0) (slot : S → Lis
     pub grows : g.grows disk back
     pub drew : Gains (drawn old.seeds) (drawn new.seeds) seed
     pub ends : DiskEnds g goes bound held given number requests (outside_in old) (outside_in new) disk (of_seed seed) back served
+    pub stands : g.told → (batches : List (List Change)) → EachStands g disk batches → DiskStands g (kept_of batches) (secret_of (of_seed seed)) back served
     pub cause : served ≡ DiskFault → Rose (g.fault_count disk) (g.fault_count back)
 
   -- how serving ends

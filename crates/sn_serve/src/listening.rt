@@ -4,9 +4,12 @@ ghost use Rattle.std.specs.Fmt.{decimal};
 ghost use Rattle.std.specs.Io.KnownBytes.{Appends};
 ghost use Rattle.sn_io.specs.Causes.{Rose, HasCause};
 ghost use Rattle.sn_io.specs.Streams.{TakesPart};
+ghost use Rattle.sn_rows.specs.declared.change.Change.{Change};
+ghost use Rattle.sn_server.specs.Loads.{kept_of, secret_of};
 ghost use Rattle.sn_server.specs.Stores.{server_disk, server_rows};
 ghost use Rattle.sn_account.specs.Sound.{IsSound};
 ghost use Rattle.sn_serve.specs.Listening.{listening_line, outside, served_so, ListenEnds, DiskEnds};
+ghost use Rattle.sn_serve.specs.Standing.{DiskStands, EachStands};
 
 use crate::ends::{HostEnd, Served, served_of};
 use crate::hosting::host;
@@ -29,6 +32,7 @@ pub(crate) fn serve_disk<D: Disk, P: Port, O: Sink, C: Clock>(
     clock: &mut C,
 ) -> (D, Served)
     ensures ends { DiskEnds ⟦<D as Disk>⟧ P.goes P.bound O.held C.given number requests (outside port.old out.old clock.old) (outside port.new out.new clock.new) disk words result.0 result.1 }
+    ensures stands { D.told → (batches : List (List Change)) → EachStands ⟦<D as Disk>⟧ disk batches → DiskStands ⟦<D as Disk>⟧ (kept_of batches) (secret_of words) result.0 result.1 }
     ensures disk { result.1 ≡ Served.DiskFault → Rose (D.fault_count disk) (D.fault_count result.0) }
     ensures port { result.1 ≡ Served.PortFault → Rose (P.fault_count port.old) (P.fault_count port.new) }
     ensures write { result.1 ≡ Served.WriteFault → Rose (O.fault_count out.old) (O.fault_count out.new) }
