@@ -3,7 +3,7 @@ use Rattle.std.proofs.Common.{◌≡◌, ◌≢◌, ◌⊎◌, ◌<◌, ℕ, zer
 use Rattle.std.specs.List.{AllZip, Contains}
 use Rattle.std.proofs.lemmas.List.{append-nil}
 use Rattle.rand_chacha.specs.ChaCha.{ChaCha}
-use Rattle.sn_conflict.specs.Versions.{conflict_uuids, item_of, uuids}
+use Rattle.sn_sync.specs.Versions.{conflict_uuids, item_of, uuids}
 use Rattle.sn_conflict.specs.declared.meeting.Meeting.{Meeting}
 use Rattle.sn_conflict.specs.declared.meeting.Meeting.TheVariants as meeting
 use Rattle.sn_rows.specs.Facts.{apart_keys, put_here, put_or_not, row_after-append, spared_stays}

@@ -186,10 +186,10 @@ call_steps least (edit uuid text) rows words acts halt runs =
 call_steps least (delete uuid) rows words acts halt runs =
     account_steps rows (DeletesItem uuid rows words) acts halt (delete_steps uuid rows words acts halt) runs
 call_steps least list rows words acts halt runs =
-    account_steps rows (ListsItems rows) acts halt (λ owner sets p. none_done rows acts p.2) runs
+    account_steps rows (ListsItems rows words) acts halt (λ owner sets p. none_done rows acts p.2) runs
 call_steps least (content uuid) rows words acts halt runs =
-    account_steps rows (λ owner sets. WithItem rows sets uuid GivesText) acts halt
-    (λ owner sets p. item_steps rows sets uuid GivesText acts halt (λ shown q. none_done rows acts q.0) p) runs
+    account_steps rows (λ owner sets. WithItem rows sets uuid (GivesText words)) acts halt
+    (λ owner sets p. item_steps rows sets uuid (GivesText words) acts halt (λ shown q. none_done rows acts q.0) p) runs
 call_steps least sync rows words acts halt runs =
     account_steps rows (SyncsItems rows words) acts halt (synced_steps rows words acts halt) runs
 

@@ -5,6 +5,7 @@ use Rattle.sn_http.specs.Requests.{request as http_request}
 use Rattle.sn_net.specs.Exchanges.{Exchange}
 use Rattle.sn_sync.specs.Answers.{IsAnswer, RefusesAnswer}
 use Rattle.sn_sync.specs.Requests.{route_of}
+use Rattle.sn_sync.specs.Routes.{method_of, path_to}
 use Rattle.sn_sync.specs.Written.{WritesRequest}
 use Rattle.sn_sync.specs.declared.answer.Answer.{Answer}
 use Rattle.sn_sync.specs.declared.answer.Answer.TheVariants as answer
@@ -32,27 +33,13 @@ pub data Reply : Type 0 where
 
 -- ---- the bytes of an exchange
 
-abbrev pub method_of : Route → Bytes
-method_of route.Register = codes "POST"
-method_of route.Params = codes "GET"
-method_of route.SignIn = codes "POST"
-method_of route.ChangePw = codes "POST"
-method_of route.Sync = codes "POST"
-
-abbrev pub path_of : Route → Bytes
-path_of route.Register = codes "/auth"
-path_of route.Params = codes "/auth/params"
-path_of route.SignIn = codes "/auth/sign_in"
-path_of route.ChangePw = codes "/auth/change_pw"
-path_of route.Sync = codes "/items/sync"
-
 -- the target: a request for parameters has its text as the query (RFC 9112, 3.2.1)
 abbrev pub target_of : Route → Bytes → Bytes
-target_of route.Params text = path_of route.Params ++ (codes "?" ++ text)
-target_of route.Register text = path_of route.Register
-target_of route.SignIn text = path_of route.SignIn
-target_of route.ChangePw text = path_of route.ChangePw
-target_of route.Sync text = path_of route.Sync
+target_of route.Params text = path_to route.Params ++ (codes "?" ++ text)
+target_of route.Register text = path_to route.Register
+target_of route.SignIn text = path_to route.SignIn
+target_of route.ChangePw text = path_to route.ChangePw
+target_of route.Sync text = path_to route.Sync
 
 -- and each other one as the body
 abbrev pub body_of : Route → Bytes → Bytes

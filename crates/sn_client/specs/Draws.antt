@@ -1,14 +1,12 @@
--- What a device draws: fresh uuids, sealed contents, nonces, and items sealed again under another set.
+-- What a device draws: fresh uuids, nonces, and items sealed again under another set.
 use Rattle.std.specs.Prelude.{◌≡◌, ℕ, ◌<◌, List, [], ◌∷◌, ◌++◌, length, All}
 use Rattle.hex.specs.Hex.{encode_lower}
 use Rattle.rand_chacha.specs.ChaCha.{ChaCha}
 use Rattle.sn_items.specs.Draws.{as_version_4, drawn}
-use Rattle.sn_items.specs.Items.{IsDrawn, IsItemSealed, OpensItem, OpensKey}
+use Rattle.sn_items.specs.Items.{OpensItem, OpensKey}
 use Rattle.sn_items.specs.Seals.{IsSealed}
 use Rattle.sn_items.specs.declared.sealed.Sealed.{Sealed}
 use Rattle.sn_rows.specs.Table.{Rows}
-use Rattle.sn_rows.specs.declared.body.RowStrings.{RowStrings}
-use Rattle.sn_sets.specs.Sets.{sealed_of}
 use Rattle.sn_string.specs.Grammar.{Is003, Reading, joined, version}
 use Rattle.sn_string.specs.Parameters.{params_text}
 use Rattle.sn_string.specs.declared.params.KeySet.{KeySet}
@@ -42,16 +40,7 @@ pub record DrawsNoFresh (rows : Rows) (words : ChaCha) (last : Bytes) : Type 0 w
   pub draws : DrawsUuids words (before ++ last ∷ []) left
   pub used : All (IsUsed rows) (before ++ last ∷ [])
 
--- ---- contents
-
--- the strings are this content of the item, sealed under the set with the next of the words, and so they open to it
-pub record Seals (words : ChaCha) (set : KeySet) (uuid text : Bytes) (strings : RowStrings) (left : ChaCha) : Type 0 where
-  pub item_key : Bytes
-  pub content_iv : Bytes
-  pub enc_iv : Bytes
-  pub is_drawn : IsDrawn words item_key content_iv enc_iv left
-  pub is_sealed : IsItemSealed text uuid item_key content_iv enc_iv set (sealed_of strings)
-  pub opens : OpensItem (sealed_of strings) uuid set text
+-- ---- items sealed again
 
 -- an item of this content sealed again under another set: its key under a new vector and the other set's keys; of the content's string only the
 -- parameters change, and it still is the item of this content

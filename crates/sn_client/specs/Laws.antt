@@ -1,10 +1,10 @@
 -- What holds of all devices, by the definitions alone.
-use Rattle.std.specs.Prelude.{◌≡◌, ◌⊎◌, ◌↔◌, ◌<◌, ℕ, Bool, List, [], ◌∷◌, Option, Some, None}
+use Rattle.std.specs.Prelude.{◌≡◌, ◌⊎◌, ◌↔◌, ◌<◌, ◌≤◌, ℕ, Bool, List, [], ◌∷◌, ◌++◌, Option, Some, None}
 use Rattle.std.specs.List.{Contains}
 use Rattle.rand_chacha.specs.ChaCha.{ChaCha}
 use Rattle.sn_conflict.specs.Checks.{HasItsStrings}
 use Rattle.sn_conflict.specs.Meetings.{HasContent}
-use Rattle.sn_conflict.specs.Versions.{conflict_uuids, item_of, uuids}
+use Rattle.sn_sync.specs.Versions.{conflict_uuids, item_of, uuids}
 use Rattle.sn_notes.specs.Copies.{copy_of}
 use Rattle.sn_rows.specs.Table.{Rows, no_rows, rows_after}
 use Rattle.sn_rows.specs.declared.body.RowBody.{RowBody}
@@ -12,18 +12,20 @@ use Rattle.sn_rows.specs.declared.body.RowBody.TheVariants as row
 use Rattle.sn_rows.specs.declared.body.RowStrings.{RowStrings}
 use Rattle.sn_rows.specs.declared.change.Change.{Change}
 use Rattle.sn_rows.specs.declared.device_rows.LocalItem.{LocalItem}
+use Rattle.sn_rows.specs.declared.device_rows.OwnerRow.{OwnerRow}
 use Rattle.sn_rows.specs.declared.kind.RowKind.{RowKind}
+use Rattle.sn_sets.specs.Seals.{Seals}
 use Rattle.sn_sets.specs.Sets.{OpensHeld, sealed_of}
 use Rattle.sn_sets.specs.declared.sets.Sets.{Sets}
 use Rattle.sn_string.specs.declared.params.KeySet.{KeySet}
 use Rattle.sn_sync.specs.declared.answer.Answer.{Answer}
 use Rattle.sn_sync.specs.declared.answer.Answer.TheVariants as answer
 use Rattle.sn_sync.specs.declared.item.Item.{Item}
-use Rattle.sn_client.specs.Draws.{Seals}
-use Rattle.sn_client.specs.States.{Bytes, HasItem, HasLocal, IsFirstUnsound, IsOwnDraft, IsSound, IsSoundDevice, IsSoundItem, columns}
-use Rattle.sn_client.specs.Runs.{Act, Call, Halt, Run, asked, commits}
-use Rattle.sn_client.specs.Steps.{Step, What, adopts, applies, asks, begins, deletes, edits, forgets, posts, puts, renews}
-use Rattle.sn_client.specs.Taking.{IsServers, Progress, Takes, Told, is_conflict, is_retrieved, is_saved}
+use Rattle.sn_sync.specs.declared.request.Request.{Request}
+use Rattle.sn_client.specs.States.{Bytes, HasItem, HasLocal, HasSets, IsFirstUnsound, IsOwnDraft, IsSound, IsSoundDevice, IsSoundItem, columns}
+use Rattle.sn_client.specs.Runs.{Act, Call, Halt, Run, asked, commits, rows_done, sync}
+use Rattle.sn_client.specs.Steps.{Step, What, adopts, applies, asks, begins, deletes, edits, forgets, posts, puts, renews, start}
+use Rattle.sn_client.specs.Taking.{IsServers, Progress, Takes, TakesAll, Told, is_conflict, is_retrieved, is_saved, told_by}
 
 -- no kind is told just of sound rows
 abbrev pub TellsSoundness : Type 0
@@ -144,3 +146,145 @@ AreSteps rows (asked r reply ∷ acts) = AreSteps rows acts
 abbrev pub RunsBySteps : Type 0
 RunsBySteps = (least : ℕ) (call : Call) (rows : Rows) (words : ChaCha) (acts : List Act) (halt : Halt)
     → Run least call rows words acts halt → AreSteps rows acts
+
+-- ---- steps, and all items
+
+-- the items of a device whose next local number is this, whatever their drafts are: numbered below it, of uuids that differ, and sound
+pub record AreStanding (next : ℕ) (rows : Rows) : Type 0 where
+  pub numbered : (number : ℕ) (local : LocalItem) → HasLocal rows number local → number < next
+  pub apart : (number other : ℕ) (local twin : LocalItem) → HasLocal rows number local → HasLocal rows other twin → local.uuid ≡ twin.uuid → number ≡ other
+  pub items : (number : ℕ) (local : LocalItem) → HasLocal rows number local → IsSoundItem (columns local)
+
+-- each version of an answer leaves the items so, whatever server gave it
+abbrev pub StayStanding : Type 0
+StayStanding = (sets : Sets) (saved : List Item) (p q : Progress) (t : Told) → IsChecked t → AreStanding p.next p.rows → Takes sets saved p t q
+    → AreStanding q.next q.rows
+
+-- each commit leaves sound rows sound
+abbrev pub StepsStaySound : Type 0
+StepsStaySound = (rows : Rows) (words left : ChaCha) (what : What) (changes : List Change)
+    → IsSound rows → Step rows words what changes left → IsSound (rows_after rows changes)
+
+-- and drafts that open under the present set open, with a deletion that was sent still the draft
+abbrev pub StepsStaySoundDevice : Type 0
+StepsStaySoundDevice = (rows : Rows) (words left : ChaCha) (what : What) (changes : List Change)
+    → IsSoundDevice rows → Step rows words what changes left → IsSoundDevice (rows_after rows changes)
+
+-- ---- a whole answer, and a draft
+
+-- a content, copied for each of these uuids in order
+abbrev pub copied : Bytes → List Bytes → Bytes
+copied text [] = text
+copied text (uuid ∷ later) = copied (copy_of text uuid) later
+
+-- the draft is still that of its item in its row
+pub record IsStillOf (number : ℕ) (was : LocalItem) (latest : RowBody) (at : ℕ) (local : LocalItem) (again : RowBody) : Type 0 where
+  pub number_is : at ≡ number
+  pub uuid_is : local.uuid ≡ was.uuid
+  pub kind_is : local.kind ≡ was.kind
+  pub draft_is : again ≡ latest
+
+-- it goes on as that of another item of its type, in its own row or in one that is new where this was the next local number: its content, or a copy
+-- of it, or of that copy and so on, is sealed for the item under the present set
+pub record GoesOnAs (sets : Sets) (next number : ℕ) (was : LocalItem) (latest : RowBody) (at : ℕ) (local : LocalItem) (again : RowBody) : Type 0 where
+  pub place : (at ≡ number) ⊎ (next ≤ at)
+  pub kind_is : local.kind ≡ was.kind
+  pub strings : RowStrings
+  pub was_sealed : latest ≡ row.Sealed strings
+  pub text : Bytes
+  pub opened : OpensHeld sets was.uuid (sealed_of strings) text
+  pub copies : List Bytes
+  pub anew : RowStrings
+  pub is_sealed : again ≡ row.Sealed anew
+  pub before : ChaCha
+  pub left : ChaCha
+  pub seals : Seals before sets.present local.uuid (copied text copies) anew left
+
+-- a draft of these rows carries it on so
+pub record IsCarried (sets : Sets) (next number : ℕ) (was : LocalItem) (latest : RowBody) (rows : Rows) : Type 0 where
+  pub at : ℕ
+  pub local : LocalItem
+  pub stands : HasLocal rows at local
+  pub again : RowBody
+  pub drafted : local.latest ≡ Some again
+  pub carries : IsStillOf number was latest at local again ⊎ GoesOnAs sets next number was latest at local again
+
+-- this is one of all that an answer tells, and what is left when it is met: a version of the server's, saved or not, which isn't passed over
+pub record MeetsVersion (sets : Sets) (saved : List Item) (p : Progress) (told : List Told) (item : Item) (flag : Bool) (met : Rows) : Type 0 where
+  pub front : List Told
+  pub entry : Told
+  pub later : List Told
+  pub split : told ≡ front ++ entry ∷ later
+  pub at : Progress
+  pub taken : TakesAll sets saved p front at
+  pub rows_are : met ≡ at.rows
+  pub is : IsServers saved entry item flag
+
+abbrev pub MeetsOf : Sets → Rows → OwnerRow → ChaCha → Answer → Item → Bool → Rows → Type 0
+MeetsOf sets rows owner words (answer.Sync conflicts cursor retrieved saved token) item flag met =
+    MeetsVersion sets saved (start rows owner words) (told_by saved conflicts retrieved) item flag met
+MeetsOf sets rows owner words (answer.Account token identifier account) item flag met = ⊥
+MeetsOf sets rows owner words (answer.Params params) item flag met = ⊥
+MeetsOf sets rows owner words (answer.Refused status tag more) item flag met = ⊥
+
+-- a version of an answer has the content of the draft, or of that which carries it on when it is met
+pub record IsAnswered (sets : Sets) (rows : Rows) (owner : OwnerRow) (words : ChaCha) (number : ℕ) (was : LocalItem) (latest : RowBody) (given : Answer)
+    : Type 0 where
+  pub met : Rows
+  pub carried : IsCarried sets owner.next number was latest met
+  pub item : Item
+  pub flag : Bool
+  pub meets : MeetsOf sets rows owner words given item flag met
+  pub named : item.uuid ≡ carried.local.uuid
+  pub same : HasContent sets carried.local carried.again item
+
+-- whatever a server answers, no draft but a deletion is lost: it is carried on in the rows after the commit, or the server has its content
+abbrev pub DraftKeptByAnswer : Type 0
+DraftKeptByAnswer = (rows : Rows) (words left : ChaCha) (r : Request) (given : Answer) (changes : List Change) (owner : OwnerRow) (sets : Sets)
+    (number : ℕ) (local : LocalItem) (latest : RowBody)
+    → IsSoundDevice rows → HasSets rows owner sets → Step rows words (applies r given) changes left
+    → HasLocal rows number local → local.latest ≡ Some latest
+    → IsCarried sets owner.next number local latest (rows_after rows changes)
+    ⊎ ((latest ≡ row.Deleted) ⊎ IsAnswered sets rows owner words number local latest given)
+
+-- ---- whole calls
+
+-- whichever first acts of a call are done, they leave sound rows sound
+abbrev pub RunsStaySound : Type 0
+RunsStaySound = (least : ℕ) (call : Call) (rows : Rows) (words : ChaCha) (acts : List Act) (halt : Halt) (front later : List Act)
+    → Run least call rows words acts halt → acts ≡ front ++ later → IsSound rows → IsSound (rows_done rows front)
+
+-- and a device sound
+abbrev pub RunsStaySoundDevice : Type 0
+RunsStaySoundDevice = (least : ℕ) (call : Call) (rows : Rows) (words : ChaCha) (acts : List Act) (halt : Halt) (front later : List Act)
+    → Run least call rows words acts halt → acts ≡ front ++ later → IsSoundDevice rows → IsSoundDevice (rows_done rows front)
+
+-- in one of these acts a version of an answer has the content of the draft, or of that which carries it on when it is met
+pub record IsAnsweredIn (sets : Sets) (rows : Rows) (next number : ℕ) (was : LocalItem) (latest : RowBody) (acts : List Act) : Type 0 where
+  pub before : List Act
+  pub request : Request
+  pub given : Answer
+  pub changes : List Change
+  pub later : List Act
+  pub split : acts ≡ before ++ commits (applies request given) changes ∷ later
+  pub words : ChaCha
+  pub owner : OwnerRow
+  pub held : Sets
+  pub holds : HasSets (rows_done rows before) owner held
+  pub met : Rows
+  pub carried : IsCarried sets next number was latest met
+  pub item : Item
+  pub flag : Bool
+  pub meets : MeetsOf held (rows_done rows before) owner words given item flag met
+  pub named : item.uuid ≡ carried.local.uuid
+  pub same : HasContent held carried.local carried.again item
+
+-- whatever a server answers, no draft but a deletion is lost in a sync: whichever first acts of it are done, the draft is carried on in the rows that they
+-- leave, or the server has its content
+abbrev pub DraftKeptBySync : Type 0
+DraftKeptBySync = (least : ℕ) (rows : Rows) (words : ChaCha) (acts : List Act) (halt : Halt) (front later : List Act) (owner : OwnerRow) (sets : Sets)
+    (number : ℕ) (local : LocalItem) (latest : RowBody)
+    → Run least sync rows words acts halt → acts ≡ front ++ later → IsSoundDevice rows → HasSets rows owner sets
+    → HasLocal rows number local → local.latest ≡ Some latest
+    → IsCarried sets owner.next number local latest (rows_done rows front)
+    ⊎ ((latest ≡ row.Deleted) ⊎ IsAnsweredIn sets rows owner.next number local latest front)

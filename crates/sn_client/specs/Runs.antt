@@ -10,7 +10,7 @@ use Rattle.sn_items.specs.Objects.{is_object}
 use Rattle.sn_journal.specs.Image.{IsBounded}
 use Rattle.sn_keys.specs.Keys.{AreKeysOf}
 use Rattle.sn_net.specs.Exchanges.{Exchange}
-use Rattle.sn_notes.specs.Copies.{longest_content}
+use Rattle.sn_string.specs.Bounds.{longest_content}
 use Rattle.sn_rows.specs.Spelling.{spelled}
 use Rattle.sn_rows.specs.Table.{Rows, rows_after}
 use Rattle.sn_rows.specs.declared.change.Change.{Change}
@@ -66,7 +66,8 @@ pub data Act : Type 0 where
 
 -- how it ends
 pub data Halt : Type 0 where
-  answered : Given → Halt
+  -- with what it gives, and the words that are left
+  answered : Given → ChaCha → Halt
   refused : ClientError → Halt
   -- the disk failed in this commit, of which it has all or nothing
   broken : What → List Change → Halt
@@ -88,10 +89,15 @@ abbrev pub StopsAt : What → List Change → Halt → Type 0
 StopsAt what changes halt = (IsBatch changes × (halt ≡ broken what changes))
     ⊎ ((¬ (IsBatch changes) × (halt ≡ refused (refusal.TooLarge (length (spelled changes))))) ⊎ (halt ≡ refused refusal.Memory))
 
--- one commit more, and the call is answered; or the commit isn't made
+-- the commit is made, and the call is answered; or it isn't made
+abbrev pub EndsCommit : What → List Change → Given → ChaCha → List Act → Halt → Type 0
+EndsCommit what changes given left acts halt =
+    (IsBatch changes × (acts ≡ commits what changes ∷ []) × (halt ≡ answered given left)) ⊎ ((acts ≡ []) × StopsAt what changes halt)
+
+-- one commit more
 abbrev pub CommitsOnce : Rows → ChaCha → What → Given → List Act → Halt → Type 0
-CommitsOnce rows words what given acts halt = (changes : List Change) × (left : ChaCha) × Step rows words what changes left
-    × ((IsBatch changes × (acts ≡ commits what changes ∷ []) × (halt ≡ answered given)) ⊎ ((acts ≡ []) × StopsAt what changes halt))
+CommitsOnce rows words what given acts halt =
+    (changes : List Change) × (left : ChaCha) × Step rows words what changes left × EndsCommit what changes given left acts halt
 
 -- a request is made; its reply ends the call, or memory is wanting then, or it goes on with an answer
 abbrev pub AsksFirst : Request → (Answer → List Act → Halt → Type 0) → List Act → Halt → Type 0
@@ -106,7 +112,7 @@ most_cost = 10000000
 
 -- a cost that isn't taken
 abbrev pub IsBadCost : ℕ → ℕ → Type 0
-IsBadCost least cost = (cost < least) ⊎ (most_cost < cost)
+IsBadCost least cost = (cost ≡ 0) ⊎ ((cost < least) ⊎ (most_cost < cost))
 
 -- the set of a registration: the keys of the password under the identifier, the cost and a drawn nonce
 pub record IsNewSet (words : ChaCha) (identifier password : Bytes) (cost : ℕ) (set : KeySet) (left : ChaCha) : Type 0 where
@@ -226,17 +232,17 @@ DeletesItem uuid rows words owner sets acts halt = (IsFree rows uuid × Refuses 
 abbrev pub RunsDelete : Bytes → Rows → ChaCha → List Act → Halt → Type 0
 RunsDelete uuid rows words acts halt = WithAccount rows (DeletesItem uuid rows words) acts halt
 
-abbrev pub ListsItems : Rows → OwnerRow → Sets → List Act → Halt → Type 0
-ListsItems rows owner sets acts halt = (listed : List Listed) × AreListed rows sets listed × (acts ≡ []) × (halt ≡ answered (lines listed))
+abbrev pub ListsItems : Rows → ChaCha → OwnerRow → Sets → List Act → Halt → Type 0
+ListsItems rows words owner sets acts halt = (listed : List Listed) × AreListed rows sets listed × (acts ≡ []) × (halt ≡ answered (lines listed) words)
 
-abbrev pub RunsList : Rows → List Act → Halt → Type 0
-RunsList rows acts halt = WithAccount rows (ListsItems rows) acts halt
+abbrev pub RunsList : Rows → ChaCha → List Act → Halt → Type 0
+RunsList rows words acts halt = WithAccount rows (ListsItems rows words) acts halt
 
-abbrev pub GivesText : Bytes → List Act → Halt → Type 0
-GivesText shown acts halt = (acts ≡ []) × (halt ≡ answered (a_text shown))
+abbrev pub GivesText : ChaCha → Bytes → List Act → Halt → Type 0
+GivesText words shown acts halt = (acts ≡ []) × (halt ≡ answered (a_text shown) words)
 
-abbrev pub RunsContent : Bytes → Rows → List Act → Halt → Type 0
-RunsContent uuid rows acts halt = WithAccount rows (λ owner sets. WithItem rows sets uuid GivesText) acts halt
+abbrev pub RunsContent : Bytes → Rows → ChaCha → List Act → Halt → Type 0
+RunsContent uuid rows words acts halt = WithAccount rows (λ owner sets. WithItem rows sets uuid (GivesText words)) acts halt
 
 -- ---- sync
 
@@ -261,6 +267,13 @@ IsAllDone rows (answer.Sync conflicts cursor retrieved saved token) = (cursor �
 IsAllDone rows (answer.Account token identifier uuid) = ⊥
 IsAllDone rows (answer.Params params) = ⊥
 IsAllDone rows (answer.Refused status tag more) = ⊥
+
+-- a page is left behind the answer
+abbrev pub HasCursor : Answer → Type 0
+HasCursor (answer.Sync conflicts cursor retrieved saved token) = cursor ≢ None
+HasCursor (answer.Account token identifier uuid) = ⊥
+HasCursor (answer.Params params) = ⊥
+HasCursor (answer.Refused status tag more) = ⊥
 
 -- an exchange is due: the first, and another while something is left
 abbrev pub IsDue : Rows → Option Answer → Type 0
@@ -320,10 +333,21 @@ IsCheckPlace (wrong.Retrieved n) at = at ≡ place.Retrieved n
 IsCheckPlace wrong.Cursor at = at ≡ place.Cursor
 IsCheckPlace wrong.Memory at = ⊥
 
--- the answer to these items fails a check, or what it tells can't be applied
+-- the most bytes of a sync or cursor token in a device's row
+abbrev pub longest_token : ℕ
+longest_token = 33554432
+
+-- the first of an answer's tokens that is longer has this name
+abbrev pub HasLongToken : Option Bytes → Bytes → Bytes → Type 0
+HasLongToken None token name = (longest_token < length token) × (name ≡ codes "sync_token")
+HasLongToken (Some cursor) token name = ((longest_token < length cursor) × (name ≡ codes "cursor_token"))
+    ⊎ ((length cursor ≤ longest_token) × (longest_token < length token) × (name ≡ codes "sync_token"))
+
+-- the answer to these items has too long a token, or fails a check, or what it tells can't be applied
 abbrev pub IsUnapplied : Rows → ChaCha → List Item → Answer → ClientError → Type 0
 IsUnapplied rows words sent (answer.Sync conflicts cursor retrieved saved token) why =
-    ((e : CheckError) × (at : Place) × FailsAt sent saved conflicts retrieved cursor e × IsCheckPlace e at × (why ≡ refusal.BadAnswer at))
+    ((name : Bytes) × HasLongToken cursor token name × (why ≡ refusal.BadAnswer (place.Member name)))
+    ⊎ ((e : CheckError) × (at : Place) × FailsAt sent saved conflicts retrieved cursor e × IsCheckPlace e at × (why ≡ refusal.BadAnswer at))
     ⊎ ((owner : OwnerRow) × (sets : Sets) × Passes sent saved conflicts retrieved cursor × HasSets rows owner sets
     × RunsOut sets saved (start rows owner words) (told_by saved conflicts retrieved) why)
 IsUnapplied rows words sent (answer.Account token identifier uuid) why = ⊥
@@ -363,7 +387,7 @@ pub record EndsUnapplied (at : Standing) (acts : List Act) (halt : Halt) : Type 
 -- after so many exchanges: all is done; or as many were made as may be, and one more is due; or the next one ends the call; or memory is wanting
 abbrev pub EndsSync : ℕ → Standing → List Act → Halt → Type 0
 EndsSync count at acts halt =
-    (IsDone at.rows at.last × (acts ≡ []) × (halt ≡ answered nothing))
+    (IsDone at.rows at.last × (acts ≡ []) × (halt ≡ answered nothing at.words))
     ⊎ (((count ≡ most_exchanges) × IsDue at.rows at.last × Refuses acts halt refusal.RoundsUsed)
     ⊎ (((count < most_exchanges) × EndsUnapplied at acts halt) ⊎ Wants acts halt))
 
@@ -399,8 +423,8 @@ RunsCall least (sign_in identifier password) rows words acts halt = RunsSignIn l
 RunsCall least (put kind text) rows words acts halt = RunsPut kind text rows words acts halt
 RunsCall least (edit uuid text) rows words acts halt = RunsEdit uuid text rows words acts halt
 RunsCall least (delete uuid) rows words acts halt = RunsDelete uuid rows words acts halt
-RunsCall least list rows words acts halt = RunsList rows acts halt
-RunsCall least (content uuid) rows words acts halt = RunsContent uuid rows acts halt
+RunsCall least list rows words acts halt = RunsList rows words acts halt
+RunsCall least (content uuid) rows words acts halt = RunsContent uuid rows words acts halt
 RunsCall least sync rows words acts halt = RunsSync rows words acts halt
 
 -- a device that takes no lower cost than this one makes the call on these rows, with these words: what it does, one commit an act, and how it ends

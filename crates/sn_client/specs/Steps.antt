@@ -4,7 +4,7 @@ use Rattle.rand_chacha.specs.ChaCha.{ChaCha}
 use Rattle.sn_conflict.specs.Checks.{Passes}
 use Rattle.sn_items.specs.Items.{Carries}
 use Rattle.sn_items.specs.Objects.{is_object}
-use Rattle.sn_notes.specs.Copies.{longest_content}
+use Rattle.sn_string.specs.Bounds.{longest_content}
 use Rattle.sn_rows.specs.Table.{Puts, Removes, Rows}
 use Rattle.sn_rows.specs.declared.body.RowBody.{RowBody}
 use Rattle.sn_rows.specs.declared.body.RowBody.TheVariants as row
@@ -16,6 +16,7 @@ use Rattle.sn_rows.specs.declared.device_rows.SetRow.{SetRow}
 use Rattle.sn_rows.specs.declared.key.Key.TheVariants as key
 use Rattle.sn_rows.specs.declared.key.Slot.TheVariants.{Present, Older}
 use Rattle.sn_rows.specs.declared.value.Value.TheVariants as value
+use Rattle.sn_sets.specs.Seals.{Seals}
 use Rattle.sn_sets.specs.Sets.{sealed_of}
 use Rattle.sn_sets.specs.declared.sets.Sets.{Sets}
 use Rattle.sn_string.specs.declared.params.KeySet.{KeySet}
@@ -25,7 +26,7 @@ use Rattle.sn_sync.specs.declared.answer.Conflict.{Conflict}
 use Rattle.sn_sync.specs.declared.item.Item.{Item}
 use Rattle.sn_sync.specs.declared.request.Request.{Request}
 use Rattle.sn_sync.specs.declared.request.Request.TheVariants as request
-use Rattle.sn_client.specs.Draws.{DrawsFresh, Seals}
+use Rattle.sn_client.specs.Draws.{DrawsFresh}
 use Rattle.sn_client.specs.Sending.{AreOfRows, PostsAll, PutsColumns}
 use Rattle.sn_client.specs.States.{Bytes, Columns, HasItem, HasLocal, HasOwner, HasSets, IsFresh, IsSetOf, OwnerColumns, columns, owner_columns, text_of_token}
 use Rattle.sn_client.specs.Taking.{Progress, TakesAll, last_number, new_columns, told_by}

@@ -4,7 +4,7 @@ use Rattle.std.specs.Prelude.{◌≡◌, ◌≢◌, ◌⊎◌, ◌^◌, ◌-◌,
 use Rattle.std.specs.List.{Contains}
 use Rattle.rand_chacha.specs.ChaCha.{ChaCha}
 use Rattle.sn_conflict.specs.Meetings.{MeetsAs}
-use Rattle.sn_conflict.specs.Versions.{NamesStamp, uuids}
+use Rattle.sn_sync.specs.Versions.{NamesStamp, uuids}
 use Rattle.sn_conflict.specs.declared.meeting.Meeting.{Meeting}
 use Rattle.sn_conflict.specs.declared.meeting.Meeting.TheVariants as meeting
 use Rattle.sn_items.specs.declared.sealed.Sealed.{Sealed}
@@ -16,6 +16,7 @@ use Rattle.sn_rows.specs.declared.body.RowStrings.{RowStrings}
 use Rattle.sn_rows.specs.declared.change.Change.{Change}
 use Rattle.sn_rows.specs.declared.device_rows.LocalItem.{LocalItem}
 use Rattle.sn_rows.specs.declared.key.Key.TheVariants as key
+use Rattle.sn_sets.specs.Seals.{Seals}
 use Rattle.sn_sets.specs.Sets.{OpensHeld, OpensNowhere, OpensOlder, sealed_of}
 use Rattle.sn_sets.specs.declared.sets.Sets.{Sets}
 use Rattle.sn_sync.specs.declared.answer.Conflict.{Conflict}
@@ -23,7 +24,7 @@ use Rattle.sn_sync.specs.declared.answer.Conflict.TheVariants as conflict
 use Rattle.sn_sync.specs.declared.item.Body.{Body}
 use Rattle.sn_sync.specs.declared.item.Body.TheVariants as body
 use Rattle.sn_sync.specs.declared.item.Item.{Item}
-use Rattle.sn_client.specs.Draws.{DrawsFresh, DrawsNoFresh, Rewraps, Seals}
+use Rattle.sn_client.specs.Draws.{DrawsFresh, DrawsNoFresh, Rewraps}
 use Rattle.sn_client.specs.Sending.{PutsColumns}
 use Rattle.sn_client.specs.States.{Bytes, Columns, HasItem, IsFree, columns}
 use Rattle.sn_client.specs.declared.error.ClientError.{ClientError}

@@ -1,5 +1,5 @@
 // What holds of all devices, by the definitions alone. The functions do nothing; their contracts are the laws.
-ghost use Rattle.sn_client.specs.Laws.{DraftKept, DraftStays, FreshIsSound, RunsBySteps, StayWell, TellsSoundness};
+ghost use Rattle.sn_client.specs.Laws.{DraftKept, DraftKeptByAnswer, DraftKeptBySync, DraftStays, FreshIsSound, RunsBySteps, RunsStaySound, RunsStaySoundDevice, StayStanding, StayWell, StepsStaySound, StepsStaySoundDevice, TellsSoundness};
 
 /// No kind of rows is told just of sound rows.
 pub fn tells_soundness()
@@ -31,4 +31,42 @@ pub fn runs_by_steps()
 /// differ, and with drafts that open.
 pub fn stay_well()
     ensures { StayWell }
+{}
+
+/// It leaves items sound, with uuids and numbers that differ, where nothing is known of their drafts.
+pub fn stay_standing()
+    ensures { StayStanding }
+{}
+
+/// Each commit leaves sound rows sound, whatever a server answers.
+pub fn steps_stay_sound()
+    ensures { StepsStaySound }
+{}
+
+/// Nor does a commit close a draft, or leave a deletion that was sent with another draft.
+pub fn steps_stay_sound_device()
+    ensures { StepsStaySoundDevice }
+{}
+
+/// Whatever a server answers, no draft but a deletion is lost over the commit of an answer: it is carried on in
+/// the rows after it, by itself or as a copy or under another uuid, or a version that the answer tells of its
+/// item has its content.
+pub fn draft_kept_by_answer()
+    ensures { DraftKeptByAnswer }
+{}
+
+/// Each call leaves sound rows sound, wherever it ends and whichever of its first commits a crash leaves.
+pub fn runs_stay_sound()
+    ensures { RunsStaySound }
+{}
+
+/// Likewise a device whose drafts open.
+pub fn runs_stay_sound_device()
+    ensures { RunsStaySoundDevice }
+{}
+
+/// Whatever a server answers, no draft but a deletion is lost in a sync, wherever it ends and whichever of its
+/// first commits a crash leaves.
+pub fn draft_kept_by_sync()
+    ensures { DraftKeptBySync }
 {}

@@ -1,13 +1,42 @@
-//! A device: one account's rows, and the calls on them. So far the words of its answers, what its calls
-//! are (in `specs/`), and laws of that.
+//! A device: one account's items on a disk, and the calls on them.
 #![tactic(auto)]
 
+mod accounts;
+mod applying;
+mod asking;
+mod called;
+mod changes;
+mod device;
+mod editing;
 mod error;
+mod fresh;
+mod index;
 mod laws;
+mod lines;
 mod listed;
+mod listing;
+mod loading;
+mod looking;
+mod registering;
+mod renaming;
+mod sending;
+mod signing;
+mod soundness;
+mod state;
+mod syncing;
+mod taken;
+mod taking;
+mod versions;
 
-pub use error::{ClientError, Place};
+pub use called::Called;
+pub use device::Device;
+pub use error::{ClientError, DeviceError, Place};
 pub use laws::{
-    draft_kept, draft_stays, fresh_is_sound, runs_by_steps, stay_well, tells_soundness,
+    draft_kept, draft_kept_by_answer, draft_kept_by_sync, draft_stays, fresh_is_sound,
+    runs_by_steps, runs_stay_sound, runs_stay_sound_device, stay_standing, stay_well,
+    steps_stay_sound, steps_stay_sound_device, tells_soundness,
 };
 pub use listed::{Listed, Mark};
+
+#[cfg(test)]
+mod soundness_tests;

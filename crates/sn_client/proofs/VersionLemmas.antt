@@ -1,0 +1,142 @@
+-- Versions of the server's, as rows that stand on them.
+use Rattle.std.proofs.Common.{◌≡◌, ◌≢◌, ◌∙◌, ◌≤◌, ◌+◌, ◌||◌, ℕ, Bool, true, false, [], ◌∷◌, ◌++◌, Option, Some, None, inl, refl, sym, ap, subst, length, arith, append_assoc, length-append}
+use Rattle.std.specs.List.{All}
+use Rattle.std.proofs.lemmas.List.Elements.{All-head, All-tail}
+use Rattle.std.proofs.lemmas.List.Splits.{join_with_byte-slice_split}
+use Rattle.rand_chacha.specs.ChaCha.{ChaCha}
+use Rattle.sn_conflict.specs.Checks.{AreStringsOf, IsStringOf}
+use Rattle.sn_rows.specs.Bounds.{HasDeviceLengths, after_colon, before_colon, has_colon, is_colon}
+use Rattle.sn_rows.specs.Table.{Puts, Removes, Rows}
+use Rattle.sn_rows.specs.declared.body.RowBody.{RowBody}
+use Rattle.sn_rows.specs.declared.body.RowBody.TheVariants as row
+use Rattle.sn_rows.specs.declared.body.RowStrings.{RowStrings}
+use Rattle.sn_rows.specs.declared.change.Change.{Change}
+use Rattle.sn_rows.specs.declared.device_rows.LocalItem.{LocalItem}
+use Rattle.sn_rows.specs.declared.key.Key.TheVariants as key
+use Rattle.sn_rows.specs.declared.value.Value.TheVariants as value
+use Rattle.sn_sets.specs.declared.sets.Sets.{Sets}
+use Rattle.sn_string.proofs.Facts.{HasNoColon-base64}
+use Rattle.sn_string.specs.Grammar.{Reading, colon, joined, version}
+use Rattle.sn_sync.specs.Versions.{NamesStamp}
+use Rattle.sn_sync.specs.declared.item.Body.{Body}
+use Rattle.sn_sync.specs.declared.item.Body.TheVariants as body
+use Rattle.sn_sync.specs.declared.item.Item.{Item}
+use Rattle.sn_client.specs.States.{Bytes, columns}
+use Rattle.sn_client.specs.Taken.{IsVersion, after, so_far}
+use Rattle.sn_client.specs.Taking.{MakesRow, Progress, StandsOn, TakesBody, TakesVersion, changed, last_number}
+use Rattle.sn_client.specs.declared.taken.Effect.TheVariants as effect
+use Rattle.sn_client.specs.declared.taken.Taken.{Taken}
+
+-- ---- the lengths of a string's parts
+
+abbrev IsOther : ℕ → Type 0
+IsOther byte = is_colon byte ≡ false
+
+no_colon : (part : Bytes) → All IsOther part → has_colon part ≡ false
+no_colon [] plain = refl
+no_colon (byte ∷ part) plain =
+    let one : is_colon byte ≡ false = All-head IsOther byte part plain in
+    let more : has_colon part ≡ false = no_colon part (All-tail IsOther byte part plain) in
+    rw (one, more) refl
+
+or_right : (x y : Bool) → y ≡ true → (x || y) ≡ true
+or_right true y e = refl
+or_right false y e = e
+
+colon_there : (front last : Bytes) → has_colon (front ++ colon ∷ last) ≡ true
+colon_there [] last = refl
+colon_there (byte ∷ front) last = or_right (is_colon byte) (has_colon (front ++ colon ∷ last)) (colon_there front last)
+
+-- the colon between two texts, of which the second has none, is the last
+before_last : (front last : Bytes) → has_colon last ≡ false → before_colon (front ++ colon ∷ last) ≡ front
+before_last [] last none = rw none refl
+before_last (byte ∷ front) last none =
+    let there : has_colon (front ++ colon ∷ last) ≡ true = colon_there front last in
+    let more : before_colon (front ++ colon ∷ last) ≡ front = before_last front last none in
+    rw there (ap (λ l. byte ∷ l) more)
+
+after_last : (front last : Bytes) → has_colon last ≡ false → after_colon (front ++ colon ∷ last) ≡ last
+after_last [] last none = rw none refl
+after_last (byte ∷ front) last none =
+    let there : has_colon (front ++ colon ∷ last) ≡ true = colon_there front last in
+    let more : after_colon (front ++ colon ∷ last) ≡ last = after_last front last none in
+    rw there more
+
+abbrev front_of : Reading → Bytes
+front_of r = joined (version ∷ r.hash ∷ r.uuid ∷ r.iv ∷ r.ciphertext ∷ [])
+
+joined_front : (v h u i c p : Bytes) → joined (v ∷ h ∷ u ∷ i ∷ c ∷ p ∷ []) ≡ joined (v ∷ h ∷ u ∷ i ∷ c ∷ []) ++ colon ∷ p
+joined_front v h u i c p = simp append_assoc
+
+-- a short string fits a row: its parameters are short
+device_lengths : (uuid text : Bytes) → IsStringOf uuid text → HasDeviceLengths text
+device_lengths uuid text (short, (r, names)) =
+    let front : Bytes = front_of r in
+    let last : Bytes = r.params_text in
+    let none : has_colon last ≡ false = no_colon last (HasNoColon-base64 last names.reads.params.json names.reads.params.encoded).all in
+    let text_is : text ≡ front ++ colon ∷ last =
+    sym (join_with_byte-slice_split colon text) ∙ ap joined names.reads.parts ∙ joined_front version r.hash r.uuid r.iv r.ciphertext last in
+    let before : length (before_colon text) ≡ length front = ap (λ t. length (before_colon t)) text_is ∙ ap length (before_last front last none) in
+    let behind : length (after_colon text) ≡ length last = ap (λ t. length (after_colon t)) text_is ∙ ap length (after_last front last none) in
+    let long : length text ≡ length front + length (colon ∷ last) = ap length text_is ∙ length-append front (colon ∷ last) in
+    let few : length last ≤ 8192 = names.reads.params.short in
+    (omega (arith, before, long, short), omega (arith, behind, few))
+
+pub version_lengths : (i : Item) (content enc : Bytes) → IsVersion i → i.body ≡ body.Strings content enc → HasDeviceLengths content × HasDeviceLengths enc
+version_lengths i content enc is has =
+    let strings : AreStringsOf i.uuid (body.Strings content enc) = subst (AreStringsOf i.uuid) has is.strings in
+    (device_lengths i.uuid content strings.0, device_lengths i.uuid enc strings.1)
+
+-- ---- rows that stand on versions
+
+-- the parts of the row
+pub record IsRowOf (i : Item) (stamp : ℕ) (strings : RowStrings) (latest : Option RowBody) (local : LocalItem) : Type 0 where
+  pub uuid_is : local.uuid ≡ i.uuid
+  pub kind_is : local.kind ≡ i.kind
+  pub base_is : local.base ≡ Some stamp
+  pub stale_is : local.stale ≡ false
+  pub body_is : local.body ≡ Some (row.Sealed strings)
+  pub latest_is : local.latest ≡ latest
+  pub posted_is : local.posted ≡ None
+
+-- where no older set is held
+pub stands_on : (i : Item) (content enc : Bytes) (stamp : ℕ) (strings : RowStrings) (latest : Option RowBody) (local : LocalItem) → IsRowOf i stamp strings latest local
+    → NamesStamp i stamp → strings.content ≡ content → strings.enc ≡ enc
+    → (sets : Sets) (words : ChaCha) → sets.older ≡ None → StandsOn sets words i content enc latest None (columns local) words
+stands_on i content enc stamp strings latest local is named content_is enc_is sets words alone = record {
+  uuid_is = is.uuid_is;
+  kind_is = is.kind_is;
+  stamp = stamp;
+  stamped = named;
+  base_is = is.base_is;
+  strings = strings;
+  kept = inl (λ text opens. (let held = opens.held in cc), cc, is.stale_is, refl);
+  body_is = is.body_is;
+  latest_is = is.latest_is;
+  posted_is = is.posted_is;
+}
+
+pub takes_deleted : (sets : Sets) (p : Progress) (number : ℕ) (i : Item) (latest : Option RowBody) (change : Change) → i.body ≡ body.Deleted
+    → Removes change (key.Local number) → TakesVersion sets p number i latest None (changed p change)
+takes_deleted sets p number i latest change has removes =
+    subst (λ (b : Body). TakesBody sets p number i b latest None (changed p change)) (sym has) (change, removes, refl)
+
+pub takes_strings : (sets : Sets) (p : Progress) (number : ℕ) (i : Item) (content enc : Bytes) (latest : Option RowBody) (local : LocalItem) (change : Change)
+    → i.body ≡ body.Strings content enc → StandsOn sets p.words i content enc latest None (columns local) p.words
+    → Puts change (key.Local number) (value.Local local) → TakesVersion sets p number i latest None (changed p change)
+takes_strings sets p number i content enc latest local change has stands puts =
+    subst (λ (b : Body). TakesBody sets p number i b latest None (changed p change)) (sym has)
+    (columns local, p.words, change, stands, record { local = local; puts = puts; columns_are = refl }, refl)
+
+pub makes_none : (sets : Sets) (rows : Rows) (taken : Taken) (words : ChaCha) (i : Item) → i.body ≡ body.Deleted
+    → MakesRow sets (so_far rows taken words) i i.body (after (so_far rows taken words) effect.Nothing words)
+makes_none sets rows taken words i has =
+    subst (λ (b : Body). MakesRow sets (so_far rows taken words) i b (after (so_far rows taken words) effect.Nothing words)) (sym has) refl
+
+pub makes_row : (sets : Sets) (rows : Rows) (taken : Taken) (words : ChaCha) (i : Item) (content enc : Bytes) (local : LocalItem) (change : Change)
+    → taken.next ≢ last_number → i.body ≡ body.Strings content enc → StandsOn sets words i content enc None None (columns local) words
+    → Puts change (key.Local taken.next) (value.Local local)
+    → MakesRow sets (so_far rows taken words) i i.body (after (so_far rows taken words) (effect.Made change) words)
+makes_row sets rows taken words i content enc local change room has stands puts =
+    subst (λ (b : Body). MakesRow sets (so_far rows taken words) i b (after (so_far rows taken words) (effect.Made change) words)) (sym has)
+    (room, columns local, words, change, stands, record { local = local; puts = puts; columns_are = refl }, refl)

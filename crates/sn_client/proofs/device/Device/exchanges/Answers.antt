@@ -1,0 +1,103 @@
+use Rattle.std.proofs.Common.{arith, ◌≡◌, ◌≤◌, ◌+◌, ◌∙◌, ℕ, Bool, true, false, List, Option, None, refl, subst, sym}
+use Rattle.std.proofs.lemmas.Bool.{false≢true}
+use Rattle.sn_table.specs.Kept.{Kept}
+use Rattle.sn_sets.proofs.Facts.{later_again, later_at_once}
+use Rattle.sn_client.specs.Calls.{IsOpen, MayHave, device_disk}
+use Rattle.sn_client.specs.Runs.{most_exchanges}
+use Rattle.sn_client.specs.States.{Bytes}
+use Rattle.sn_client.specs.Syncing.{AppliesOne, EndsOne, ExchangesOver}
+use Rattle.sn_client.specs.declared.called.Called.TheVariants as called
+use Rattle.sn_client.specs.declared.error.ClientError.TheVariants as refusal
+use Rattle.sn_client.proofs.KeepLemmas.{keeps_done, keeps_on}
+use Rattle.sn_client.proofs.SyncLemmas.{done_more, due_more, ends_by, ends_done, ends_used, kept_now, made_more, sets_out, stood}
+use Rattle.sn_client.proofs.device.Device.exchanges.Goals as goal
+
+pub exchanges-init : goal.exchanges-init
+exchanges-init g c = record {
+  runs = λ kept opens. (
+    None,
+    sets_out (IsOpen {D = g.row.D.Denot} {g = g.D.Disk}) kept c.args.words.now (g.L.Link.aimed c.args.link.now) (g.L.Link.asks c.args.link.now c.args.link.now) c.args.self
+        (g.met.L.Link.asking.none c.args.link.now) opens,
+    tt,
+  );
+  within = omega arith;
+  sound = c.requires.sound;
+  holds = c.requires.holds;
+  words = later_at_once c.args.words.now;
+  least = refl;
+  aimed = refl;
+  link_later = omega arith;
+  grows = g.met.D.Disk.growing.same (device_disk c.args.self);
+  later = omega arith;
+}
+
+pub exchanges-preserved : goal.exchanges-preserved
+exchanges-preserved g c = record {
+  runs = λ kept opens.
+      let (last, made, due) = c.exchanges.invariant.runs kept opens in
+      let now : Kept = kept_now (IsOpen {D = g.row.D.Denot} {g = g.D.Disk}) kept c.args.words.now (g.L.Link.aimed c.args.link.now) (g.L.Link.asks c.args.link.now c.exchanges.link) c.exchanges.words last c.exchanges.device c.exchanges.count made in
+      let one : AppliesOne (IsOpen {D = g.row.D.Denot} {g = g.D.Disk}) now (stood now c.exchanges.words last) (g.L.Link.aimed c.args.link.now) (g.L.Link.asks c.exchanges.link c.exchange.new.link) c.exchange.new.words c.in-Applied-default-true.next true =
+      subst (λ (h : Bytes). AppliesOne (IsOpen {D = g.row.D.Denot} {g = g.D.Disk}) now (stood now c.exchanges.words last) h (g.L.Link.asks c.exchanges.link c.exchange.new.link) c.exchange.new.words c.in-Applied-default-true.next true) c.exchanges.invariant.aimed
+      (subst (λ (m : Bool). AppliesOne (IsOpen {D = g.row.D.Denot} {g = g.D.Disk}) now (stood now c.exchanges.words last) (g.L.Link.aimed c.exchanges.link) (g.L.Link.asks c.exchanges.link c.exchange.new.link) c.exchange.new.words c.in-Applied-default-true.next m) c.in-Applied-default-true.field-1-test
+      (c.in-Applied-default-true.ensures.exchanged now last made.stands due)) in
+      let more = made_more (IsOpen {D = g.row.D.Denot} {g = g.D.Disk}) kept c.args.words.now (g.L.Link.aimed c.args.link.now) (g.L.Link.asks c.args.link.now c.exchanges.link) (g.L.Link.asks c.exchanges.link c.exchange.new.link) (g.L.Link.asks c.args.link.now c.exchange.new.link) c.exchanges.words c.exchange.new.words last c.exchanges.device c.in-Applied-default-true.next true c.exchanges.count made (λ xs ys x y. g.met.L.Link.asking.more c.args.link.now c.exchanges.link c.exchange.new.link xs ys x y) one in
+      (one.after.last, more.0, due_more (IsOpen {D = g.row.D.Denot} {g = g.D.Disk}) kept c.args.words.now (g.L.Link.aimed c.args.link.now) (g.L.Link.asks c.args.link.now c.exchanges.link) (g.L.Link.asks c.exchanges.link c.exchange.new.link) (g.L.Link.asks c.args.link.now c.exchange.new.link) c.exchanges.words c.exchange.new.words last c.exchanges.device c.in-Applied-default-true.next true c.exchanges.count made (λ xs ys x y. g.met.L.Link.asking.more c.args.link.now c.exchanges.link c.exchange.new.link xs ys x y) one refl);
+  within = omega (arith, c.exchanges-test.true);
+  sound = c.in-Applied-default-true.ensures.device.sound;
+  holds = c.in-Applied-default-true.ensures.holds;
+  words = later_again c.args.words.now c.exchanges.words c.exchange.new.words c.exchanges.invariant.words c.exchange.ensures.words;
+  least = c.in-Applied-default-true.ensures.device.least ∙ c.exchanges.invariant.least;
+  aimed = c.exchange.ensures.aimed ∙ c.exchanges.invariant.aimed;
+  link_later = omega (arith, c.exchanges.invariant.link_later, c.exchange.ensures.link_later);
+  grows = g.met.D.Disk.growing.on (device_disk c.args.self) (device_disk c.exchanges.device) (device_disk c.in-Applied-default-true.next) c.exchanges.invariant.grows
+      c.in-Applied-default-true.ensures.device.grows;
+  later = omega (arith, c.exchanges.invariant.later, c.in-Applied-default-true.ensures.device.later);
+}
+
+pub returns-in-Applied-default-false-clause-runs : goal.returns-in-Applied-default-false-clause-runs
+returns-in-Applied-default-false-clause-runs g c = λ kept opens.
+    let (last, made, due) = c.exchanges.invariant.runs kept opens in
+    let now : Kept = kept_now (IsOpen {D = g.row.D.Denot} {g = g.D.Disk}) kept c.args.words.now (g.L.Link.aimed c.args.link.now) (g.L.Link.asks c.args.link.now c.exchanges.link) c.exchanges.words last c.exchanges.device c.exchanges.count made in
+    let one : AppliesOne (IsOpen {D = g.row.D.Denot} {g = g.D.Disk}) now (stood now c.exchanges.words last) (g.L.Link.aimed c.args.link.now) (g.L.Link.asks c.exchanges.link c.exchange.new.link) c.exchange.new.words c.in-Applied-default-false.next false =
+    subst (λ (h : Bytes). AppliesOne (IsOpen {D = g.row.D.Denot} {g = g.D.Disk}) now (stood now c.exchanges.words last) h (g.L.Link.asks c.exchanges.link c.exchange.new.link) c.exchange.new.words c.in-Applied-default-false.next false) c.exchanges.invariant.aimed
+    (subst (λ (m : Bool). AppliesOne (IsOpen {D = g.row.D.Denot} {g = g.D.Disk}) now (stood now c.exchanges.words last) (g.L.Link.aimed c.exchanges.link) (g.L.Link.asks c.exchanges.link c.exchange.new.link) c.exchange.new.words c.in-Applied-default-false.next m) c.in-Applied-default-false.field-1-test
+    (c.in-Applied-default-false.ensures.exchanged now last made.stands due)) in
+    let more = made_more (IsOpen {D = g.row.D.Denot} {g = g.D.Disk}) kept c.args.words.now (g.L.Link.aimed c.args.link.now) (g.L.Link.asks c.args.link.now c.exchanges.link) (g.L.Link.asks c.exchanges.link c.exchange.new.link) (g.L.Link.asks c.args.link.now c.exchange.new.link) c.exchanges.words c.exchange.new.words last c.exchanges.device c.in-Applied-default-false.next false c.exchanges.count made (λ xs ys x y. g.met.L.Link.asking.more c.args.link.now c.exchanges.link c.exchange.new.link xs ys x y) one in
+    let done = done_more (IsOpen {D = g.row.D.Denot} {g = g.D.Disk}) kept c.args.words.now (g.L.Link.aimed c.args.link.now) (g.L.Link.asks c.args.link.now c.exchanges.link) (g.L.Link.asks c.exchanges.link c.exchange.new.link) (g.L.Link.asks c.args.link.now c.exchange.new.link) c.exchanges.words c.exchange.new.words last c.exchanges.device c.in-Applied-default-false.next false c.exchanges.count made (λ xs ys x y. g.met.L.Link.asking.more c.args.link.now c.exchanges.link c.exchange.new.link xs ys x y) one (λ is. false≢true is) in
+    ends_done (IsOpen {D = g.row.D.Denot} {g = g.D.Disk}) (MayHave g.D.Disk.told g.D.Disk.may_leave) kept c.args.words.now (g.L.Link.aimed c.args.link.now) (g.L.Link.asks c.args.link.now c.exchange.new.link) c.exchange.new.words one.after.last c.in-Applied-default-false.next (c.exchanges.count + 1) more.0
+    tt done (omega (arith, c.exchanges-test.true))
+
+pub returns-in-Applied-default-false-clause-device : goal.returns-in-Applied-default-false-clause-device
+returns-in-Applied-default-false-clause-device g c =
+    keeps_done c.args.self c.in-Applied-default-false.next refusal.RoundsUsed tt
+    (keeps_on c.args.self c.exchanges.device (called.Refused c.in-Applied-default-false.next refusal.RoundsUsed) g.met.D.Disk.growing c.exchanges.invariant.least
+    c.exchanges.invariant.grows c.exchanges.invariant.later c.in-Applied-default-false.ensures.device)
+
+pub returns-in-Applied-default-false-clause-words : goal.returns-in-Applied-default-false-clause-words
+returns-in-Applied-default-false-clause-words g c =
+    later_again c.args.words.now c.exchanges.words c.exchange.new.words c.exchanges.invariant.words c.exchange.ensures.words
+
+pub returns-in-Ended-clause-runs : goal.returns-in-Ended-clause-runs
+returns-in-Ended-clause-runs g c = λ kept opens.
+    let (last, made, due) = c.exchanges.invariant.runs kept opens in
+    let now : Kept = kept_now (IsOpen {D = g.row.D.Denot} {g = g.D.Disk}) kept c.args.words.now (g.L.Link.aimed c.args.link.now) (g.L.Link.asks c.args.link.now c.exchanges.link) c.exchanges.words last c.exchanges.device c.exchanges.count made in
+    let one : EndsOne (IsOpen {D = g.row.D.Denot} {g = g.D.Disk}) (MayHave g.D.Disk.told g.D.Disk.may_leave) now (stood now c.exchanges.words last) (g.L.Link.aimed c.args.link.now) (g.L.Link.asks c.exchanges.link c.exchange.new.link) c.exchange.new.words c.in-Ended.called =
+    subst (λ (h : Bytes). EndsOne (IsOpen {D = g.row.D.Denot} {g = g.D.Disk}) (MayHave g.D.Disk.told g.D.Disk.may_leave) now (stood now c.exchanges.words last) h (g.L.Link.asks c.exchanges.link c.exchange.new.link) c.exchange.new.words c.in-Ended.called) c.exchanges.invariant.aimed
+    (c.in-Ended.ensures.exchanged now last made.stands due) in
+    ends_by (IsOpen {D = g.row.D.Denot} {g = g.D.Disk}) (MayHave g.D.Disk.told g.D.Disk.may_leave) kept c.args.words.now (g.L.Link.aimed c.args.link.now) (g.L.Link.asks c.args.link.now c.exchanges.link) c.exchanges.words last c.exchanges.device c.exchanges.count made
+    (g.L.Link.asks c.exchanges.link c.exchange.new.link) (g.L.Link.asks c.args.link.now c.exchange.new.link) c.exchange.new.words c.in-Ended.called (λ xs ys x y. g.met.L.Link.asking.more c.args.link.now c.exchanges.link c.exchange.new.link xs ys x y) c.exchanges-test.true one
+
+pub returns-in-Ended-clause-device : goal.returns-in-Ended-clause-device
+returns-in-Ended-clause-device g c =
+    keeps_on c.args.self c.exchanges.device c.in-Ended.called g.met.D.Disk.growing c.exchanges.invariant.least c.exchanges.invariant.grows c.exchanges.invariant.later
+    c.in-Ended.ensures.device
+
+pub returns-in-Ended-clause-words : goal.returns-in-Ended-clause-words
+returns-in-Ended-clause-words g c =
+    later_again c.args.words.now c.exchanges.words c.exchange.new.words c.exchanges.invariant.words c.exchange.ensures.words
+
+pub returns-clause-runs : goal.returns-clause-runs
+returns-clause-runs g c = λ kept opens.
+    let (last, made, due) = c.exchanges.invariant.runs kept opens in
+    ends_used (IsOpen {D = g.row.D.Denot} {g = g.D.Disk}) (MayHave g.D.Disk.told g.D.Disk.may_leave) kept c.args.words.now (g.L.Link.aimed c.args.link.now) (g.L.Link.asks c.args.link.now c.exchanges.link) c.exchanges.words last c.exchanges.device c.exchanges.count made due
+    (omega (arith, c.exchanges-test.false, c.exchanges.invariant.within))

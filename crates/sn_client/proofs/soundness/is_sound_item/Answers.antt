@@ -1,0 +1,13 @@
+use Rattle.std.proofs.lemmas.Bool.{iff_false}
+use Rattle.sn_client.specs.States.{columns}
+use Rattle.sn_client.proofs.SoundnessLemmas.{item_of, never, parts_of, strings_of, tests_same}
+use Rattle.sn_client.proofs.soundness.is_sound_item.Goals as goal
+
+pub returns-then-not-has_sound_parts : goal.returns-then-not-has_sound_parts
+returns-then-not-has_sound_parts c =
+    never (λ sound. iff_false c.has_sound_parts.ensures c.if-not-has_sound_parts.true (parts_of (columns c.args.item.now) sound))
+
+pub returns : goal.returns
+returns c =
+    tests_same c.has_own_strings.result (item_of (columns c.args.item.now) (c.has_sound_parts.ensures.0 c.if-not-has_sound_parts.false))
+    (strings_of (columns c.args.item.now)) c.has_own_strings.ensures

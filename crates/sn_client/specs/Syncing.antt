@@ -1,0 +1,155 @@
+-- One exchange of a sync, and all of them, by what each leaves: a device behind an answer that was applied, or the end of the call.
+use Rattle.std.specs.Prelude.{◌≡◌, ◌⊎◌, ◌↔◌, ◌≤◌, ℕ, Bool, IsTrue, List, [], ◌∷◌, None, Some, codes}
+use Rattle.rand_chacha.specs.ChaCha.{ChaCha}
+use Rattle.sn_conflict.specs.declared.error.CheckError.{CheckError}
+use Rattle.sn_conflict.specs.declared.error.CheckError.TheVariants as wrong
+use Rattle.sn_disk.specs.declared.disk.Disk.{Ghosts}
+use Rattle.sn_io.specs.Causes.{Rose}
+use Rattle.sn_net.specs.Exchanges.{Exchange}
+use Rattle.sn_rows.specs.Table.{Rows, rows_after}
+use Rattle.sn_rows.specs.declared.change.Change.{Change}
+use Rattle.sn_sync.specs.declared.answer.Answer.{Answer}
+use Rattle.sn_sync.specs.declared.item.Item.{Item}
+use Rattle.sn_sync.specs.declared.request.Request.{Request}
+use Rattle.sn_sync.specs.declared.request.Request.TheVariants as request
+use Rattle.sn_table.specs.Kept.{Kept, with_batch}
+use Rattle.sn_client.specs.Asked.{AsksOnce}
+use Rattle.sn_client.specs.Asking.{Reply, said}
+use Rattle.sn_client.specs.Calls.{Ends, IfBroken, IfStands, called_disk, device_disk, device_rows, kept_done}
+use Rattle.sn_client.specs.Runs.{Act, AreExchanges, EndsBehind, EndsUnapplied, Exchanges, Given, Halt, IsBatch, IsCheckPlace, IsDue, IsLeft, IsRound, Round, Standing, Wants, acts_of, asked, nothing, refused}
+use Rattle.sn_client.specs.Sending.{AreOfRows}
+use Rattle.sn_client.specs.States.{Bytes, IsSound}
+use Rattle.sn_client.specs.Steps.{Step, applies}
+use Rattle.sn_client.specs.declared.called.Called.{Called}
+use Rattle.sn_client.specs.declared.called.Called.TheVariants as called
+use Rattle.sn_client.specs.declared.device.Device.{Device}
+use Rattle.sn_client.specs.declared.error.ClientError.{ClientError}
+use Rattle.sn_client.specs.declared.error.ClientError.TheVariants as refusal
+use Rattle.sn_client.specs.declared.syncing.Exchanged.{Exchanged}
+use Rattle.sn_client.specs.declared.syncing.Exchanged.TheVariants as exchanged
+
+abbrev pub gives_nothing : {T : Type 0} → T → Given
+gives_nothing given = nothing
+
+-- while a change of password runs
+abbrev pub bad_auth : ClientError
+bad_auth = refusal.Refused 401 (codes "bad-auth")
+
+-- the refusal for a check that fails; memory may be wanting for it
+abbrev pub IsCheckRefusal : CheckError → ClientError → Type 0
+IsCheckRefusal wrong.Memory why = why ≡ refusal.Memory
+IsCheckRefusal e why = (at : _) × IsCheckPlace e at × (why ≡ refusal.BadAnswer at)
+
+-- a sync of items that were sent of these rows
+pub record IsSyncFrom (rows : Rows) (r : Request) : Type 0 where
+  pub token : Bytes
+  pub items : List Item
+  pub limit : ℕ
+  pub sync_token : _
+  pub cursor_token : _
+  pub is : r ≡ request.Sync token items limit sync_token cursor_token
+  pub of_rows : AreOfRows rows items
+
+module _ {D : Type 0} {g : Ghosts D} where
+  -- what a call keeps of a device: sound rows, the least cost, and a disk that goes on, with a fault more where it failed
+  pub record KeepsDevice {T : Type 0} (old : Device D g) (result : Called (Device D g) D T) : Type 0 where
+    pub sound : IfStands result (λ device. IsSound (device_rows device))
+    pub least : IfStands result (λ device. device.least_cost ≡ old.least_cost)
+    pub fault : IfBroken result (λ disk. Rose (g.fault_count (device_disk old)) (g.fault_count disk))
+    pub grows : g.grows (device_disk old) (called_disk device_disk result)
+    pub later : g.fault_count (device_disk old) ≤ g.fault_count (called_disk device_disk result)
+
+  -- the end of a call, or a device behind an exchange as one that is refused
+  abbrev pub called_of : {T : Type 0} → Exchanged (Device D g) D T → Called (Device D g) D T
+  called_of (exchanged.Applied device more) = called.Refused device refusal.RoundsUsed
+  called_of (exchanged.Ended result) = result
+
+-- memory was wanting before the request; or its reply, or what the answer changes, ends the call
+abbrev pub EndsAsking : Kept → ChaCha → Request → List Act → Halt → Type 0
+EndsAsking kept words r acts halt = Wants acts halt
+    ⊎ ((reply : Reply) × (acts ≡ asked r reply ∷ []) × EndsBehind kept.rows words r reply halt)
+
+module _ {S : Type 0} (is_open : S → Kept → Type 0) where
+  -- the answer to a request is applied in one commit, and something is left or not
+  pub record IsAppliedBy (kept : Kept) (words : ChaCha) (r : Request) (given : Answer) (left : ChaCha) (device : S) (more : Bool) : Type 0 where
+    pub changes : List Change
+    pub step : Step kept.rows words (applies r given) changes left
+    pub batch : IsBatch changes
+    pub stands : is_open device (with_batch kept changes)
+    pub is_more : IsTrue more ↔ IsLeft (rows_after kept.rows changes) given
+
+  -- a request is asked, and its answer is applied
+  pub record AsksAndApplies (kept : Kept) (words : ChaCha) (r : Request) (host : Bytes) (asks : List Exchange → Type 0) (left : ChaCha) (device : S)
+      (more : Bool) : Type 0 where
+    pub given : Answer
+    pub asked_once : AsksOnce asks host r (said given)
+    pub applied : IsAppliedBy kept words r given left device more
+
+  -- an exchange is made: the sync stands behind this round, and another exchange is due or not
+  pub record AppliesOne (kept : Kept) (at : Standing) (host : Bytes) (asks : List Exchange → Type 0) (left : ChaCha) (device : S) (more : Bool) : Type 0 where
+    pub round : Round
+    pub after : Standing
+    pub is : IsRound at round after
+    pub words_are : after.words ≡ left
+    pub is_more : IsTrue more ↔ IsDue after.rows after.last
+    pub exchanges : List Exchange
+    pub are : AreExchanges host (acts_of round) exchanges
+    pub asked_so : asks exchanges
+    pub stands : is_open device (kept_done kept (acts_of round))
+
+module _ {S D T : Type 0} (is_open : S → Kept → Type 0) (may_have : D → Kept → List Change → Type 0) where
+  -- ---- the answer to a request
+
+  -- what it changes isn't committed
+  pub record IsUnappliedBy (kept : Kept) (words : ChaCha) (r : Request) (given : Answer) (left : ChaCha) (result : Called S D T) : Type 0 where
+    pub halt : Halt
+    pub so : EndsBehind kept.rows words r (said given) halt
+    pub ends : Ends is_open may_have gives_nothing kept [] halt left result
+
+  abbrev pub IsApplied : Kept → ChaCha → Request → Answer → ChaCha → Exchanged S D T → Type 0
+  IsApplied kept words r given left (exchanged.Applied device more) = IsAppliedBy is_open kept words r given left device more
+  IsApplied kept words r given left (exchanged.Ended result) = IsUnappliedBy kept words r given left result
+
+  -- ---- a request and its answer
+
+  pub record EndsAsked (kept : Kept) (words : ChaCha) (r : Request) (host : Bytes) (asks : List Exchange → Type 0) (left : ChaCha)
+      (result : Called S D T) : Type 0 where
+    pub acts : List Act
+    pub halt : Halt
+    pub so : EndsAsking kept words r acts halt
+    pub exchanges : List Exchange
+    pub are : AreExchanges host acts exchanges
+    pub asked_so : asks exchanges
+    pub ends : Ends is_open may_have gives_nothing kept acts halt left result
+
+  abbrev pub IsAskedAndApplied : Kept → ChaCha → Request → Bytes → (List Exchange → Type 0) → ChaCha → Exchanged S D T → Type 0
+  IsAskedAndApplied kept words r host asks left (exchanged.Applied device more) = AsksAndApplies is_open kept words r host asks left device more
+  IsAskedAndApplied kept words r host asks left (exchanged.Ended result) = EndsAsked kept words r host asks left result
+
+  -- ---- an exchange
+
+  -- it ends the call
+  pub record EndsOne (kept : Kept) (at : Standing) (host : Bytes) (asks : List Exchange → Type 0) (left : ChaCha) (result : Called S D T) : Type 0 where
+    pub acts : List Act
+    pub halt : Halt
+    pub so : EndsUnapplied at acts halt ⊎ Wants acts halt
+    pub exchanges : List Exchange
+    pub are : AreExchanges host acts exchanges
+    pub asked_so : asks exchanges
+    pub ends : Ends is_open may_have gives_nothing kept acts halt left result
+
+  abbrev pub IsExchanged : Kept → Standing → Bytes → (List Exchange → Type 0) → ChaCha → Exchanged S D T → Type 0
+  IsExchanged kept at host asks left (exchanged.Applied device more) = AppliesOne is_open kept at host asks left device more
+  IsExchanged kept at host asks left (exchanged.Ended result) = EndsOne kept at host asks left result
+
+  -- ---- all of them
+
+  pub record ExchangesOver (kept : Kept) (words : ChaCha) (host : Bytes) (asks : List Exchange → Type 0) (left : ChaCha) (result : Called S D T)
+      : Type 0 where
+    pub acts : List Act
+    pub halt : Halt
+    pub so : Exchanges kept.rows words acts halt
+    pub exchanges : List Exchange
+    pub are : AreExchanges host acts exchanges
+    pub asked_so : asks exchanges
+    pub ends : Ends is_open may_have gives_nothing kept acts halt left result

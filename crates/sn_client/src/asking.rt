@@ -1,0 +1,149 @@
+//! Asking a server over a link: the bytes of a request, and what those that come back come to.
+
+ghost use Rattle.std.specs.Prelude.{◌≡◌, ◌≤◌, IfErr, IfOk, IsErrOf, string_bytes};
+ghost use Rattle.sn_client.specs.Asked.{ComesTo, IsAsked, IsRefusalFor};
+ghost use Rattle.sn_client.specs.Asking.{IsReply, IsRequestBytes, Reply, body_of, session_of, target_of};
+ghost use Rattle.sn_io.specs.Causes.{Rose};
+ghost use Rattle.sn_net.specs.Exchanges.{answer_of};
+ghost use Rattle.sn_sync.specs.Fits.{FitsAnswer};
+ghost use Rattle.sn_sync.specs.Requests.{route_of};
+
+use crate::error::{ClientError, Place};
+use sn_net::{AskError, Link};
+use sn_sync::{Answer, Request, Route, SyncError};
+use std::alloc::{AllocError, Global};
+
+/// The most bytes of an answer: a head of 16,384 bytes and a body of 33,554,432.
+const LONGEST_ANSWER: usize = 33_570_816;
+
+/// Asks the link's host, and gives its answer. A refusal of the server is none: it ends the call.
+pub(crate) fn ask<L: Link>(
+    alloc: Global,
+    link: &mut L,
+    request: &Request,
+) -> Result<Answer, ClientError>
+    ensures asked { IsAsked (L.asks link.old link.new) (L.aimed link.old) request.now result }
+    ensures fits { IfOk result (FitsAnswer (route_of request.now) 200) }
+    ensures aimed { L.aimed link.new ≡ L.aimed link.old }
+    ensures link_fault { IsErrOf result ClientError.LinkFault → Rose (L.fault_count link.old) (L.fault_count link.new) }
+    ensures link_later { L.fault_count link.old ≤ L.fault_count link.new }
+{
+    let Ok((route, bytes)) = request_bytes(alloc, link.host(), request) else {
+        return Err(ClientError::Memory);
+    };
+    let answered = link.ask(alloc, &bytes, LONGEST_ANSWER);
+    reply(alloc, route, answered)
+}
+
+/// The same with a request that isn't needed behind it.
+pub(crate) fn ask_with<L: Link>(
+    alloc: Global,
+    link: &mut L,
+    request: Request,
+) -> Result<Answer, ClientError>
+    ensures asked { IsAsked (L.asks link.old link.new) (L.aimed link.old) request result }
+    ensures fits { IfOk result (FitsAnswer (route_of request) 200) }
+    ensures aimed { L.aimed link.new ≡ L.aimed link.old }
+    ensures link_fault { IsErrOf result ClientError.LinkFault → Rose (L.fault_count link.old) (L.fault_count link.new) }
+    ensures link_later { L.fault_count link.old ≤ L.fault_count link.new }
+{
+    ask(alloc, link, &request)
+}
+
+// The bytes of a request to a host, and its route.
+fn request_bytes(
+    alloc: Global,
+    host: &str,
+    request: &Request,
+) -> Result<(Route, Vec<u8>), AllocError>
+    ensures route { IfOk result (λ written. written.0 ≡ route_of request.now) }
+    ensures bytes { IfOk result (λ written. IsRequestBytes host.now request.now written.1.items) }
+{
+    let (route, text) = sn_sync::write_request(alloc, request)?;
+    let target = target(alloc, route, &text)?;
+    let bytes = sn_http::write_request(
+        alloc,
+        route.method(),
+        &target,
+        host,
+        session(request),
+        body(route, &text),
+    )?;
+    Ok((route, bytes))
+}
+
+// Where a request goes at its host.
+fn target(alloc: Global, route: Route, text: &str) -> Result<String, AllocError>
+    ensures { IfOk result (λ target. string_bytes target ≡ target_of route text.now) }
+{
+    match route {
+        Route::Params => format!(in alloc; "{}?{text}", route.path()),
+        _ => route.path().to_string(alloc),
+    }
+}
+
+// The body of a request.
+fn body(route: Route, text: &str) -> &[u8]
+    ensures { result.now ≡ body_of route text.now }
+{
+    match route {
+        Route::Params => &[],
+        _ => text.as_bytes(),
+    }
+}
+
+// The session token that goes with a request; none is empty.
+fn session(request: &Request) -> &[u8]
+    ensures { result.now ≡ session_of request.now }
+{
+    match request {
+        Request::ChangePw { token, .. } | Request::Sync { token, .. } => token.as_str().as_bytes(),
+        Request::Register { .. } | Request::Params { .. } | Request::SignIn { .. } => &[],
+    }
+}
+
+// What comes of a request on this route.
+fn reply(
+    alloc: Global,
+    route: Route,
+    answered: Result<Vec<u8>, AskError>,
+) -> Result<Answer, ClientError>
+    ensures reply { (reply : Reply) × IsReply route (answer_of answered) reply × ComesTo reply result }
+    ensures fits { IfOk result (FitsAnswer route 200) }
+    ensures link { IsErrOf result ClientError.LinkFault → IsErrOf answered AskError.Failed }
+{
+    match answered {
+        Ok(bytes) => read(alloc, route, &bytes),
+        Err(AskError::Failed) => Err(ClientError::LinkFault),
+        Err(AskError::Memory) => Err(ClientError::Memory),
+    }
+}
+
+// What the bytes come to that came back.
+fn read(alloc: Global, route: Route, bytes: &[u8]) -> Result<Answer, ClientError>
+    ensures reply { (reply : Reply) × IsReply route (Some bytes.now) reply × ComesTo reply result }
+    ensures fits { IfOk result (FitsAnswer route 200) }
+    ensures link { IsErrOf result ClientError.LinkFault → ⊥ }
+{
+    let Ok((status, body)) = sn_http::read_answer(bytes) else {
+        return Err(ClientError::BadAnswer { place: Place::Head });
+    };
+    match sn_sync::read_answer(alloc, route, status, body) {
+        Ok(Answer::Refused { status, tag, .. }) => Err(ClientError::Refused { status, tag }),
+        Ok(answer) => Ok(answer),
+        Err(error) => Err(unread(error)),
+    }
+}
+
+// The refusal for a body that isn't read.
+fn unread(error: SyncError) -> ClientError
+    ensures { IsRefusalFor error result }
+{
+    match error {
+        SyncError::NotJson => ClientError::BadAnswer { place: Place::Json },
+        SyncError::Member { name } | SyncError::Limit { name, .. } => ClientError::BadAnswer {
+            place: Place::Member { name },
+        },
+        SyncError::Memory => ClientError::Memory,
+    }
+}

@@ -1,0 +1,112 @@
+//! The changes of commits, row by row.
+
+ghost use Rattle.std.specs.Prelude.{◌≡◌, ◌∷◌, [], None, Some, IfOk};
+ghost use Rattle.sn_rows.specs.Bounds.{HasLength};
+ghost use Rattle.sn_rows.specs.Table.{Puts};
+ghost use Rattle.sn_rows.specs.declared.key.Key.TheVariants as key;
+ghost use Rattle.sn_rows.specs.declared.value.Value.TheVariants as value;
+ghost use Rattle.sn_client.specs.Sending.{PutsColumns};
+ghost use Rattle.sn_client.specs.States.{columns, owner_columns};
+ghost use Rattle.sn_client.specs.Steps.{PutsOwner, drafted, with_next};
+ghost use Rattle.sn_client.specs.Taking.{new_columns};
+
+use sn_rows::{Boxed, Change, Key, LocalItem, OwnerRow, Row, RowBody, RowStrings, Value};
+use sn_string::{Text, Twin};
+use std::alloc::{AllocError, Global};
+use uuid::Uuid;
+
+/// The change that puts the device's own row.
+pub(crate) fn put_owner(alloc: Global, owner: OwnerRow) -> Result<Change, AllocError>
+    ensures { IfOk result (λ change. Puts change key.Owner (value.Owner owner)) }
+{
+    let owner = Boxed::of(alloc, owner)?;
+    Ok(Change::Put(Row {
+        key: Key::Owner,
+        value: Value::Owner(owner),
+    }))
+}
+
+/// The change that puts the item of a local number.
+pub(crate) fn put_local(alloc: Global, number: u64, item: LocalItem) -> Result<Change, AllocError>
+    ensures { IfOk result (λ change. Puts change (key.Local number) (value.Local item)) }
+{
+    let item = Boxed::of(alloc, item)?;
+    Ok(Change::Put(Row {
+        key: Key::Local(number),
+        value: Value::Local(item),
+    }))
+}
+
+/// The device's own row with another next local number.
+pub(crate) fn put_next(alloc: Global, owner: &OwnerRow, next: u64) -> Result<Change, AllocError>
+    ensures { IfOk result (λ change. PutsOwner change (with_next next (owner_columns owner.now))) }
+{
+    let mut counted = owner.twin(alloc)?;
+    counted.next = next;
+    put_owner(alloc, counted)
+}
+
+/// A new item of this uuid and type, with a draft and nothing that it stands on.
+pub(crate) fn put_new(
+    alloc: Global,
+    number: u64,
+    uuid: Uuid,
+    kind: &str,
+    strings: RowStrings,
+) -> Result<Change, AllocError>
+    requires { HasLength 1 255 kind.now }
+    ensures { IfOk result (λ change. PutsColumns change number (new_columns uuid kind.now strings)) }
+{
+    let kind = Text::of(alloc, kind)?;
+    let latest = Some(RowBody::Sealed(strings));
+    let Some(item) = LocalItem::new(uuid, kind, None, false, None, latest, None) else {
+        unreachable!()
+    };
+    put_local(alloc, number, item)
+}
+
+/// The item with another draft. What was sent of it stays.
+pub(crate) fn put_draft(
+    alloc: Global,
+    number: u64,
+    item: &LocalItem,
+    draft: RowBody,
+) -> Result<Change, AllocError>
+    ensures { IfOk result (λ change. PutsColumns change number (drafted (Some draft) (columns item.now))) }
+{
+    let kind = item.kind.twin(alloc)?;
+    let body = item.body.twin(alloc)?;
+    let posted = item.posted.twin(alloc)?;
+    let again = LocalItem {
+        uuid: item.uuid,
+        kind,
+        base: item.base,
+        stale: item.stale,
+        body,
+        latest: Some(draft),
+        posted,
+    };
+    put_local(alloc, number, again)
+}
+
+/// One change.
+pub(crate) fn one_change(alloc: Global, change: Change) -> Result<Vec<Change>, AllocError>
+    ensures { IfOk result (λ changes. changes.items ≡ change ∷ []) }
+{
+    let mut changes = Vec::new(alloc);
+    changes.push(change)?;
+    Ok(changes)
+}
+
+/// Two changes, in order.
+pub(crate) fn two_changes(
+    alloc: Global,
+    first: Change,
+    second: Change,
+) -> Result<Vec<Change>, AllocError>
+    ensures { IfOk result (λ changes. changes.items ≡ first ∷ second ∷ []) }
+{
+    let mut changes = one_change(alloc, first)?;
+    changes.push(second)?;
+    Ok(changes)
+}

@@ -1,0 +1,246 @@
+//! Signing in: the parameters of an account are asked for, and a password's keys under them tell what the store takes.
+
+ghost use Rattle.std.specs.Prelude.{◌≡◌, ◌≢◌, ◌⊎◌, ◌↔◌, ◌≤◌, ℕ, List, Err, IfErr, IfNone, IfOk, IfSome, IsErrOf, IsTrue, OnOk, true};
+ghost use Rattle.sn_client.specs.Asked.{AsksOnce, IsAsked};
+ghost use Rattle.sn_client.specs.Asking.{said};
+ghost use Rattle.sn_client.specs.Runs.{IsBadCost, IsOrMayBe, IsOtherOlder};
+ghost use Rattle.sn_client.specs.Signing.{HasKeys, RefusesAgain, RefusesKeys, RefusesParams, RefusesWith, RenewsWith};
+ghost use Rattle.sn_client.specs.States.{AreSoundSets, HasOwner};
+ghost use Rattle.sn_client.specs.declared.error.ClientError.TheVariants as refusal;
+ghost use Rattle.sn_io.specs.Causes.{Rose};
+ghost use Rattle.sn_row_map.specs.RowMaps.{row_in};
+ghost use Rattle.sn_rows.specs.declared.device_rows.OwnerRow.{OwnerRow};
+ghost use Rattle.sn_sync.specs.declared.request.Request.TheVariants as request;
+ghost use Rattle.sn_table.specs.Tables.{table_rows};
+
+use crate::asking::ask_with;
+use crate::called::Called;
+use crate::device::Device;
+use crate::error::{ClientError, Place};
+use crate::registering::is_bad_cost;
+use crate::state::{owner, sets_of};
+use sn_disk::Disk;
+use sn_items::Words;
+use sn_keys::derive;
+use sn_net::Link;
+use sn_sets::Sets;
+use sn_string::{KeySet, Params, Text, Twin};
+use sn_sync::{Answer, Request};
+use sn_table::Table;
+use std::alloc::{AllocError, Global};
+
+impl<D: Disk> Device<D> {
+    ghost use Rattle.rand_chacha.specs.ChaCha.{ChaCha};
+    ghost use Rattle.sn_disk.specs.Disk.{LeavesOnly};
+    ghost use Rattle.sn_table.specs.Kept.{Kept};
+    ghost use Rattle.sn_client.specs.Calls.{CallsOver, IfBroken, IfRefused, IfStands, IsOpen, MayHave, StandsOrHas, called_disk, device_disk, device_rows};
+    ghost use Rattle.sn_client.specs.Going.{GoesOver, MayWant};
+    ghost use Rattle.sn_client.specs.Runs.{SignsInWith, nothing, sign_in};
+    ghost use Rattle.sn_client.specs.Signing.{MadeBySignIn};
+    ghost use Rattle.sn_client.specs.States.{IsSound};
+    ghost use Rattle.sn_client.specs.Steps.{Begins, Renews};
+
+    /// Signs in to an account at the link's host. Its identifier has 1 to 254 bytes. The time goes with the account's cost.
+    pub fn sign_in<L: Link>(
+        self,
+        link: &mut L,
+        words: &mut Words,
+        identifier: &str,
+        password: &str,
+    ) -> Called<Device<D>, D, ()>
+        requires sound { IsSound (device_rows self) }
+        ensures runs { (kept : Kept) → IsOpen self kept →
+            CallsOver IsOpen (MayHave D.told D.may_leave) (λ given. nothing) self.least_cost (sign_in identifier.now password.now)
+            (L.asks link.old link.new) (L.aimed link.old) kept words.old words.new result }
+        ensures any_moment { D.told → (kept : Kept) → IsOpen self kept →
+            LeavesOnly D.moment D.left_since (device_disk self) (called_disk device_disk result)
+            (StandsOrHas kept.batches (MadeBySignIn kept.rows identifier.now password.now)) }
+        ensures words { words.new ≡ words.old }
+        ensures sound { IfStands result (λ device. IsSound (device_rows device)) }
+        ensures least { IfStands result (λ device. device.least_cost ≡ self.least_cost) }
+        ensures fault { IfBroken result (λ disk. Rose (D.fault_count (device_disk self)) (D.fault_count disk)) }
+        ensures grows { D.grows (device_disk self) (called_disk device_disk result) }
+        ensures later { D.fault_count (device_disk self) ≤ D.fault_count (called_disk device_disk result) }
+        ensures aimed { L.aimed link.new ≡ L.aimed link.old }
+        ensures link_fault { IfRefused result (λ why. why ≡ ClientError.LinkFault → Rose (L.fault_count link.old) (L.fault_count link.new)) }
+        ensures link_later { L.fault_count link.old ≤ L.fault_count link.new }
+    {
+        if let Some(why) = other_account(self.alloc, &self.table, identifier) {
+            return Called::Refused(self, why);
+        }
+        match keys(self.alloc, link, self.least_cost, identifier, password) {
+            Ok(set) => self.sign_in_with(link, set),
+            Err(why) => Called::Refused(self, why),
+        }
+    }
+
+    // Signs in with the keys of a password.
+    fn sign_in_with<L: Link>(self, link: &mut L, set: KeySet) -> Called<Device<D>, D, ()>
+        requires sound { IsSound (device_rows self) }
+        ensures runs { (kept : Kept) (words : ChaCha) → IsOpen self kept →
+            GoesOver IsOpen (MayHave D.told D.may_leave) (λ given. nothing) (MayWant (SignsInWith kept.rows words set.params.identifier set))
+            (L.asks link.old link.new) (L.aimed link.old) kept words result }
+        ensures any_moment { D.told → (kept : Kept) → IsOpen self kept →
+            LeavesOnly D.moment D.left_since (device_disk self) (called_disk device_disk result)
+            (StandsOrHas kept.batches (λ changes. (uuid : List ℕ) × (token : List ℕ) × (Begins set uuid token changes ⊎ Renews kept.rows token changes))) }
+        ensures sound { IfStands result (λ device. IsSound (device_rows device)) }
+        ensures least { IfStands result (λ device. device.least_cost ≡ self.least_cost) }
+        ensures fault { IfBroken result (λ disk. Rose (D.fault_count (device_disk self)) (D.fault_count disk)) }
+        ensures grows { D.grows (device_disk self) (called_disk device_disk result) }
+        ensures later { D.fault_count (device_disk self) ≤ D.fault_count (called_disk device_disk result) }
+        ensures aimed { L.aimed link.new ≡ L.aimed link.old }
+        ensures link_fault { IfRefused result (λ why. why ≡ ClientError.LinkFault → Rose (L.fault_count link.old) (L.fault_count link.new)) }
+        ensures link_later { L.fault_count link.old ≤ L.fault_count link.new }
+    {
+        let renewing = match renews_with(self.alloc, &self.table, &set) {
+            Ok(renewing) => renewing,
+            Err(why) => return Called::Refused(self, why),
+        };
+        let Ok(request) = sign_in_request(self.alloc, &set) else {
+            return Called::Refused(self, ClientError::Memory);
+        };
+        if renewing {
+            self.renew(link, request)
+        } else {
+            self.begin(link, request, set)
+        }
+    }
+}
+
+// Whether a device has the account of these keys, whose session token is to be renewed, or none.
+fn renews_with<D: Disk>(alloc: Global, table: &Table<D>, set: &KeySet) -> Result<bool, ClientError>
+    requires sound { AreSoundSets (row_in (table_rows table.now)) }
+    ensures ok { IfOk result (λ renewing. RenewsWith (row_in (table_rows table.now)) set.now renewing) }
+    ensures err { IfErr result (RefusesWith (row_in (table_rows table.now)) set.now) }
+{
+    let Ok(found) = sets_of(alloc, table) else {
+        return Err(ClientError::Memory);
+    };
+    match found {
+        Some(sets) => renews_again(&sets, set),
+        None => Ok(false),
+    }
+}
+
+// The same on a device that holds these sets.
+fn renews_again(sets: &Sets, set: &KeySet) -> Result<bool, ClientError>
+    ensures ok { IfOk result (λ renewing. (renewing ≡ true) × (set.now ≡ sets.now.present)) }
+    ensures err { IfErr result (RefusesAgain sets.now set.now) }
+{
+    match refusal_again(sets, set) {
+        Some(why) => Err(why),
+        None => Ok(true),
+    }
+}
+
+// The refusal of a store with another account.
+fn other_account<D: Disk>(alloc: Global, table: &Table<D>, identifier: &str) -> Option<ClientError>
+    ensures some { IfSome result (λ why. (why ≡ refusal.Memory) ⊎ ((owner : OwnerRow) × HasOwner (row_in (table_rows table.now)) owner
+        × (owner.identifier ≢ identifier.now) × (why ≡ refusal.OtherAccount owner.identifier))) }
+    ensures none { IfNone result (IsOrMayBe (row_in (table_rows table.now)) identifier.now) }
+{
+    let owner = owner(table)?;
+    if owner.identifier.as_str() == identifier {
+        return None;
+    }
+    match owner.identifier.twin(alloc) {
+        Ok(identifier) => Some(ClientError::OtherAccount { identifier }),
+        Err(_) => Some(ClientError::Memory),
+    }
+}
+
+// The keys of a password under the account's parameters, as the host answers them.
+fn keys<L: Link>(
+    alloc: Global,
+    link: &mut L,
+    least: u32,
+    identifier: &str,
+    password: &str,
+) -> Result<KeySet, ClientError>
+    ensures keys { IfOk result (HasKeys (L.asks link.old link.new) (L.aimed link.old) least identifier.now password.now) }
+    ensures err { IfErr result (RefusesKeys (L.asks link.old link.new) (L.aimed link.old) least identifier.now) }
+    ensures aimed { L.aimed link.new ≡ L.aimed link.old }
+    ensures link_fault { IsErrOf result ClientError.LinkFault → Rose (L.fault_count link.old) (L.fault_count link.new) }
+    ensures link_later { L.fault_count link.old ≤ L.fault_count link.new }
+{
+    let params = ask_params(alloc, link, identifier)?;
+    check_params(least, identifier, &params)?;
+    match derive(alloc, password, &params) {
+        Ok(set) => Ok(set),
+        Err(_) => Err(ClientError::Memory),
+    }
+}
+
+fn ask_params<L: Link>(alloc: Global, link: &mut L, identifier: &str) -> Result<Params, ClientError>
+    ensures gives { IfOk result (λ params. AsksOnce (L.asks link.old link.new) (L.aimed link.old) (request.Params identifier.now) (said (Answer.Params params))) }
+    ensures err { IfErr result (λ why. IsAsked (L.asks link.old link.new) (L.aimed link.old) (request.Params identifier.now) (Err why)) }
+    ensures aimed { L.aimed link.new ≡ L.aimed link.old }
+    ensures link_fault { IsErrOf result ClientError.LinkFault → Rose (L.fault_count link.old) (L.fault_count link.new) }
+    ensures link_later { L.fault_count link.old ≤ L.fault_count link.new }
+{
+    let Ok(identifier) = Text::of(alloc, identifier) else {
+        return Err(ClientError::Memory);
+    };
+    match ask_with(alloc, link, Request::Params { identifier }) {
+        Ok(Answer::Params(params)) => Ok(params),
+        Ok(_) => unreachable!(),
+        Err(why) => Err(why),
+    }
+}
+
+// Whether the parameters are this account's and of a cost that is taken.
+fn check_params(least: u32, identifier: &str, params: &Params) -> Result<(), ClientError>
+    ensures ok { OnOk result ((params.now.identifier ≡ identifier.now) × ¬ (IsBadCost least params.now.pw_cost)) }
+    ensures err { IfErr result (RefusesParams least identifier.now params.now) }
+{
+    if params.identifier.as_str() != identifier {
+        return Err(ClientError::BadAnswer {
+            place: Place::Member {
+                name: Text::fixed("identifier"),
+            },
+        });
+    }
+    if is_bad_cost(least, params.pw_cost) {
+        return Err(ClientError::Cost {
+            cost: params.pw_cost,
+        });
+    }
+    Ok(())
+}
+
+// Why keys are refused on a device that holds these sets.
+fn refusal_again(sets: &Sets, set: &KeySet) -> Option<ClientError>
+    ensures some { IfSome result (RefusesAgain sets.now set.now) }
+    ensures none { IfNone result (set.now ≡ sets.now.present) }
+{
+    if set.same(&sets.present) {
+        return None;
+    }
+    if set.params.same(&sets.present.params) || is_other_older(sets, set) {
+        return Some(ClientError::WrongPassword);
+    }
+    Some(ClientError::Refused {
+        status: 401,
+        tag: Text::fixed("bad-auth"),
+    })
+}
+
+// Whether keys have the older set's parameters and aren't its own.
+fn is_other_older(sets: &Sets, set: &KeySet) -> bool
+    ensures { IsTrue result ↔ IsOtherOlder sets.now set.now }
+{
+    match &sets.older {
+        Some(older) => set.params.same(&older.params) && !set.same(older),
+        None => false,
+    }
+}
+
+fn sign_in_request(alloc: Global, set: &KeySet) -> Result<Request, AllocError>
+    ensures { IfOk result (λ r. r ≡ request.SignIn set.now.params.identifier set.now.pw) }
+{
+    let identifier = set.params.identifier.twin(alloc)?;
+    Ok(Request::SignIn {
+        identifier,
+        pw: set.pw,
+    })
+}

@@ -1,0 +1,377 @@
+//! Syncing with a server: exchanges, one after another, until nothing is left.
+
+ghost use Rattle.std.specs.Prelude.{◌≡◌, ◌↔◌, IfNone, IfSome, IsTrue, None};
+ghost use Rattle.sn_client.specs.Runs.{HasCursor, HasLongToken};
+ghost use Rattle.sn_client.specs.Taken.{FitsTokens};
+ghost use Rattle.sn_client.specs.declared.error.ClientError.TheVariants as refusal;
+ghost use Rattle.sn_client.specs.declared.error.Place.TheVariants as place;
+ghost use Rattle.sn_client.specs.Syncing.{IsCheckRefusal, bad_auth};
+
+use crate::applying::applied;
+use crate::asking::ask;
+use crate::called::Called;
+use crate::device::Device;
+use crate::error::{ClientError, Place, of_commit};
+use crate::sending::{Sending, is_left, next_sending};
+use crate::state::{owner, sets_of};
+use sn_conflict::{CheckError, check};
+use sn_disk::Disk;
+use sn_items::Words;
+use sn_net::Link;
+use sn_rows::Change;
+use sn_sets::Sets;
+use sn_string::Text;
+use sn_sync::{Answer, Request};
+use sn_table::Committed;
+use std::alloc::AllocError;
+
+/// How many exchanges a call makes at most.
+const MOST_EXCHANGES: u64 = 10_000;
+
+/// The most bytes of a sync or cursor token in a device's row.
+const LONGEST_TOKEN: usize = 33_554_432;
+
+/// What became of one exchange.
+#[derive(Drop)]
+pub(crate) enum Exchanged<S, D, T> {
+    /// Its answer is applied. Whether another exchange is due.
+    Applied(S, bool),
+    /// It ends the call.
+    Ended(Called<S, D, T>),
+}
+
+impl<D: Disk> Device<D> {
+    ghost use Rattle.std.specs.Prelude.{◌≢◌, ◌⊎◌, ◌≤◌, All};
+    ghost use Rattle.sn_io.specs.Causes.{Rose};
+    ghost use Rattle.sn_journal.specs.declared.owner.Owner.TheVariants.{Device as DeviceOwner};
+    ghost use Rattle.sn_rows.specs.Table.{Rows};
+    ghost use Rattle.sn_rows.specs.declared.device_rows.OwnerRow.{OwnerRow};
+    ghost use Rattle.sn_sets.specs.Seals.{IsLater};
+    ghost use Rattle.sn_sync.specs.Fits.{FitsAnswer};
+    ghost use Rattle.sn_sync.specs.declared.answer.Answer.{Answer};
+    ghost use Rattle.sn_sync.specs.declared.request.Route.TheVariants as route;
+    ghost use Rattle.sn_table.specs.Batches.{IsOf};
+    ghost use Rattle.sn_table.specs.Kept.{Kept};
+    ghost use Rattle.std.specs.Prelude.{Option, IfErr, IfOk};
+    ghost use Rattle.sn_client.specs.Calls.{CallsOver, IfBroken, IfRefused, IfStands, IsOpen, MayHave, called_disk, device_disk, device_rows};
+    ghost use Rattle.sn_client.specs.Runs.{IsDue, IsUnapplied, Sends, items_of, sync};
+    ghost use Rattle.sn_client.specs.States.{HasOwner, HasSets, IsSound};
+    ghost use Rattle.sn_client.specs.Steps.{AppliesTo};
+    ghost use Rattle.sn_client.specs.Syncing.{ExchangesOver, IsApplied, IsAskedAndApplied, IsExchanged, IsSyncFrom, KeepsDevice, called_of, gives_nothing};
+    ghost use Rattle.sn_client.specs.declared.error.ClientError.TheVariants as refusal;
+
+    /// Brings the device and its server together: sends what waits, and takes what the server has, in as many
+    /// exchanges as that needs. The link's host is asked.
+    pub fn sync<L: Link>(self, link: &mut L, words: &mut Words) -> Called<Device<D>, D, ()>
+        requires sound { IsSound (device_rows self) }
+        ensures runs { (kept : Kept) → IsOpen self kept → CallsOver IsOpen (MayHave D.told D.may_leave) gives_nothing self.least_cost sync (L.asks link.old link.new) (L.aimed link.old) kept words.old words.new result }
+        ensures sound { IfStands result (λ device. IsSound (device_rows device)) }
+        ensures words { IsLater words.old words.new }
+        ensures least { IfStands result (λ device. device.least_cost ≡ self.least_cost) }
+        ensures fault { IfBroken result (λ disk. Rose (D.fault_count (device_disk self)) (D.fault_count disk)) }
+        ensures grows { D.grows (device_disk self) (called_disk device_disk result) }
+        ensures later { D.fault_count (device_disk self) ≤ D.fault_count (called_disk device_disk result) }
+        ensures aimed { L.aimed link.new ≡ L.aimed link.old }
+        ensures link_fault { IfRefused result (λ why. why ≡ refusal.LinkFault → Rose (L.fault_count link.old) (L.fault_count link.new)) }
+        ensures link_later { L.fault_count link.old ≤ L.fault_count link.new }
+    {
+        match sets_of(self.alloc, &self.table) {
+            Ok(Some(sets)) => self.sync_under(link, words, &sets),
+            Ok(None) => Called::Refused(self, ClientError::NoAccount),
+            Err(_) => Called::Refused(self, ClientError::Memory),
+        }
+    }
+
+    // The same with an account's sets. While a change of password runs it is refused.
+    fn sync_under<L: Link>(
+        self,
+        link: &mut L,
+        words: &mut Words,
+        sets: &Sets,
+    ) -> Called<Device<D>, D, ()>
+        requires sound { IsSound (device_rows self) }
+        requires holds { (owner : OwnerRow) × HasSets (device_rows self) owner sets.now }
+        ensures runs { (kept : Kept) → IsOpen self kept → CallsOver IsOpen (MayHave D.told D.may_leave) gives_nothing self.least_cost sync (L.asks link.old link.new) (L.aimed link.old) kept words.old words.new result }
+        ensures device { KeepsDevice self result }
+        ensures words { IsLater words.old words.new }
+        ensures aimed { L.aimed link.new ≡ L.aimed link.old }
+        ensures link_fault { IfRefused result (λ why. why ≡ refusal.LinkFault → Rose (L.fault_count link.old) (L.fault_count link.new)) }
+        ensures link_later { L.fault_count link.old ≤ L.fault_count link.new }
+    {
+        if sets.older.is_some() || sets.asked.is_some() {
+            return Called::Refused(self, bad_auth());
+        }
+        self.exchanges(link, words, sets)
+    }
+
+    // Exchanges until nothing is left, or as many as may be.
+    fn exchanges<L: Link>(
+        self,
+        link: &mut L,
+        words: &mut Words,
+        sets: &Sets,
+    ) -> Called<Device<D>, D, ()>
+        requires sound { IsSound (device_rows self) }
+        requires holds { (owner : OwnerRow) × HasSets (device_rows self) owner sets.now }
+        requires alone { sets.now.older ≡ None }
+        ensures runs { (kept : Kept) → IsOpen self kept → ExchangesOver IsOpen (MayHave D.told D.may_leave) kept words.old (L.aimed link.old) (L.asks link.old link.new) words.new result }
+        ensures device { KeepsDevice self result }
+        ensures words { IsLater words.old words.new }
+        ensures aimed { L.aimed link.new ≡ L.aimed link.old }
+        ensures link_fault { IfRefused result (λ why. why ≡ refusal.LinkFault → Rose (L.fault_count link.old) (L.fault_count link.new)) }
+        ensures link_later { L.fault_count link.old ≤ L.fault_count link.new }
+    {
+        let mut device = self;
+        let mut count = 0;
+        'exchanges: while count < MOST_EXCHANGES {
+            match device.exchange(link, words, sets) {
+                Exchanged::Applied(next, true) => {
+                    device = next;
+                    count += 1;
+                }
+                Exchanged::Applied(next, false) => return Called::Done(next, ()),
+                Exchanged::Ended(called) => return called,
+            }
+        }
+        Called::Refused(device, ClientError::RoundsUsed)
+    }
+
+    // One exchange: posts the drafts that weren't sent before, asks, and applies the answer.
+    fn exchange<L: Link>(
+        self,
+        link: &mut L,
+        words: &mut Words,
+        sets: &Sets,
+    ) -> Exchanged<Device<D>, D, ()>
+        requires sound { IsSound (device_rows self) }
+        requires holds { (owner : OwnerRow) × HasSets (device_rows self) owner sets.now }
+        requires alone { sets.now.older ≡ None }
+        ensures exchanged { (kept : Kept) (last : Option Answer) → IsOpen self kept → IsDue kept.rows last →
+            IsExchanged IsOpen (MayHave D.told D.may_leave) kept (record { rows = kept.rows; words = words.old; last = last }) (L.aimed link.old) (L.asks link.old link.new) words.new result }
+        ensures device { KeepsDevice self (called_of result) }
+        ensures holds { IfStands (called_of result) (λ device. (owner : OwnerRow) × HasSets (device_rows device) owner sets.now) }
+        ensures words { IsLater words.old words.new }
+        ensures aimed { L.aimed link.new ≡ L.aimed link.old }
+        ensures link_fault { IfRefused (called_of result) (λ why. why ≡ refusal.LinkFault → Rose (L.fault_count link.old) (L.fault_count link.new)) }
+        ensures link_later { L.fault_count link.old ≤ L.fault_count link.new }
+    {
+        let Ok(sending) = self.sending() else {
+            return Exchanged::Ended(Called::Refused(self, ClientError::Memory));
+        };
+        let Sending {
+            numbers,
+            changes,
+            request,
+        } = sending;
+        if numbers.is_empty() {
+            return self.ask_and_apply(link, words, sets, &request);
+        }
+        match self.commit(changes) {
+            Committed::Done(device) => device.ask_and_apply(link, words, sets, &request),
+            Committed::Refused(device, error) => {
+                Exchanged::Ended(Called::Refused(device, of_commit(error)))
+            }
+            Committed::Broken(disk) => Exchanged::Ended(Called::Broken(disk)),
+        }
+    }
+
+    // What is to be sent.
+    fn sending(&self) -> Result<Sending, AllocError>
+        requires sound { IsSound (device_rows self.now) }
+        requires owned { (owner : OwnerRow) × HasOwner (device_rows self.now) owner }
+        ensures sends { IfOk result (λ s. (ready : Rows) × Sends (device_rows self.now) s.numbers.items s.changes.items s.request ready) }
+        ensures owned { IfOk result (λ s. All (IsOf DeviceOwner) s.changes.items) }
+    {
+        let Some(account) = owner(&self.table) else {
+            unreachable!();
+        };
+        next_sending(self.alloc, &self.table, &self.index, account)
+    }
+
+    // Asks, and applies the answer.
+    fn ask_and_apply<L: Link>(
+        self,
+        link: &mut L,
+        words: &mut Words,
+        sets: &Sets,
+        request: &Request,
+    ) -> Exchanged<Device<D>, D, ()>
+        requires sound { IsSound (device_rows self) }
+        requires holds { (owner : OwnerRow) × HasSets (device_rows self) owner sets.now }
+        requires alone { sets.now.older ≡ None }
+        requires sent { IsSyncFrom (device_rows self) request.now }
+        ensures asked { (kept : Kept) → IsOpen self kept → IsAskedAndApplied IsOpen (MayHave D.told D.may_leave) kept words.old request.now (L.aimed link.old) (L.asks link.old link.new) words.new result }
+        ensures device { KeepsDevice self (called_of result) }
+        ensures holds { IfStands (called_of result) (λ device. (owner : OwnerRow) × HasSets (device_rows device) owner sets.now) }
+        ensures words { IsLater words.old words.new }
+        ensures aimed { L.aimed link.new ≡ L.aimed link.old }
+        ensures link_fault { IfRefused (called_of result) (λ why. why ≡ refusal.LinkFault → Rose (L.fault_count link.old) (L.fault_count link.new)) }
+        ensures link_later { L.fault_count link.old ≤ L.fault_count link.new }
+    {
+        match ask(self.alloc, link, request) {
+            Ok(answer) => self.apply(words, sets, request, &answer),
+            Err(why) => Exchanged::Ended(Called::Refused(self, why)),
+        }
+    }
+
+    // Applies the answer to a request, in one commit.
+    fn apply(
+        self,
+        words: &mut Words,
+        sets: &Sets,
+        request: &Request,
+        answer: &Answer,
+    ) -> Exchanged<Device<D>, D, ()>
+        requires sound { IsSound (device_rows self) }
+        requires holds { (owner : OwnerRow) × HasSets (device_rows self) owner sets.now }
+        requires alone { sets.now.older ≡ None }
+        requires sent { IsSyncFrom (device_rows self) request.now }
+        requires fits { FitsAnswer route.Sync 200 answer.now }
+        ensures applied { (kept : Kept) → IsOpen self kept → IsApplied IsOpen (MayHave D.told D.may_leave) kept words.old request.now answer.now words.new result }
+        ensures device { KeepsDevice self (called_of result) }
+        ensures holds { IfStands (called_of result) (λ device. (owner : OwnerRow) × HasSets (device_rows device) owner sets.now) }
+        ensures no_link { IfRefused (called_of result) (λ why. why ≢ refusal.LinkFault) }
+        ensures words { IsLater words.old words.new }
+    {
+        let changes = match self.changes_of(words, sets, request, answer) {
+            Ok(changes) => changes,
+            Err(why) => return Exchanged::Ended(Called::Refused(self, why)),
+        };
+        match self.commit(changes) {
+            Committed::Done(device) => {
+                let more = has_cursor(answer) || is_left(&device.table, &device.index);
+                Exchanged::Applied(device, more)
+            }
+            Committed::Refused(device, error) => {
+                Exchanged::Ended(Called::Refused(device, of_commit(error)))
+            }
+            Committed::Broken(disk) => Exchanged::Ended(Called::Broken(disk)),
+        }
+    }
+
+    // What the answer to a request changes, where it passes the checks.
+    fn changes_of(
+        &self,
+        words: &mut Words,
+        sets: &Sets,
+        request: &Request,
+        answer: &Answer,
+    ) -> Result<Vec<Change>, ClientError>
+        requires sound { IsSound (device_rows self.now) }
+        requires holds { (owner : OwnerRow) × HasSets (device_rows self.now) owner sets.now }
+        requires alone { sets.now.older ≡ None }
+        requires sent { IsSyncFrom (device_rows self.now) request.now }
+        requires fits { FitsAnswer route.Sync 200 answer.now }
+        ensures ok { IfOk result (λ changes. AppliesTo (device_rows self.now) words.old request.now answer.now changes.items words.new) }
+        ensures owned { IfOk result (λ changes. All (IsOf DeviceOwner) changes.items) }
+        ensures err { IfErr result (λ why. (why ≡ refusal.Memory) ⊎ IsUnapplied (device_rows self.now) words.old (items_of request.now) answer.now why) }
+        ensures no_link { IfErr result (λ why. why ≢ refusal.LinkFault) }
+        ensures words { IsLater words.old words.new }
+    {
+        let Request::Sync { items, .. } = request else {
+            unreachable!();
+        };
+        let Answer::Sync {
+            conflicts,
+            cursor_token,
+            retrieved,
+            saved,
+            sync_token,
+        } = answer
+        else {
+            unreachable!();
+        };
+        if let Some(name) = long_token(cursor_token, sync_token) {
+            return Err(bad_member(name));
+        }
+        let (sent, saved, conflicts, retrieved) = (
+            items.as_slice(),
+            saved.as_slice(),
+            conflicts.as_slice(),
+            retrieved.as_slice(),
+        );
+        if let Err(error) = check(self.alloc, sent, saved, conflicts, retrieved, cursor_token) {
+            return Err(of_check(error));
+        }
+        let Some(account) = owner(&self.table) else {
+            unreachable!();
+        };
+        match applied(
+            self.alloc,
+            self.table.rows(),
+            &self.index,
+            account,
+            sets,
+            sent,
+            saved,
+            conflicts,
+            retrieved,
+            cursor_token,
+            sync_token,
+            words,
+        ) {
+            Ok(changes) => Ok(changes),
+            Err(stop) => Err(stop.refusal()),
+        }
+    }
+}
+
+// Whether a page is left behind this answer.
+fn has_cursor(answer: &Answer) -> bool
+    ensures { IsTrue result ↔ HasCursor answer.now }
+{
+    match answer {
+        Answer::Sync { cursor_token, .. } => cursor_token.is_some(),
+        _ => false,
+    }
+}
+
+// The refusal while a change of password runs.
+fn bad_auth() -> ClientError
+    ensures { result ≡ bad_auth }
+{
+    ClientError::Refused {
+        status: 401,
+        tag: Text::fixed("bad-auth"),
+    }
+}
+
+// The member of the first token that is longer than a row may keep.
+fn long_token(cursor: &Option<Text>, token: &Text) -> Option<&'static str>
+    ensures some { IfSome result (λ name. HasLongToken cursor.now token.now name.now) }
+    ensures none { IfNone result (FitsTokens token.now cursor.now) }
+{
+    if let Some(cursor) = cursor
+        && cursor.len() > LONGEST_TOKEN
+    {
+        return Some("cursor_token");
+    }
+    if token.len() > LONGEST_TOKEN {
+        return Some("sync_token");
+    }
+    None
+}
+
+// The refusal for a member that is out of its bounds.
+fn bad_member(name: &'static str) -> ClientError
+    ensures { result ≡ refusal.BadAnswer (place.Member name.now) }
+{
+    let name = Text::fixed(name);
+    ClientError::BadAnswer {
+        place: Place::Member { name },
+    }
+}
+
+// The refusal for a check that fails.
+fn of_check(error: CheckError) -> ClientError
+    ensures { IsCheckRefusal error result }
+{
+    let place = match error {
+        CheckError::Saved { index } => Place::Saved { index },
+        CheckError::Conflict { index } => Place::Conflict { index },
+        CheckError::Retrieved { index } => Place::Retrieved { index },
+        CheckError::Cursor => Place::Cursor,
+        CheckError::Memory => return ClientError::Memory,
+    };
+    ClientError::BadAnswer { place }
+}
