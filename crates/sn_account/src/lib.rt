@@ -40,6 +40,3 @@ pub use passwords::change_password;
 pub use sessions::account_uuid;
 pub use soundness::first_unsound;
 pub use state::State;
-
-#[cfg(test)]
-mod tests;

@@ -11,6 +11,3 @@ mod serving;
 pub use ends::Served;
 pub use laws::one_list;
 pub use serving::serve;
-
-#[cfg(test)]
-mod tests;

@@ -13,6 +13,3 @@ pub use error::ServerError;
 pub use handling::Handled;
 pub use server::Server;
 pub use serving::{Ended, Session};
-
-#[cfg(test)]
-mod tests;

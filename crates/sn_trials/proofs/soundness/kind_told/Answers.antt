@@ -9,7 +9,7 @@ use Rattle.sn_rows.specs.declared.key.Key.{Key}
 use Rattle.sn_rows.specs.declared.value.Value.{Value}
 use Rattle.sn_account.specs.States.{state_rows}
 use Rattle.sn_account.specs.Unsound.{HasKinds}
-use Rattle.sn_account.proofs.tests.soundness.told.Goals as goal
+use Rattle.sn_trials.proofs.soundness.kind_told.Goals as goal
 
 -- ---- each value stays of its key's kind
 

@@ -1,9 +1,10 @@
-// Serving a disk in memory at a port in memory, with ample memory: each way in which it ends but for rows that aren't a
-// server's, which `sn_server` tests.
-use crate::{Served, serve};
+//! Serving a disk in memory at a port in memory, with ample memory: each way in which it ends but for damaged files and rows
+//! that aren't a server's, with which `sessions` has loads.
+
 use sn_disk::{CrashImage, MemDisk, MemShelf, Shelf, Stop};
 use sn_io::{MemSeeds, MemSink, MemSource};
 use sn_net::{MemClock, MemPort};
+use sn_serve::{Served, serve};
 use std::alloc::Global;
 use std::test::Fail;
 
@@ -24,7 +25,7 @@ struct Case {
     requests: u64,
     ends: Served,
     out: &'static [u8],
-    answered: u64,
+    answered: usize,
 }
 
 // As many answers and empty connections as were asked for.
@@ -122,40 +123,56 @@ fn port_of(alloc: Global, case: &Case) -> Result<MemPort, Fail> {
     Ok(MemPort::new(alloc, waiting, 4711, case.failing_port.to_vec(alloc)?))
 }
 
+// How serving ended, what was written to the output, how many connections were answered, and whether the disk is back.
+#[derive(Drop)]
+struct Seen {
+    ended: Served,
+    out: MemSink,
+    answered: usize,
+    is_back: bool,
+}
+
+fn serve_case(alloc: Global, case: &Case) -> Result<Seen, Fail> {
+    let mut shelf = shelf_of(alloc, case)?;
+    let mut port = port_of(alloc, case)?;
+    let mut out = MemSink::new(alloc, 4096, case.failing_out.to_vec(alloc)?);
+    let mut clock = MemClock::new([1000u64].to_vec(alloc)?);
+    let mut seeds = MemSeeds::new([[7u8; 32]].to_vec(alloc)?);
+    let ended = serve(
+        alloc,
+        "server",
+        0,
+        case.requests,
+        &mut shelf,
+        &mut port,
+        &mut out,
+        &mut clock,
+        &mut seeds,
+    );
+    Ok(Seen {
+        ended,
+        out,
+        answered: answered(&port),
+        is_back: shelf.take("server").is_ok(),
+    })
+}
+
+// The connections in which something is written.
+fn answered(port: &MemPort) -> usize {
+    port.ended()
+        .iter()
+        .filter(|ends| !ends.1.bytes().is_empty())
+        .count()
+}
+
 #[test]
 fn each_end(rt: HostRuntime) -> Result<(), Fail> {
     for case in &CASES {
-        let alloc = rt.alloc();
-        let mut shelf = shelf_of(alloc, case)?;
-        let mut port = port_of(alloc, case)?;
-        let mut out = MemSink::new(alloc, 4096, case.failing_out.to_vec(alloc)?);
-        let mut clock = MemClock::new([1000u64].to_vec(alloc)?);
-        let mut seeds = MemSeeds::new([[7u8; 32]].to_vec(alloc)?);
-        let served = serve(
-            alloc,
-            "server",
-            0,
-            case.requests,
-            &mut shelf,
-            &mut port,
-            &mut out,
-            &mut clock,
-            &mut seeds,
-        );
-        assert_eq!(rt; served, case.ends, "{}", case.name);
-        assert_eq!(rt; out.bytes(), case.out, "{}", case.name);
-        let answered = port
-            .ended()
-            .iter()
-            .filter(|ends| !ends.1.bytes().is_empty())
-            .count();
-        assert_eq!(rt; answered as u64, case.answered, "{}", case.name);
-        assert_eq!(rt;
-            shelf.take("server").is_ok(),
-            case.disk.is_some(),
-            "{}",
-            case.name
-        );
+        let seen = serve_case(rt.alloc(), case)?;
+        assert_eq!(rt; seen.ended, case.ends, "{}", case.name);
+        assert_eq!(rt; seen.out.bytes(), case.out, "{}", case.name);
+        assert_eq!(rt; seen.answered, case.answered, "{}", case.name);
+        assert_eq!(rt; seen.is_back, case.disk.is_some(), "{}", case.name);
     }
     Ok(())
 }

@@ -1,9 +1,9 @@
-//! A server without accounts. The token is by an independent implementation: Python's `hmac`.
+//! A server without accounts, and accounts' uuids. The token is by an independent implementation: Python's `hmac`.
 
-use crate::accounts::{Ruled, parameters, register, sign_in};
-use crate::first::first_state;
-use sn_string::{Params, Text};
-use sn_sync::{Answer, More};
+use crate::telling::told;
+use sn_account::{Ruled, account_uuid, first_state, parameters, register, sign_in};
+use sn_string::{Params, Text, uuid_text};
+use sn_sync::Answer;
 use std::alloc::Global;
 use std::test::Fail;
 
@@ -12,7 +12,7 @@ const TOKEN: &str =
 
 const UUID: &[u8; 16] = b"\0\0\0\0\0\0\x80\0\x80\0\0\0\0\0\0\x01";
 
-pub fn alice(alloc: Global) -> Result<Params, Fail> {
+pub(crate) fn alice(alloc: Global) -> Result<Params, Fail> {
     let identifier = Text::of(alloc, "alice@example.org")?;
     let nonce = Text::of(alloc, "4c6f")?;
     let params = Params::new(identifier, 110_000, nonce).ok_or("params")?;
@@ -40,23 +40,12 @@ fn begins_the_first_account(rt: HostRuntime) -> Result<(), Fail> {
     Ok(())
 }
 
-fn is_unknown(answer: &Answer) -> bool {
-    match answer {
-        Answer::Refused {
-            status,
-            tag,
-            more: More::Nothing,
-        } => *status == 404 && tag.as_str() == "unknown",
-        _ => false,
-    }
-}
-
 #[test]
 fn tells_nothing_of_an_unknown_identifier(rt: HostRuntime) -> Result<(), Fail> {
     let alloc = rt.alloc();
     let state = first_state(alloc, [0; 32])?;
     let answer = parameters(alloc, &state, "alice@example.org")?;
-    assert!(rt; is_unknown(&answer));
+    assert_eq!(rt; told(alloc, &answer)?.as_str(), "404 unknown");
     Ok(())
 }
 
@@ -65,6 +54,18 @@ fn admits_no_unknown_identifier(rt: HostRuntime) -> Result<(), Fail> {
     let alloc = rt.alloc();
     let state = first_state(alloc, [0; 32])?;
     let answer = sign_in(alloc, &state, "alice@example.org", &[7; 32])?;
-    assert!(rt; is_unknown(&answer));
+    assert_eq!(rt; told(alloc, &answer)?.as_str(), "404 unknown");
+    Ok(())
+}
+
+#[test]
+fn numbers_uuids(rt: HostRuntime) -> Result<(), Fail> {
+    for (number, text) in [
+        (1, "00000000-0000-8000-8000-000000000001"),
+        (255, "00000000-0000-8000-8000-0000000000ff"),
+        (1_000_000, "00000000-0000-8000-8000-0000000f4240"),
+    ] {
+        assert_eq!(rt; uuid_text(rt.alloc(), account_uuid(number))?.as_str(), text);
+    }
     Ok(())
 }

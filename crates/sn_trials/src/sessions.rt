@@ -1,16 +1,17 @@
-// Sessions at a server on a disk in memory, with ample memory. The bytes are those of docs/FORMATS.md, the token by an
-// independent implementation: Python's `hmac`, and a ChaCha20 that gives RFC 8439's stream.
+//! Sessions at a server on a disk in memory, with ample memory. The bytes are those of docs/FORMATS.md, the token by an
+//! independent implementation: Python's `hmac`, and a ChaCha20 that gives RFC 8439's stream.
+
 ghost use Rattle.std.specs.Prelude.{IfOk};
 ghost use Rattle.sn_account.specs.Sound.{IsSound};
 ghost use Rattle.sn_server.specs.Outcomes.{IfOver};
 ghost use Rattle.sn_server.specs.Stores.{server_rows};
 
-use crate::{Ended, Handled, Server, ServerError, Session};
 use sn_disk::{Call, CrashImage, MemDisk, Stop};
 use sn_io::{Failed, MemSink, MemSource};
 use sn_items::Words;
 use sn_net::MemClock;
 use sn_rows::RowKind;
+use sn_server::{Ended, Handled, Server, ServerError, Session};
 use sn_sync::{Answer, Route, read_request};
 use std::alloc::Global;
 use std::test::Fail;
@@ -25,6 +26,13 @@ fn loaded(alloc: Global, disk: MemDisk) -> Result<Server<MemDisk>, Fail>
     match Server::load(alloc, disk, &mut Words::from_seed([7; 32])) {
         Ok(server) => Ok(server),
         Err((_, error)) => Err(error.into()),
+    }
+}
+
+fn refusal_of(alloc: Global, disk: MemDisk) -> Result<(MemDisk, ServerError), Fail> {
+    match Server::load(alloc, disk, &mut Words::from_seed([7; 32])) {
+        Ok(_) => Err(Failed.into()),
+        Err(refusal) => Ok(refusal),
     }
 }
 
@@ -59,68 +67,82 @@ fn ended(alloc: Global, input: &[u8], budget: u64) -> Result<(Ended, u64, MemSin
     }
 }
 
+struct Exchange {
+    input: &'static str,
+    answer: &'static str,
+}
+
+static ANSWERS: [Exchange; 6] = [
+    Exchange {
+        input: "GET /x HTTP/1.1\r\nHost: a\r\n\r\n",
+        answer: "HTTP/1.1 404 Not Found\r\nContent-Type: application/json\r\nContent-Length: 28\r\n\r\n{\"error\":{\"tag\":\"no-route\"}}",
+    },
+    Exchange {
+        input: "GET /auth HTTP/1.1\r\n\r\n",
+        answer: "HTTP/1.1 405 Method Not Allowed\r\nContent-Type: application/json\r\nContent-Length: 26\r\nAllow: POST\r\n\r\n{\"error\":{\"tag\":\"method\"}}",
+    },
+    Exchange {
+        input: "POST /items/sync HTTP/1.1\r\nHost: a\r\nContent-Length: 41\r\n\r\n{\"api\":\"20190520\",\"items\":[],\"limit\":501}",
+        answer: "HTTP/1.1 400 Bad Request\r\nContent-Type: application/json\r\nContent-Length: 38\r\n\r\n{\"error\":{\"number\":501,\"tag\":\"limit\"}}",
+    },
+    Exchange {
+        input: "POST /auth HTTP/1.1\r\nContent-Length: 2\r\n\r\n[]",
+        answer: "HTTP/1.1 400 Bad Request\r\nContent-Type: application/json\r\nContent-Length: 28\r\n\r\n{\"error\":{\"tag\":\"not-json\"}}",
+    },
+    Exchange {
+        input: "GET /auth/params?email=alice HTTP/1.1\r\n\r\n",
+        answer: "HTTP/1.1 404 Not Found\r\nContent-Type: application/json\r\nContent-Length: 27\r\n\r\n{\"error\":{\"tag\":\"unknown\"}}",
+    },
+    Exchange {
+        input: "GET /auth/params HTTP/1.1\r\nConnection: close\r\n\r\n",
+        answer: "HTTP/1.1 400 Bad Request\r\nContent-Type: application/json\r\nContent-Length: 41\r\nConnection: close\r\n\r\n{\"error\":{\"name\":\"email\",\"tag\":\"member\"}}",
+    },
+];
+
 #[test]
-fn answers(rt: HostRuntime) -> Result<(), Fail> {
-    let rows = [
-        (
-            "GET /x HTTP/1.1\r\nHost: a\r\n\r\n",
-            "HTTP/1.1 404 Not Found\r\nContent-Type: application/json\r\nContent-Length: 28\r\n\r\n{\"error\":{\"tag\":\"no-route\"}}",
-        ),
-        (
-            "GET /auth HTTP/1.1\r\n\r\n",
-            "HTTP/1.1 405 Method Not Allowed\r\nContent-Type: application/json\r\nContent-Length: 26\r\nAllow: POST\r\n\r\n{\"error\":{\"tag\":\"method\"}}",
-        ),
-        (
-            "POST /items/sync HTTP/1.1\r\nHost: a\r\nContent-Length: 41\r\n\r\n{\"api\":\"20190520\",\"items\":[],\"limit\":501}",
-            "HTTP/1.1 400 Bad Request\r\nContent-Type: application/json\r\nContent-Length: 38\r\n\r\n{\"error\":{\"number\":501,\"tag\":\"limit\"}}",
-        ),
-        (
-            "POST /auth HTTP/1.1\r\nContent-Length: 2\r\n\r\n[]",
-            "HTTP/1.1 400 Bad Request\r\nContent-Type: application/json\r\nContent-Length: 28\r\n\r\n{\"error\":{\"tag\":\"not-json\"}}",
-        ),
-        (
-            "GET /auth/params?email=alice HTTP/1.1\r\n\r\n",
-            "HTTP/1.1 404 Not Found\r\nContent-Type: application/json\r\nContent-Length: 27\r\n\r\n{\"error\":{\"tag\":\"unknown\"}}",
-        ),
-        (
-            "GET /auth/params HTTP/1.1\r\nConnection: close\r\n\r\n",
-            "HTTP/1.1 400 Bad Request\r\nContent-Type: application/json\r\nContent-Length: 41\r\nConnection: close\r\n\r\n{\"error\":{\"name\":\"email\",\"tag\":\"member\"}}",
-        ),
-    ];
-    for (input, answer) in rows {
+fn answers_requests(rt: HostRuntime) -> Result<(), Fail> {
+    for row in &ANSWERS {
+        let input = row.input;
         let (how, count, sink) = ended(rt.alloc(), input.as_bytes(), 9)?;
-        assert_eq!(rt; sink.bytes(), answer.as_bytes(), "{input}");
+        assert_eq!(rt; sink.bytes(), row.answer.as_bytes(), "{input}");
         assert_eq!(rt; (how, count), (Ended::End, 1), "{input}");
     }
     Ok(())
 }
 
 // The answer to a failing check closes; its place is where the message begins.
+static CHECKS: [Exchange; 4] = [
+    Exchange {
+        input: "POST /auth HTTP/1.1\r\n\r\n",
+        answer: "HTTP/1.1 411 Length Required\r\nContent-Type: application/json\r\nContent-Length: 35\r\nConnection: close\r\n\r\n{\"error\":{\"tag\":\"length-required\"}}",
+    },
+    Exchange {
+        input: "POST /auth HTTP/1.1\r\nContent-Length: 8388609\r\n\r\n",
+        answer: "HTTP/1.1 413 Content Too Large\r\nContent-Type: application/json\r\nContent-Length: 29\r\nConnection: close\r\n\r\n{\"error\":{\"tag\":\"body-long\"}}",
+    },
+    Exchange {
+        input: "POST /auth HTTP/1.1\r\nTransfer-Encoding: chunked\r\n\r\n",
+        answer: "HTTP/1.1 501 Not Implemented\r\nContent-Type: application/json\r\nContent-Length: 26\r\nConnection: close\r\n\r\n{\"error\":{\"tag\":\"coding\"}}",
+    },
+    Exchange {
+        input: "GET",
+        answer: "HTTP/1.1 400 Bad Request\r\nContent-Type: application/json\r\nContent-Length: 26\r\nConnection: close\r\n\r\n{\"error\":{\"tag\":\"broken\"}}",
+    },
+];
+
 #[test]
-fn checks(rt: HostRuntime) -> Result<(), Fail> {
-    let rows = [
-        (
-            "POST /auth HTTP/1.1\r\n\r\n",
-            "HTTP/1.1 411 Length Required\r\nContent-Type: application/json\r\nContent-Length: 35\r\nConnection: close\r\n\r\n{\"error\":{\"tag\":\"length-required\"}}",
-        ),
-        (
-            "POST /auth HTTP/1.1\r\nContent-Length: 8388609\r\n\r\n",
-            "HTTP/1.1 413 Content Too Large\r\nContent-Type: application/json\r\nContent-Length: 29\r\nConnection: close\r\n\r\n{\"error\":{\"tag\":\"body-long\"}}",
-        ),
-        (
-            "POST /auth HTTP/1.1\r\nTransfer-Encoding: chunked\r\n\r\n",
-            "HTTP/1.1 501 Not Implemented\r\nContent-Type: application/json\r\nContent-Length: 26\r\nConnection: close\r\n\r\n{\"error\":{\"tag\":\"coding\"}}",
-        ),
-        (
-            "GET",
-            "HTTP/1.1 400 Bad Request\r\nContent-Type: application/json\r\nContent-Length: 26\r\nConnection: close\r\n\r\n{\"error\":{\"tag\":\"broken\"}}",
-        ),
-    ];
-    for (input, answer) in rows {
+fn answers_failing_checks(rt: HostRuntime) -> Result<(), Fail> {
+    for row in &CHECKS {
+        let input = row.input;
         let (how, count, sink) = ended(rt.alloc(), input.as_bytes(), 9)?;
-        assert_eq!(rt; sink.bytes(), answer.as_bytes(), "{input}");
+        assert_eq!(rt; sink.bytes(), row.answer.as_bytes(), "{input}");
         assert_eq!(rt; (how, count), (Ended::Broken { place: 0 }, 1), "{input}");
     }
+    Ok(())
+}
+
+#[test]
+fn an_empty_connection(rt: HostRuntime) -> Result<(), Fail> {
     let (how, count, sink) = ended(rt.alloc(), b"", 1)?;
     assert_eq!(rt; (sink.bytes().len(), how, count), (0, Ended::End, 0));
     Ok(())
@@ -181,17 +203,23 @@ fn a_later_load_has_the_account(rt: HostRuntime) -> Result<(), Fail> {
     Ok(())
 }
 
+// What a registration at a fresh server writes and leaves, where its disk stops.
+fn stopped_commit(alloc: Global, stop: Stop) -> Result<(MemDisk, MemSink), Fail> {
+    let mut server = fresh(alloc)?;
+    server.set_stop(stop);
+    let (session, sink) = served(alloc, server, REGISTER.as_bytes(), 1)?;
+    match session {
+        Session::Broken(disk) => Ok((disk, sink)),
+        Session::Over(_, _, _) => Err(Failed.into()),
+    }
+}
+
 // A disk that stops in any call of a commit: nothing is answered, and from the write of the gate on the account may stand.
 #[test]
 fn a_broken_commit_answers_nothing(rt: HostRuntime) -> Result<(), Fail> {
     for calls in 0..4u64 {
         for image in [CrashImage::Old, CrashImage::New] {
-            let mut server = fresh(rt.alloc())?;
-            server.set_stop(Stop::After { calls, image });
-            let (session, sink) = served(rt.alloc(), server, REGISTER.as_bytes(), 1)?;
-            let Session::Broken(mut disk) = session else {
-                return Err(Failed.into());
-            };
+            let (mut disk, sink) = stopped_commit(rt.alloc(), Stop::After { calls, image })?;
             assert_eq!(rt; sink.bytes().len(), 0);
             disk.set_stop(Stop::Never);
             let stands = calls >= 2 && image == CrashImage::New;
@@ -203,20 +231,18 @@ fn a_broken_commit_answers_nothing(rt: HostRuntime) -> Result<(), Fail> {
     Ok(())
 }
 
+fn stopped_load(alloc: Global, stop: Stop) -> Result<(MemDisk, ServerError), Fail> {
+    let mut disk = disk_of(alloc, &[])?;
+    disk.set_stop(stop);
+    refusal_of(alloc, disk)
+}
+
 // A first load that stops in any call leaves a disk that loads again.
 #[test]
 fn a_broken_load(rt: HostRuntime) -> Result<(), Fail> {
     for calls in 0..11u64 {
         for image in [CrashImage::Old, CrashImage::New] {
-            let mut disk = disk_of(rt.alloc(), &[])?;
-            disk.set_stop(Stop::After { calls, image });
-            let Err((mut disk, error)) = Server::load(
-                rt.alloc(),
-                disk,
-                &mut Words::from_seed([7; 32]),
-            ) else {
-                return Err(Failed.into());
-            };
+            let (mut disk, error) = stopped_load(rt.alloc(), Stop::After { calls, image })?;
             assert_eq!(rt; error, ServerError::DiskFault);
             disk.set_stop(Stop::Never);
             let sink = parameters(rt.alloc(), disk)?;
@@ -226,30 +252,35 @@ fn a_broken_load(rt: HostRuntime) -> Result<(), Fail> {
     Ok(())
 }
 
+struct RefusedDisk {
+    file: &'static [u8],
+    error: ServerError,
+}
+
 // A device's journal; one cut off in its first batch; parameters of an account, without the store's own row.
+static REFUSED: [RefusedDisk; 3] = [
+    RefusedDisk {
+        file: b"SNSYNC-JOURNALD1\0",
+        error: ServerError::Foreign { place: 14 },
+    },
+    RefusedDisk {
+        file: b"SNSYNC-JOURNALS1\x01\0\0\0\x01",
+        error: ServerError::Damaged { place: 16 },
+    },
+    RefusedDisk {
+        file: b"SNSYNC-JOURNALS1\x01\0\0\0\x23\x01\x03\0\0\0\x10\0\0\0\0\0\0\0\x01\0\0\0\0\0\0\0\x01\0\0\0\x09\0\0\0\x01\0\0\0\x01a\0",
+        error: ServerError::Rows {
+            kind: RowKind::Store,
+        },
+    },
+];
+
 #[test]
 fn refused_disks(rt: HostRuntime) -> Result<(), Fail> {
-    let files: [(&[u8], ServerError); 3] = [
-        (b"SNSYNC-JOURNALD1\0", ServerError::Foreign { place: 14 }),
-        (
-            b"SNSYNC-JOURNALS1\x01\0\0\0\x01",
-            ServerError::Damaged { place: 16 },
-        ),
-        (
-            b"SNSYNC-JOURNALS1\x01\0\0\0\x23\x01\x03\0\0\0\x10\0\0\0\0\0\0\0\x01\0\0\0\0\0\0\0\x01\0\0\0\x09\0\0\0\x01\0\0\0\x01a\0",
-            ServerError::Rows {
-                kind: RowKind::Store,
-            },
-        ),
-    ];
-    for (file, error) in files {
-        let disk = disk_of(rt.alloc(), file)?;
-        let Err((disk, refused)) = Server::load(rt.alloc(), disk, &mut Words::from_seed([7; 32]))
-        else {
-            return Err(Failed.into());
-        };
-        assert_eq!(rt; refused, error);
-        assert_eq!(rt; disk.bytes(), file);
+    for case in &REFUSED {
+        let (disk, error) = refusal_of(rt.alloc(), disk_of(rt.alloc(), case.file)?)?;
+        assert_eq!(rt; error, case.error);
+        assert_eq!(rt; disk.bytes(), case.file);
         assert!(rt; matches!(disk.calls(), [Call::Synced]));
     }
     Ok(())

@@ -3,12 +3,11 @@
 ghost use Rattle.std.specs.Prelude.{IfOk};
 ghost use Rattle.sn_account.specs.States.{IsUnmarked};
 
-use crate::state::State;
-use sn_rows::{AccountRow, Boxed, Change, ItemRow, Key, Row, StoreRow, Value};
+use sn_account::State;
+use sn_rows::{AccountRow, Boxed, Change, Key, Row, StoreRow, Value};
 use sn_string::{Many, Text};
 use std::alloc::Global;
 use std::test::Fail;
-use uuid::Uuid;
 
 fn store(accounts: u64) -> Result<StoreRow, Fail> {
     Ok(StoreRow::new([7; 32], 1000, accounts).ok_or("stamp")?)
@@ -83,32 +82,5 @@ fn kept(rt: HostRuntime) -> Result<(), Fail> {
     assert_eq!(rt; count(&state), Some(2));
     assert_eq!(rt; identifier(&state, 1), Some("ann@home"));
     assert_eq!(rt; identifier(&state, 2), Some("bo@home"));
-    Ok(())
-}
-
-// Puts a deleted item with this stamp.
-fn item_at(alloc: Global, stamp: u64) -> Result<Many<Change>, Fail> {
-    let found = ItemRow::new(alloc, 1, "Note", 1, stamp, true, "", "")?;
-    let mut changes = Many::new(alloc);
-    changes.push(Change::Put(Row {
-        key: Key::Item(Uuid::nil()),
-        value: Value::Item(found.ok_or("item")?),
-    }))?;
-    Ok(changes)
-}
-
-// A place where the item stands no more, or never did, is taken out.
-#[test]
-fn one_place_of_an_item(rt: HostRuntime) -> Result<(), Fail> {
-    let mut state = one_account(rt.alloc())?;
-    state.apply(item_at(rt.alloc(), 5)?.as_slice())?;
-    state.keep();
-    state.apply(item_at(rt.alloc(), 6)?.as_slice())?;
-    assert_eq!(rt; state.places.entries.len(), 2);
-    state.undo();
-    assert_eq!(rt; state.places.entries.len(), 1);
-    state.apply(item_at(rt.alloc(), 6)?.as_slice())?;
-    state.keep();
-    assert_eq!(rt; state.places.entries.len(), 1);
     Ok(())
 }
