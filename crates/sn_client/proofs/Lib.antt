@@ -19,6 +19,7 @@ pub mod Leading
 pub mod ListLemmas
 pub mod LoadLemmas
 pub mod LookLemmas
+pub mod Moments
 pub mod PostLemmas
 pub mod QuietRuns
 pub mod RegisterLemmas

@@ -33,7 +33,7 @@ use Rattle.sn_client.proofs.CallLemmas.{stops_refused}
 
 -- ---- acts behind acts
 
-kept_append : (kept : Kept) (first second : List Act) → kept_done kept (first ++ second) ≡ kept_done (kept_done kept first) second
+pub kept_append : (kept : Kept) (first second : List Act) → kept_done kept (first ++ second) ≡ kept_done (kept_done kept first) second
 kept_append kept [] second = refl
 kept_append kept (commits what changes ∷ first) second = kept_append (with_batch kept changes) first second
 kept_append kept (asked r reply ∷ first) second = kept_append kept first second

@@ -117,6 +117,21 @@ Prepares P what changes given left = (acts : List Act) (halt : Halt) → EndsCom
 abbrev pub StandsOrHas : List (List Change) → (List Change → Type 0) → List ℕ → Type 0
 StandsOrHas batches P c = IsStore DeviceOwner c batches ⊎ ((changes : List Change) × P changes × IsStore DeviceOwner c (batches ++ changes ∷ []))
 
+-- ---- a crash in a call of many commits
+
+-- the acts of a call, and behind them the commit in which the disk failed: of that it has all or nothing
+abbrev pub tried : List Act → Halt → List Act
+tried acts (answered given left) = acts
+tried acts (refused why) = acts
+tried acts (broken what changes) = acts ++ commits what changes ∷ []
+
+-- these bytes stand for what a front of these acts leaves
+pub record HasFront (kept : Kept) (acts : List Act) (c : List ℕ) : Type 0 where
+  pub front : List Act
+  pub later : List Act
+  pub split : acts ≡ front ++ later
+  pub stands : IsStore DeviceOwner c (kept_done kept front).batches
+
 -- ---- a call that changes nothing and draws no words
 
 abbrev pub Tells : {T : Type 0} → ℕ → Call → Rows → (T → Given) → Result T ClientError → Type 0

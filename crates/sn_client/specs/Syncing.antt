@@ -1,10 +1,12 @@
 -- One exchange of a sync, and all of them, by what each leaves: a device behind an answer that was applied, or the end of the call.
-use Rattle.std.specs.Prelude.{◌≡◌, ◌⊎◌, ◌↔◌, ◌≤◌, ℕ, Bool, IsTrue, List, [], ◌∷◌, None, Some, codes}
+use Rattle.std.specs.Prelude.{◌≡◌, ◌⊎◌, ◌↔◌, ◌≤◌, ◌++◌, ℕ, Bool, IsTrue, List, [], ◌∷◌, None, Some, codes}
 use Rattle.rand_chacha.specs.ChaCha.{ChaCha}
 use Rattle.sn_conflict.specs.declared.error.CheckError.{CheckError}
 use Rattle.sn_conflict.specs.declared.error.CheckError.TheVariants as wrong
+use Rattle.sn_disk.specs.Disk.{LeavesOnly}
 use Rattle.sn_disk.specs.declared.disk.Disk.{Ghosts}
 use Rattle.sn_io.specs.Causes.{Rose}
+use Rattle.sn_journal.specs.declared.owner.Owner.TheVariants.{Device as DeviceOwner}
 use Rattle.sn_net.specs.Exchanges.{Exchange}
 use Rattle.sn_rows.specs.Table.{Rows, rows_after}
 use Rattle.sn_rows.specs.declared.change.Change.{Change}
@@ -12,10 +14,11 @@ use Rattle.sn_sync.specs.declared.answer.Answer.{Answer}
 use Rattle.sn_sync.specs.declared.item.Item.{Item}
 use Rattle.sn_sync.specs.declared.request.Request.{Request}
 use Rattle.sn_sync.specs.declared.request.Request.TheVariants as request
+use Rattle.sn_table.specs.Batches.{IsStore}
 use Rattle.sn_table.specs.Kept.{Kept, with_batch}
 use Rattle.sn_client.specs.Asked.{AsksOnce}
 use Rattle.sn_client.specs.Asking.{Reply, said}
-use Rattle.sn_client.specs.Calls.{Ends, IfBroken, IfStands, called_disk, device_disk, device_rows, kept_done}
+use Rattle.sn_client.specs.Calls.{Ends, IfBroken, IfStands, IsOpen, MayHave, called_disk, device_disk, device_rows, kept_done}
 use Rattle.sn_client.specs.Runs.{Act, AreExchanges, EndsBehind, EndsUnapplied, Exchanges, Given, Halt, IsBatch, IsCheckPlace, IsDue, IsLeft, IsRound, Round, Standing, Wants, acts_of, asked, nothing, refused}
 use Rattle.sn_client.specs.Sending.{AreOfRows}
 use Rattle.sn_client.specs.States.{Bytes, IsSound}
@@ -63,6 +66,26 @@ module _ {D : Type 0} {g : Ghosts D} where
   abbrev pub called_of : {T : Type 0} → Exchanged (Device D g) D T → Called (Device D g) D T
   called_of (exchanged.Applied device more) = called.Refused device refusal.RoundsUsed
   called_of (exchanged.Ended result) = result
+
+-- ---- a crash in a call
+
+-- these bytes stand for the batches of one, and for a front of those that the other has more
+pub record IsBetween (old new : Kept) (c : List ℕ) : Type 0 where
+  pub made : List (List Change)
+  pub later : List (List Change)
+  pub split : new.batches ≡ (old.batches ++ made) ++ later
+  pub stands : IsStore DeviceOwner c (old.batches ++ made)
+
+module _ {D : Type 0} {g : Ghosts D} where
+  -- it has what is kept now, and a crash since the old device had the kept leaves batches between them
+  pub record IsOpenSince (old : Device D g) (kept : Kept) (device : Device D g) (now : Kept) : Type 0 where
+    pub opens : IsOpen device now
+    pub each : g.told → LeavesOnly g.moment g.left_since (device_disk old) (device_disk device) (IsBetween kept now)
+
+  -- the same of a disk that failed in a commit
+  pub record MayHaveSince (old : Device D g) (kept : Kept) (disk : D) (now : Kept) (changes : List Change) : Type 0 where
+    pub may : MayHave g.told g.may_leave disk now changes
+    pub each : g.told → LeavesOnly g.moment g.left_since (device_disk old) disk (IsBetween kept (with_batch now changes))
 
 -- memory was wanting before the request; or its reply, or what the answer changes, ends the call
 abbrev pub EndsAsking : Kept → ChaCha → Request → List Act → Halt → Type 0

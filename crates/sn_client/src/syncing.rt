@@ -42,6 +42,7 @@ pub(crate) enum Exchanged<S, D, T> {
 
 impl<D: Disk> Device<D> {
     ghost use Rattle.std.specs.Prelude.{◌≢◌, ◌⊎◌, ◌≤◌, All};
+    ghost use Rattle.sn_disk.specs.Disk.{LeavesOnly};
     ghost use Rattle.sn_io.specs.Causes.{Rose};
     ghost use Rattle.sn_journal.specs.declared.owner.Owner.TheVariants.{Device as DeviceOwner};
     ghost use Rattle.sn_rows.specs.Table.{Rows};
@@ -53,11 +54,11 @@ impl<D: Disk> Device<D> {
     ghost use Rattle.sn_table.specs.Batches.{IsOf};
     ghost use Rattle.sn_table.specs.Kept.{Kept};
     ghost use Rattle.std.specs.Prelude.{Option, IfErr, IfOk};
-    ghost use Rattle.sn_client.specs.Calls.{CallsOver, IfBroken, IfRefused, IfStands, IsOpen, MayHave, called_disk, device_disk, device_rows};
+    ghost use Rattle.sn_client.specs.Calls.{CallsOver, HasFront, IfBroken, IfRefused, IfStands, IsOpen, MayHave, called_disk, device_disk, device_rows, tried};
     ghost use Rattle.sn_client.specs.Runs.{IsDue, IsUnapplied, Sends, items_of, sync};
     ghost use Rattle.sn_client.specs.States.{HasOwner, HasSets, IsSound};
     ghost use Rattle.sn_client.specs.Steps.{AppliesTo};
-    ghost use Rattle.sn_client.specs.Syncing.{ExchangesOver, IsApplied, IsAskedAndApplied, IsExchanged, IsSyncFrom, KeepsDevice, called_of, gives_nothing};
+    ghost use Rattle.sn_client.specs.Syncing.{ExchangesOver, IsApplied, IsAskedAndApplied, IsExchanged, IsOpenSince, IsSyncFrom, KeepsDevice, MayHaveSince, called_of, gives_nothing};
     ghost use Rattle.sn_client.specs.declared.error.ClientError.TheVariants as refusal;
 
     /// Brings the device and its server together: sends what waits, and takes what the server has, in as many
@@ -65,6 +66,11 @@ impl<D: Disk> Device<D> {
     pub fn sync<L: Link>(self, link: &mut L, words: &mut Words) -> Called<Device<D>, D, ()>
         requires sound { IsSound (device_rows self) }
         ensures runs { (kept : Kept) → IsOpen self kept → CallsOver IsOpen (MayHave D.told D.may_leave) gives_nothing self.least_cost sync (L.asks link.old link.new) (L.aimed link.old) kept words.old words.new result }
+
+        // A crash at any moment leaves what a front of the call's commits leaves, or all of the one in which the disk failed.
+        ensures any_moment { D.told → (kept : Kept) → IsOpen self kept →
+            (calls : CallsOver IsOpen (MayHave D.told D.may_leave) gives_nothing self.least_cost sync (L.asks link.old link.new) (L.aimed link.old) kept words.old words.new result)
+            × LeavesOnly D.moment D.left_since (device_disk self) (called_disk device_disk result) (HasFront kept (tried calls.acts calls.halt)) }
         ensures sound { IfStands result (λ device. IsSound (device_rows device)) }
         ensures words { IsLater words.old words.new }
         ensures least { IfStands result (λ device. device.least_cost ≡ self.least_cost) }
@@ -91,7 +97,7 @@ impl<D: Disk> Device<D> {
     ) -> Called<Device<D>, D, ()>
         requires sound { IsSound (device_rows self) }
         requires holds { (owner : OwnerRow) × HasSets (device_rows self) owner sets.now }
-        ensures runs { (kept : Kept) → IsOpen self kept → CallsOver IsOpen (MayHave D.told D.may_leave) gives_nothing self.least_cost sync (L.asks link.old link.new) (L.aimed link.old) kept words.old words.new result }
+        ensures runs { (kept : Kept) → IsOpen self kept → CallsOver (IsOpenSince self kept) (MayHaveSince self kept) gives_nothing self.least_cost sync (L.asks link.old link.new) (L.aimed link.old) kept words.old words.new result }
         ensures device { KeepsDevice self result }
         ensures words { IsLater words.old words.new }
         ensures aimed { L.aimed link.new ≡ L.aimed link.old }
@@ -114,7 +120,7 @@ impl<D: Disk> Device<D> {
         requires sound { IsSound (device_rows self) }
         requires holds { (owner : OwnerRow) × HasSets (device_rows self) owner sets.now }
         requires alone { sets.now.older ≡ None }
-        ensures runs { (kept : Kept) → IsOpen self kept → ExchangesOver IsOpen (MayHave D.told D.may_leave) kept words.old (L.aimed link.old) (L.asks link.old link.new) words.new result }
+        ensures runs { (kept : Kept) → IsOpen self kept → ExchangesOver (IsOpenSince self kept) (MayHaveSince self kept) kept words.old (L.aimed link.old) (L.asks link.old link.new) words.new result }
         ensures device { KeepsDevice self result }
         ensures words { IsLater words.old words.new }
         ensures aimed { L.aimed link.new ≡ L.aimed link.old }
@@ -147,7 +153,7 @@ impl<D: Disk> Device<D> {
         requires holds { (owner : OwnerRow) × HasSets (device_rows self) owner sets.now }
         requires alone { sets.now.older ≡ None }
         ensures exchanged { (kept : Kept) (last : Option Answer) → IsOpen self kept → IsDue kept.rows last →
-            IsExchanged IsOpen (MayHave D.told D.may_leave) kept (record { rows = kept.rows; words = words.old; last = last }) (L.aimed link.old) (L.asks link.old link.new) words.new result }
+            IsExchanged (IsOpenSince self kept) (MayHaveSince self kept) kept (record { rows = kept.rows; words = words.old; last = last }) (L.aimed link.old) (L.asks link.old link.new) words.new result }
         ensures device { KeepsDevice self (called_of result) }
         ensures holds { IfStands (called_of result) (λ device. (owner : OwnerRow) × HasSets (device_rows device) owner sets.now) }
         ensures words { IsLater words.old words.new }
@@ -200,7 +206,7 @@ impl<D: Disk> Device<D> {
         requires holds { (owner : OwnerRow) × HasSets (device_rows self) owner sets.now }
         requires alone { sets.now.older ≡ None }
         requires sent { IsSyncFrom (device_rows self) request.now }
-        ensures asked { (kept : Kept) → IsOpen self kept → IsAskedAndApplied IsOpen (MayHave D.told D.may_leave) kept words.old request.now (L.aimed link.old) (L.asks link.old link.new) words.new result }
+        ensures asked { (kept : Kept) → IsOpen self kept → IsAskedAndApplied (IsOpenSince self kept) (MayHaveSince self kept) kept words.old request.now (L.aimed link.old) (L.asks link.old link.new) words.new result }
         ensures device { KeepsDevice self (called_of result) }
         ensures holds { IfStands (called_of result) (λ device. (owner : OwnerRow) × HasSets (device_rows device) owner sets.now) }
         ensures words { IsLater words.old words.new }
@@ -227,7 +233,7 @@ impl<D: Disk> Device<D> {
         requires alone { sets.now.older ≡ None }
         requires sent { IsSyncFrom (device_rows self) request.now }
         requires fits { FitsAnswer route.Sync 200 answer.now }
-        ensures applied { (kept : Kept) → IsOpen self kept → IsApplied IsOpen (MayHave D.told D.may_leave) kept words.old request.now answer.now words.new result }
+        ensures applied { (kept : Kept) → IsOpen self kept → IsApplied (IsOpenSince self kept) (MayHaveSince self kept) kept words.old request.now answer.now words.new result }
         ensures device { KeepsDevice self (called_of result) }
         ensures holds { IfStands (called_of result) (λ device. (owner : OwnerRow) × HasSets (device_rows device) owner sets.now) }
         ensures no_link { IfRefused (called_of result) (λ why. why ≢ refusal.LinkFault) }

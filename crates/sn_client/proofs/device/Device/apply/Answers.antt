@@ -1,17 +1,19 @@
-use Rattle.std.proofs.Common.{◌≡◌, ◌↔◌, ◌∙◌, IsTrue, ap, refl, subst, sym, true}
+use Rattle.std.proofs.Common.{◌≡◌, ◌⊎◌, ◌↔◌, ◌∙◌, IsTrue, ap, refl, subst, sym, true}
 use Rattle.sn_rows.specs.Table.{Rows, rows_after}
-use Rattle.sn_client.specs.Calls.{IsOpen, MayHave, device_rows}
-use Rattle.sn_client.specs.Runs.{IsLeft}
+use Rattle.sn_client.specs.Calls.{device_rows}
+use Rattle.sn_client.specs.Runs.{IsLeft, IsUnapplied, items_of}
 use Rattle.sn_client.specs.States.{IsSound}
 use Rattle.sn_client.specs.Steps.{AppliesTo, applies}
-use Rattle.sn_client.specs.Syncing.{IsApplied}
+use Rattle.sn_client.specs.Syncing.{IsApplied, IsOpenSince, MayHaveSince}
 use Rattle.sn_client.specs.declared.called.Called.TheVariants as called
 use Rattle.sn_client.specs.declared.error.ClientError.{ClientError}
+use Rattle.sn_client.specs.declared.error.ClientError.TheVariants as refusal
 use Rattle.sn_client.specs.declared.syncing.Exchanged.TheVariants as exchanged
 use Rattle.sn_client.proofs.AnswerLemmas.{more_by_cursor, more_by_item}
+use Rattle.sn_client.proofs.Moments.{committed_broken, committed_open, still_open}
 use Rattle.sn_client.proofs.PostLemmas.{HoldsSets, holds_applied}
 use Rattle.sn_client.proofs.SoundSteps.{steps_stay_sound}
-use Rattle.sn_client.proofs.SyncLemmas.{broken_off, not_committed}
+use Rattle.sn_client.proofs.SyncLemmas.{broken_off, not_applied, not_committed}
 use Rattle.sn_client.proofs.device.Device.apply.Goals as goal
 use Rattle.sn_client.proofs.device.Device.apply.Goals.{then-has_cursor, else-has_cursor}
 
@@ -27,7 +29,7 @@ returns-after-has_cursor-clause-applied g c = λ kept opens.
       changes = c.in-Ok.changes.items;
       step = subst (λ (r : Rows). AppliesTo r c.args.words.now c.args.request.now c.args.answer.now c.in-Ok.changes.items c.changes_of.new.words) opens.rows_are c.in-Ok.ensures.ok;
       batch = c.in-Done.ensures.fits.0;
-      stands = c.in-Done.ensures.done kept opens;
+      stands = committed_open c.args.self c.in-Done.device kept c.in-Ok.changes.items (λ told. c.in-Done.ensures.any_moment told kept opens) (c.in-Done.ensures.done kept opens);
       is_more = subst (λ (r : Rows). IsTrue c.if-has_cursor.more ↔ IsLeft r c.args.answer.now)
           (c.in-Done.ensures.rows ∙ ap (λ (r : Rows). rows_after r c.in-Ok.changes.items) opens.rows_are) left;
     }
@@ -49,22 +51,31 @@ returns-after-has_cursor-clause-holds g c =
     (holds_applied (device_rows c.args.self) c.args.words.now c.changes_of.new.words c.args.request.now c.args.answer.now c.in-Ok.changes.items c.args.sets.now
     c.in-Ok.ensures.ok c.requires.alone c.requires.holds)
 
+pub returns-in-Err-clause-applied : goal.returns-in-Err-clause-applied
+returns-in-Err-clause-applied g c = λ kept opens.
+    not_applied (IsOpenSince c.args.self kept) (MayHaveSince c.args.self kept) kept c.args.words.now c.args.request.now c.args.answer.now c.changes_of.new.words
+    c.args.self c.in-Err.why (still_open c.args.self c.args.self kept refl g.met.D.Disk.only_now opens opens)
+    (subst (λ (r : Rows). (c.in-Err.why ≡ refusal.Memory) ⊎ IsUnapplied r c.args.words.now (items_of c.args.request.now) c.args.answer.now c.in-Err.why) opens.rows_are
+    c.in-Err.ensures.err)
+
 pub returns-in-Refused-clause-applied : goal.returns-in-Refused-clause-applied
 returns-in-Refused-clause-applied g c = λ kept opens.
-    subst (λ (why : ClientError). IsApplied {T = Unit {0}} (IsOpen {D = g.row.D.Denot} {g = g.D.Disk}) (MayHave g.D.Disk.told g.D.Disk.may_leave) kept c.args.words.now c.args.request.now
+    subst (λ (why : ClientError). IsApplied {T = Unit {0}} (IsOpenSince c.args.self kept) (MayHaveSince c.args.self kept) kept c.args.words.now c.args.request.now
     c.args.answer.now c.changes_of.new.words (exchanged.Ended (called.Refused c.in-Refused.device why)))
     (sym c.of_commit.ensures)
-    (not_committed (IsOpen {D = g.row.D.Denot} {g = g.D.Disk}) (MayHave g.D.Disk.told g.D.Disk.may_leave) kept c.args.words.now c.args.request.now c.args.answer.now
+    (not_committed (IsOpenSince c.args.self kept) (MayHaveSince c.args.self kept) kept c.args.words.now c.args.request.now c.args.answer.now
     c.changes_of.new.words c.in-Refused.device c.in-Ok.changes.items c.in-Refused.error
     (subst (λ (r : Rows). AppliesTo r c.args.words.now c.args.request.now c.args.answer.now c.in-Ok.changes.items c.changes_of.new.words) opens.rows_are c.in-Ok.ensures.ok)
-    c.in-Refused.ensures.cause (c.in-Refused.ensures.stays kept opens))
+    c.in-Refused.ensures.cause
+    (still_open c.args.self c.in-Refused.device kept c.in-Refused.ensures.still g.met.D.Disk.only_now opens (c.in-Refused.ensures.stays kept opens)))
 
 pub returns-in-Refused-clause-holds : goal.returns-in-Refused-clause-holds
 returns-in-Refused-clause-holds g c = subst (λ (r : Rows). HoldsSets r c.args.sets.now) (sym c.in-Refused.ensures.same) c.requires.holds
 
 pub returns-in-Broken-clause-applied : goal.returns-in-Broken-clause-applied
 returns-in-Broken-clause-applied g c = λ kept opens.
-    broken_off (IsOpen {D = g.row.D.Denot} {g = g.D.Disk}) (MayHave g.D.Disk.told g.D.Disk.may_leave) kept c.args.words.now c.args.request.now c.args.answer.now
+    broken_off (IsOpenSince c.args.self kept) (MayHaveSince c.args.self kept) kept c.args.words.now c.args.request.now c.args.answer.now
     c.changes_of.new.words c.in-Broken.disk c.in-Ok.changes.items
     (subst (λ (r : Rows). AppliesTo r c.args.words.now c.args.request.now c.args.answer.now c.in-Ok.changes.items c.changes_of.new.words) opens.rows_are c.in-Ok.ensures.ok)
-    c.in-Broken.ensures.fits.1 (c.in-Broken.ensures.broken kept opens)
+    c.in-Broken.ensures.fits.1
+    (committed_broken c.args.self c.in-Broken.disk kept c.in-Ok.changes.items (λ told. c.in-Broken.ensures.any_moment told kept opens) (c.in-Broken.ensures.broken kept opens))

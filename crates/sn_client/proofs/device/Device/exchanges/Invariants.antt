@@ -7,14 +7,15 @@ use Rattle.sn_table.specs.Kept.{Kept}
 use Rattle.sn_client.specs.Calls.{IsOpen, device_disk, device_rows}
 use Rattle.sn_client.specs.Runs.{IsDue, most_exchanges}
 use Rattle.sn_client.specs.States.{HasSets, IsSound}
+use Rattle.sn_client.specs.Syncing.{IsOpenSince}
 use Rattle.sn_client.proofs.SyncLemmas.{HasMade, kept_now}
 use Rattle.sn_client.proofs.device.Device.exchanges.Given as goal
 
 abbrev pub invariant-exchanges : goal.invariant-exchanges
 invariant-exchanges g l = record {
   runs : (kept : Kept) → IsOpen l.initial.device kept → (last : Option Answer)
-      × (made : HasMade IsOpen kept l.initial.words (g.L.Link.aimed l.initial.link) (g.L.Link.asks l.initial.link l.link) l.words last l.device l.count)
-      × IsDue (kept_now IsOpen kept l.initial.words (g.L.Link.aimed l.initial.link) (g.L.Link.asks l.initial.link l.link) l.words last l.device l.count made).rows last;
+      × (made : HasMade (IsOpenSince l.initial.device kept) kept l.initial.words (g.L.Link.aimed l.initial.link) (g.L.Link.asks l.initial.link l.link) l.words last l.device l.count)
+      × IsDue (kept_now (IsOpenSince l.initial.device kept) kept l.initial.words (g.L.Link.aimed l.initial.link) (g.L.Link.asks l.initial.link l.link) l.words last l.device l.count made).rows last;
   within : l.count ≤ most_exchanges;
   sound : IsSound (device_rows l.device);
   holds : (owner : OwnerRow) × HasSets (device_rows l.device) owner l.sets;
