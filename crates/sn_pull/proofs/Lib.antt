@@ -1,0 +1,13 @@
+pub mod ListLemmas
+pub mod RowLemmas
+pub mod VersionLemmas
+pub mod SizeLemmas
+pub mod PageLemmas
+pub mod CheckLemmas
+pub mod TakeLemmas
+pub mod RoundLemmas
+pub mod MayLemmas
+pub mod EndLemmas
+pub mod GoesOnLemmas
+pub mod StaysLemmas
+pub mod AmongLemmas
