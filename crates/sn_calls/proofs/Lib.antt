@@ -1,0 +1,4 @@
+pub mod Made
+pub mod Quiet
+pub mod Stages
+pub mod Standing
