@@ -1,8 +1,12 @@
 pub mod Accepting
+pub mod DeviceNames
+pub mod DeviceRuns
 pub mod Free
 pub mod Givens
 pub mod MeetsLemmas
 pub mod Numerals
+pub mod OneDevice
 pub mod OneLine
 pub mod RunLemmas
+pub mod ServerLemmas
 pub mod ShownLemmas

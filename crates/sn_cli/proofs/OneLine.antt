@@ -4,7 +4,8 @@ use Rattle.std.specs.Fmt.{decimal}
 use Rattle.std.proofs.lemmas.Fmt.{decimal_injective}
 use Rattle.hex.proofs.HexLemmas.{decode_sized-encode_lower}
 use Rattle.hex.specs.Hex.{decode_sized, encode_lower}
-use Rattle.sn_cli.specs.CommandLine.{SealLine, OpenLine, ServeLine, GivesCost, GivesItem, IsSealLine, IsOpenLine, IsServeLine, Names}
+use Rattle.sn_cli.specs.CommandLine.{SealLine, OpenLine, ServeLine, GivesItem, IsSealLine, IsOpenLine, IsServeLine}
+use Rattle.sn_cli.specs.Named.{GivesCost, Names}
 use Rattle.sn_cli.specs.Syntax.{value_of}
 use Rattle.sn_string.specs.Hex.{IsLowerHex}
 use Rattle.sn_string.specs.Uuids.{IsUuidText, uuid_text}
@@ -16,11 +17,11 @@ value_or : List ℕ → Option (List ℕ) → List ℕ
 value_or none None = none
 value_or none (Some value) = value
 
-one_value : (a b : List ℕ) (found : Option (List ℕ)) → found ≡ Some a → found ≡ Some b → a ≡ b
+pub one_value : (a b : List ℕ) (found : Option (List ℕ)) → found ≡ Some a → found ≡ Some b → a ≡ b
 unfolding value_or
 one_value a b found is other = ap (value_or []) (sym is ∙ other)
 
-some_or_none : (a : List ℕ) (found : Option (List ℕ)) → found ≡ Some a → found ≡ None → ⊥
+pub some_or_none : (a : List ℕ) (found : Option (List ℕ)) → found ≡ Some a → found ≡ None → ⊥
 some_or_none a found is other = cc
 
 -- words name one command
@@ -32,7 +33,7 @@ ok_value none (Ok value) = value
 ok_value none (Err error) = none
 
 -- a uuid's spelling is of one uuid
-one_uuid : (a b : List ℕ) → IsUuidText (uuid_text a) a → IsUuidText (uuid_text b) b → uuid_text a ≡ uuid_text b → a ≡ b
+pub one_uuid : (a b : List ℕ) → IsUuidText (uuid_text a) a → IsUuidText (uuid_text b) b → uuid_text a ≡ uuid_text b → a ≡ b
 one_uuid a b first second same =
     one_value a b (parsed (uuid_text a)) (sym (parses_hyphenated lower a (inl refl) first.count first.fit))
     (ap parsed same ∙ sym (parses_hyphenated lower b (inl refl) second.count second.fit))
@@ -54,7 +55,7 @@ one_item words uuid key other_uuid other_key first second = (
 )
 
 -- the cost is the one that is written, or the usual one
-one_cost : (words : List (List ℕ)) (a b : ℕ) → a ≤ 4294967295 → b ≤ 4294967295 → GivesCost words a → GivesCost words b → a ≡ b
+pub one_cost : (words : List (List ℕ)) (a b : ℕ) → a ≤ 4294967295 → b ≤ 4294967295 → GivesCost words a → GivesCost words b → a ≡ b
 one_cost words a b small other_small (inl first) (inl second) =
     decimal_injective a b (omega (arith, small)) (omega (arith, other_small)) (one_value (decimal a) (decimal b) _ first second)
 one_cost words a b small other_small (inl first) (inr second) = absurd (some_or_none (decimal a) _ first second.1)

@@ -4,7 +4,9 @@ use Rattle.std.specs.Fmt.{decimal}
 use Rattle.clap.specs.Faults.{fault_of}
 use Rattle.clap.specs.declared.error.kind.ErrorKind.TheVariants.{DisplayHelp, DisplayVersion}
 use Rattle.hex.specs.Hex.{encode_lower}
-use Rattle.sn_cli.specs.Syntax.{AsksForHelp, AsksForVersion, Takes, command_named, sn_app, value_of}
+use Rattle.sn_cli.specs.DeviceLines.{DeviceLine, IsDeviceLine, TakesInput}
+use Rattle.sn_cli.specs.Named.{GivesCost, Names}
+use Rattle.sn_cli.specs.Syntax.{AsksForHelp, AsksForVersion, sn_app, value_of}
 use Rattle.sn_string.specs.Bounds.{IsIdentifier, IsCost, IsNonce}
 use Rattle.sn_string.specs.Hex.{IsLowerHex}
 use Rattle.sn_string.specs.Uuids.{IsUuidText, uuid_text}
@@ -29,21 +31,12 @@ pub record ServeLine : Type 0 where
   pub port : ℕ
   pub requests : ℕ
 
--- the cost where no option gives one
-abbrev pub USUAL_COST : ℕ
-USUAL_COST = 110000
-
 -- the words give an item's uuid and key, each in its form
 pub record GivesItem (words : List (List ℕ)) (uuid key : List ℕ) : Type 0 where
   pub uuid_form : IsUuidText (uuid_text uuid) uuid
   pub uuid_given : value_of words (codes "uuid") ≡ Some (uuid_text uuid)
   pub key_form : IsLowerHex 64 (encode_lower key) key
   pub key_given : value_of words (codes "key") ≡ Some (encode_lower key)
-
--- the words give this cost: a decimal without a leading zero, or nothing for the usual one
-abbrev pub GivesCost : List (List ℕ) → ℕ → Type 0
-GivesCost words cost = (value_of words (codes "cost") ≡ Some (decimal cost))
-    ⊎ ((cost ≡ USUAL_COST) × (value_of words (codes "cost") ≡ None))
 
 -- the words give auth parameters, each within its bounds
 pub record GivesParams (words : List (List ℕ)) (identifier : List ℕ) (cost : ℕ) (nonce : List ℕ) : Type 0 where
@@ -53,11 +46,6 @@ pub record GivesParams (words : List (List ℕ)) (identifier : List ℕ) (cost :
   pub cost_given : GivesCost words cost
   pub nonce_fits : IsNonce nonce
   pub nonce_given : value_of words (codes "nonce") ≡ Some nonce
-
--- the words name this command, and `clap` takes them
-pub record Names (words : List (List ℕ)) (command : List ℕ) : Type 0 where
-  pub takes : Takes words
-  pub named : command_named words ≡ Some command
 
 -- the words are a line of `seal` that says this
 pub record IsSealLine (words : List (List ℕ)) (line : SealLine) : Type 0 where
@@ -92,13 +80,18 @@ pub record IsServeLine (words : List (List ℕ)) (line : ServeLine) : Type 0 whe
 abbrev pub IsServing : List (List ℕ) → Type 0
 IsServing words = (line : ServeLine) × IsServeLine words line
 
--- the words are a line of a command that reads its input, as each but `serve` does
+-- the words are a line of a device's command that reads its input
+abbrev pub IsTaking : List (List ℕ) → Type 0
+IsTaking words = (line : DeviceLine) × IsDeviceLine words line × TakesInput line.task
+
+-- the words are a line of a command that reads its input
 abbrev pub IsReading : List (List ℕ) → Type 0
 IsReading words =
     ((line : SealLine) × IsSealLine words line)
     ⊎ ((line : OpenLine) × IsOpenLine words line)
     ⊎ IsShowLine words
     ⊎ IsReplayLine words
+    ⊎ IsTaking words
 
 -- the words ask for help or for the version
 abbrev pub Asks : List (List ℕ) → Type 0
@@ -111,5 +104,6 @@ pub record IsUsage (words : List (List ℕ)) : Type 0 where
   pub no_show : ¬ (IsShowLine words)
   pub no_replay : ¬ (IsReplayLine words)
   pub no_serve : (line : ServeLine) → ¬ (IsServeLine words line)
+  pub no_device : (line : DeviceLine) → ¬ (IsDeviceLine words line)
   pub no_help : fault_of sn_app words ≢ DisplayHelp ∷ []
   pub no_version : fault_of sn_app words ≢ DisplayVersion ∷ []

@@ -1,5 +1,5 @@
 -- Statuses, and the line of each on standard error.
-use Rattle.std.specs.Prelude.{◌≡◌, ◌⊎◌, ℕ, List, [], ◌∷◌, ◌++◌, codes}
+use Rattle.std.specs.Prelude.{◌≡◌, ◌⊎◌, ℕ, List, [], ◌∷◌, ◌++◌, codes, ⊤}
 use Rattle.std.specs.Fmt.{decimal}
 use Rattle.hex.specs.Hex.{encode_lower}
 use Rattle.sn_cli.specs.declared.refusal.FormRefusal.{FormRefusal}
@@ -7,11 +7,13 @@ use Rattle.sn_cli.specs.declared.refusal.FormRefusal.TheVariants as form
 use Rattle.sn_cli.specs.declared.refusal.ItemRefusal.{ItemRefusal}
 use Rattle.sn_cli.specs.declared.refusal.ItemRefusal.TheVariants as item
 use Rattle.sn_cli.specs.declared.refusal.Refusal.{Refusal}
-use Rattle.sn_cli.specs.declared.refusal.Refusal.TheVariants.{InputLong, InputUtf8, Form, Item, Line}
+use Rattle.sn_cli.specs.declared.refusal.Refusal.TheVariants.{InputLong, InputUtf8, Form, Item, Line, PasswordLine, Client}
 use Rattle.sn_cli.specs.declared.status.Status.{Status}
 use Rattle.sn_cli.specs.declared.status.Status.TheVariants as status
 use Rattle.sn_cli.specs.declared.status.Unfit.{Unfit}
 use Rattle.sn_cli.specs.declared.status.Unfit.TheVariants as unfit
+use Rattle.sn_client.specs.declared.error.Place.{Place}
+use Rattle.sn_cli.specs.ClientLines.{client_text, place_text}
 use Rattle.sn_rows.specs.Kinds.{kind_number}
 use Rattle.sn_string.specs.Uuids.{uuid_text}
 
@@ -25,6 +27,8 @@ code_of status.ReadFault = 6
 code_of status.WriteFault = 7
 code_of status.Memory = 8
 code_of (status.Foreign fault) = 9
+code_of (status.Server number tag) = 10
+code_of (status.BadAnswer place) = 11
 
 -- a refusal of the string's form: its number in sn_string, its name, the count or the place
 abbrev pub form_text : FormRefusal → List ℕ
@@ -53,6 +57,8 @@ refusal_text (InputUtf8 place) = codes "cli.2 InputUtf8 " ++ decimal place
 refusal_text (Form refusal) = form_text refusal
 refusal_text (Item refusal) = item_text refusal
 refusal_text (Line number) = codes "replay.1 Line " ++ decimal number
+refusal_text (PasswordLine length) = codes "cli.3 PasswordLine " ++ decimal length
+refusal_text (Client refusal) = client_text refusal
 
 -- what is wrong with a store, with the place or the kind's number
 abbrev pub unfit_text : Unfit → List ℕ
@@ -71,10 +77,23 @@ line_of status.ReadFault = codes "sn: read fault\n"
 line_of status.WriteFault = codes "sn: write fault\n"
 line_of status.Memory = codes "sn: memory\n"
 line_of (status.Foreign fault) = codes "sn: " ++ (unfit_text fault ++ 10 ∷ [])
+line_of (status.Server number tag) = codes "sn: server " ++ (decimal number ++ (codes " " ++ (tag ++ 10 ∷ [])))
+line_of (status.BadAnswer place) = codes "sn: answer " ++ (place_text place ++ 10 ∷ [])
+
+-- a status whose line tells values
+abbrev pub TellsValues : Status → Type 0
+TellsValues status.Done = ⊥
+TellsValues status.Usage = ⊥
+TellsValues (status.Refused refusal) = ⊤
+TellsValues status.DiskFault = ⊥
+TellsValues status.LinkFault = ⊥
+TellsValues status.ReadFault = ⊥
+TellsValues status.WriteFault = ⊥
+TellsValues status.Memory = ⊥
+TellsValues (status.Foreign fault) = ⊤
+TellsValues (status.Server number tag) = ⊤
+TellsValues (status.BadAnswer place) = ⊤
 
 -- The status whose line is told: this one, or want of memory in the place of one whose line tells values.
 abbrev pub IsTold : Status → Status → Type 0
-IsTold before after =
-    (after ≡ before)
-    ⊎ ((refusal : Refusal) × (before ≡ status.Refused refusal) × (after ≡ status.Memory))
-    ⊎ ((fault : Unfit) × (before ≡ status.Foreign fault) × (after ≡ status.Memory))
+IsTold before after = (after ≡ before) ⊎ (TellsValues before × (after ≡ status.Memory))

@@ -31,15 +31,51 @@ unfoldable pub serve_shape : Shape
 serve_shape = command_shape (codes "serve") (option_rule (codes "store") true ∷ option_rule (codes "port") true
     ∷ option_rule (codes "requests") true ∷ [])
 
+unfoldable pub register_shape : Shape
+register_shape = command_shape (codes "register") (option_rule (codes "store") true ∷ option_rule (codes "server") true
+    ∷ option_rule (codes "identifier") true ∷ option_rule (codes "cost") false ∷ [])
+
+unfoldable pub sign_in_shape : Shape
+sign_in_shape = command_shape (codes "signin") (option_rule (codes "store") true ∷ option_rule (codes "server") true
+    ∷ option_rule (codes "identifier") true ∷ [])
+
+unfoldable pub sync_shape : Shape
+sync_shape = command_shape (codes "sync") (option_rule (codes "store") true ∷ option_rule (codes "server") true ∷ [])
+
+unfoldable pub put_shape : Shape
+put_shape = command_shape (codes "put") (option_rule (codes "store") true ∷ option_rule (codes "title") false ∷ [])
+
+unfoldable pub edit_shape : Shape
+edit_shape = command_shape (codes "edit") (option_rule (codes "store") true ∷ option_rule (codes "uuid") true ∷ [])
+
+unfoldable pub delete_shape : Shape
+delete_shape = command_shape (codes "del") (option_rule (codes "store") true ∷ option_rule (codes "uuid") true ∷ [])
+
+unfoldable pub list_shape : Shape
+list_shape = command_shape (codes "list") (option_rule (codes "store") true ∷ option_rule (codes "uuid") false ∷ [])
+
 -- `sn` without its commands: one of them must be named; it answers `--help` and `--version`
 unfoldable pub sn_top : App
 sn_top = on_top
     (λ s. record s { no_binary_name = true; subcommand_required = true; disable_help_subcommand = true; has_version = true })
     (new_app (codes "sn"))
 
+-- with the commands that ask a server for an account, and for its items
+unfoldable pub with_accounts : App → App
+with_accounts app = with_subcommand (with_subcommand (with_subcommand app register_shape) sign_in_shape) sync_shape
+
+-- with all commands of a device
+unfoldable pub with_devices : App → App
+with_devices app =
+    with_subcommand (with_subcommand (with_subcommand (with_subcommand (with_accounts app) put_shape) edit_shape) delete_shape) list_shape
+
+-- with the commands on single strings and on a script, and with that of a server
+unfoldable pub with_others : App → App
+with_others app = with_subcommand
+    (with_subcommand (with_subcommand (with_subcommand (with_subcommand app seal_shape) open_shape) show_shape) replay_shape) serve_shape
+
 unfoldable pub sn_app : App
-sn_app = with_subcommand
-    (with_subcommand (with_subcommand (with_subcommand (with_subcommand sn_top seal_shape) open_shape) show_shape) replay_shape) serve_shape
+sn_app = with_devices (with_others sn_top)
 
 -- `clap` takes the words
 abbrev pub Takes : List (List ℕ) → Type 0

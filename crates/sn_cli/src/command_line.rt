@@ -1,14 +1,16 @@
 // The command lines.
 ghost use Rattle.std.specs.Fmt.{decimal};
-ghost use Rattle.std.specs.Prelude.{◌≡◌, ℕ, List, codes, Some, IsSome, IfSome, IfNone, IfOk, IfErr, IsTrue, ◌↔◌, ◌<◌, ◌≤◌, ◌^◌, length};
+ghost use Rattle.std.specs.Prelude.{◌≡◌, ◌≢◌, ℕ, List, codes, Some, IsSome, IfSome, IfNone, IfOk, IfErr, IsTrue, ◌↔◌, ◌<◌, ◌≤◌, ◌^◌, length};
 ghost use Rattle.sn_string.specs.Bounds.{IsIdentifier, IsCost, IsNonce};
 ghost use Rattle.sn_cli.specs.Calls.{encryption_half, authentication_half};
-ghost use Rattle.sn_cli.specs.CommandLine.{SealLine, OpenLine, ServeLine, IsSealLine, IsOpenLine, IsServeLine, GivesItem, GivesCost, GivesParams};
+ghost use Rattle.sn_cli.specs.CommandLine.{SealLine, OpenLine, ServeLine, IsSealLine, IsOpenLine, IsServeLine, GivesItem, GivesParams};
+ghost use Rattle.sn_cli.specs.Named.{GivesCost};
 ghost use Rattle.sn_cli.specs.Commands.{IsCommand, IsLineError};
 ghost use Rattle.sn_cli.specs.Given.{IsGivenBy};
 ghost use Rattle.sn_cli.specs.Syntax.{value_of};
 ghost use Rattle.sn_cli.specs.Words.{texts};
 
+use crate::device_line::{DeviceOptions, device_options};
 use crate::given::{Given, NotTaken, read_words, value};
 use crate::number::{positive_number, whole_number};
 use clap::Error;
@@ -66,6 +68,7 @@ pub enum Command<'a> {
     Show,
     Replay,
     Serve(ServeOptions<'a>),
+    Device(DeviceOptions<'a>),
     Help(Error),
     Version(Error),
 }
@@ -105,7 +108,7 @@ fn given_command<'a>(given: &Given<'a>) -> Option<Command<'a>>
         "show" => Some(Command::Show),
         "replay" => Some(Command::Replay),
         "serve" => serve_command(given),
-        _ => None,
+        _ => device_line(given),
     }
 }
 
@@ -153,6 +156,21 @@ fn serve_command<'a>(given: &Given<'a>) -> Option<Command<'a>>
         port,
         requests,
     }))
+}
+
+fn device_line<'a>(given: &Given<'a>) -> Option<Command<'a>>
+    requires not_seal { given.now.command.now ≢ codes "seal" }
+    requires not_open { given.now.command.now ≢ codes "open" }
+    requires not_show { given.now.command.now ≢ codes "show" }
+    requires not_replay { given.now.command.now ≢ codes "replay" }
+    requires not_serve { given.now.command.now ≢ codes "serve" }
+    ensures some { IfSome result (λ command. (words : List (List ℕ)) → IsGivenBy words given.now → IsCommand words command) }
+    ensures none { IfNone result ((words : List (List ℕ)) → IsGivenBy words given.now → IsLineError words LineError.Usage) }
+{
+    match device_options(given) {
+        Some(options) => Some(Command::Device(options)),
+        None => None,
+    }
 }
 
 fn port_option(given: &Given<'_>) -> Option<u16>

@@ -3,10 +3,12 @@ ghost use Rattle.std.specs.Prelude.{◌≡◌, ◌⊎◌, IfOk, string_bytes};
 ghost use Rattle.sn_io.specs.Streams.{Tells};
 ghost use Rattle.sn_cli.specs.Lines.{line_of, item_text, form_text, IsTold};
 
+use crate::client_lines::{client_line, place_line};
 use crate::refusal::{FormRefusal, ItemRefusal, Refusal};
 use crate::status::{Status, Unfit};
+use sn_client::Place;
 use sn_io::{Sink, write_all};
-use sn_string::{hex_text, uuid_text};
+use sn_string::{Text, hex_text, uuid_text};
 use std::alloc::{AllocError, Global};
 
 /// Writes the line of a status. Where there is no memory for a line that tells values, the status is want of memory.
@@ -42,6 +44,8 @@ pub fn tell<E: Sink>(alloc: Global, err: &mut E, status: Status) -> Status
         }
         Status::Refused(refusal) => tell_refusal(alloc, err, refusal),
         Status::Foreign(unfit) => tell_unfit(alloc, err, unfit),
+        Status::Server { status, tag } => tell_server(alloc, err, status, tag),
+        Status::BadAnswer(place) => tell_place(alloc, err, place),
     }
 }
 
@@ -77,6 +81,38 @@ fn tell_unfit<E: Sink>(alloc: Global, err: &mut E, unfit: Unfit) -> Status
     }
 }
 
+fn tell_server<E: Sink>(alloc: Global, err: &mut E, status: u16, tag: Text) -> Status
+    ensures same { (result ≡ Status.Server status tag) ⊎ (result ≡ Status.Memory) }
+    ensures told { Tells (E.held err.old) (E.held err.new) (E.fault_count err.old) (E.fault_count err.new) (line_of result) }
+{
+    match server_line(alloc, status, &tag) {
+        Ok(line) => {
+            put(err, line.as_bytes());
+            Status::Server { status, tag }
+        }
+        Err(AllocError) => {
+            put(err, b"sn: memory\n");
+            Status::Memory
+        }
+    }
+}
+
+fn tell_place<E: Sink>(alloc: Global, err: &mut E, place: Place) -> Status
+    ensures same { (result ≡ Status.BadAnswer place) ⊎ (result ≡ Status.Memory) }
+    ensures told { Tells (E.held err.old) (E.held err.new) (E.fault_count err.old) (E.fault_count err.new) (line_of result) }
+{
+    match answer_line(alloc, &place) {
+        Ok(line) => {
+            put(err, line.as_bytes());
+            Status::BadAnswer(place)
+        }
+        Err(AllocError) => {
+            put(err, b"sn: memory\n");
+            Status::Memory
+        }
+    }
+}
+
 // A fault here changes no status.
 fn put<E: Sink>(err: &mut E, line: &[u8])
     ensures { Tells (E.held err.old) (E.held err.new) (E.fault_count err.old) (E.fault_count err.new) line.now }
@@ -93,6 +129,8 @@ fn refusal_line(alloc: Global, refusal: &Refusal) -> Result<String, AllocError>
         Refusal::Form(refusal) => form_line(alloc, refusal)?,
         Refusal::Item(refusal) => item_line(alloc, refusal)?,
         Refusal::Line { number } => format!(in alloc; "replay.1 Line {number}")?,
+        Refusal::PasswordLine { length } => format!(in alloc; "cli.3 PasswordLine {length}")?,
+        Refusal::Client(refusal) => client_line(alloc, refusal)?,
     };
     format!(in alloc; "sn: {text}\n")
 }
@@ -108,6 +146,20 @@ fn unfit_line(alloc: Global, unfit: Unfit) -> Result<String, AllocError>
             format!(in alloc; "sn: rows {number}\n")
         }
     }
+}
+
+fn server_line(alloc: Global, status: u16, tag: &Text) -> Result<String, AllocError>
+    ensures { IfOk result (λ line. string_bytes line ≡ line_of (Status.Server status tag.now)) }
+{
+    let tag = tag.as_str();
+    format!(in alloc; "sn: server {status} {tag}\n")
+}
+
+fn answer_line(alloc: Global, place: &Place) -> Result<String, AllocError>
+    ensures { IfOk result (λ line. string_bytes line ≡ line_of (Status.BadAnswer place.now)) }
+{
+    let text = place_line(alloc, place)?;
+    format!(in alloc; "sn: answer {text}\n")
 }
 
 fn item_line(alloc: Global, refusal: &ItemRefusal) -> Result<String, AllocError>

@@ -1,19 +1,28 @@
 //! The program `sn`: its top call, and the real outside that `main` hands to it.
 #![tactic(auto)]
 
+mod calling;
+mod client_lines;
 mod command_line;
+mod device_line;
+#[cfg(test)]
+mod device_tests;
+mod ends;
 mod given;
 mod help;
 mod input;
 mod lines;
+mod listing;
 mod number;
 mod opening;
 mod output;
 mod outside;
+mod passwords;
 mod program;
 mod refusal;
 mod replaying;
 mod sealing;
+mod server;
 mod serving;
 mod showing;
 mod status;
@@ -27,7 +36,7 @@ use program::run;
 use rand_chacha::ChaCha20Rng;
 use rand_core::Rng;
 use sn_replay::PlainBench;
-use sn_system::{FileShelf, Input, Output, SystemClock, TcpPort};
+use sn_system::{FileShelf, Input, Output, SystemClock, TcpLink, TcpPort};
 use status::Status;
 use std::io;
 use std::process::ExitCode;
@@ -52,6 +61,7 @@ fn run_on_streams(rt: &HostRuntime, words: &[String]) -> Status {
         &mut FileShelf::new(rt),
         &mut PlainBench::new(rt.alloc()),
         &mut TcpPort::new(rt),
+        &mut TcpLink::new(rt),
         &mut Input::new(rt.reader()),
         &mut Output::new(rt.stdout()),
         &mut Output::new(rt.stderr()),

@@ -1,7 +1,7 @@
 // The output of a command.
 ghost use Rattle.std.specs.Prelude.{◌≡◌};
 ghost use Rattle.sn_io.specs.Causes.{Rose};
-ghost use Rattle.sn_cli.specs.Runs.{Writes};
+ghost use Rattle.sn_cli.specs.Outputs.{Writes};
 
 use crate::status::Status;
 use sn_io::{Sink, write_all};

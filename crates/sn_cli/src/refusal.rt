@@ -18,6 +18,10 @@ pub enum Refusal {
     Item(ItemRefusal),
     /// The input is no script; its first line that is out of the grammar, counted from 1.
     Line { number: u64 },
+    /// The input's first line, a password, hasn't 1 to 1024 bytes; its length.
+    PasswordLine { length: usize },
+    /// The device refuses the call.
+    Client(ClientRefusal),
 }
 
 /// The part of a 003 string that is out of form. A place is the byte at which the part begins.
@@ -56,6 +60,30 @@ pub enum ItemRefusal {
     OtherSet {
         nonce: Text,
     },
+}
+
+/// Why a device refuses a call.
+#[derive(Debug, Drop)]
+pub enum ClientRefusal {
+    NoAccount,
+    /// No row has the uuid, or its draft is a deletion.
+    NoItem { uuid: Uuid },
+    /// The item opens under no set that is held; the nonce of that under which it is sealed.
+    Closed { nonce: Text },
+    /// The content's length in bytes.
+    TooLong { length: u64 },
+    NotObject,
+    RoundsUsed,
+    /// The last of the uuids that were drawn, which are all in the store.
+    NoFreshUuid { drawn: Uuid },
+    WrongPassword,
+    /// The store's account is this one.
+    OtherAccount { identifier: Text },
+    HasAccount { identifier: Text },
+    Cost { cost: u32 },
+    NumbersUsed { next: u64 },
+    /// A batch is longer than one of the journal may be.
+    TooLarge { size: u64 },
 }
 
 /// The refusal that an error of the string's reader is. None is want of memory.

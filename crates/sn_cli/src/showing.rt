@@ -98,9 +98,9 @@ fn salt_json(alloc: Global, params: &Params) -> Result<String, AllocError>
     json_text(alloc, text.as_str())
 }
 
-// The text as a JSON string.
+/// The text as a JSON string.
 #[tactic(auto, unfolding(crate::specs::Shown::json_text))]
-fn json_text(alloc: Global, text: &str) -> Result<String, AllocError>
+pub fn json_text(alloc: Global, text: &str) -> Result<String, AllocError>
     ensures { IfOk result (λ json. string_bytes json ≡ json_text text.now) }
 {
     Value::try_from_str(alloc, text)?.to_string(alloc)

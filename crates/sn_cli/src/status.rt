@@ -2,7 +2,9 @@
 ghost use Rattle.std.specs.Prelude.{◌≡◌};
 
 use crate::refusal::Refusal;
+use sn_client::Place;
 use sn_rows::RowKind;
+use sn_string::Text;
 
 /// The outcome of a run. Each but the first has a line on standard error.
 #[derive(Debug, Drop)]
@@ -12,13 +14,17 @@ pub enum Status {
     Refused(Refusal),
     /// The shelf or a disk failed.
     DiskFault,
-    /// The port failed.
+    /// The port or the link failed.
     LinkFault,
     ReadFault,
     WriteFault,
     Memory,
     /// A disk holds no store of the kind that the command wants, or a damaged one.
     Foreign(Unfit),
+    /// The server's refusal, with its HTTP status.
+    Server { status: u16, tag: Text },
+    /// What came as an answer isn't one that may be used.
+    BadAnswer(Place),
 }
 
 /// Why a disk's store isn't one to be used. None is want of memory.
@@ -49,6 +55,8 @@ impl Status {
             Status::WriteFault => 7,
             Status::Memory => 8,
             Status::Foreign(_) => 9,
+            Status::Server { .. } => 10,
+            Status::BadAnswer(_) => 11,
         }
     }
 }
