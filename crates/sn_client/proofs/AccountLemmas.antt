@@ -18,6 +18,7 @@ use Rattle.sn_rows.specs.declared.change.Change.{Change}
 use Rattle.sn_rows.specs.declared.device_rows.OwnerRow.{OwnerRow}
 use Rattle.sn_rows.specs.declared.key.Key.{Key}
 use Rattle.sn_rows.specs.declared.value.Value.{Value}
+use Rattle.sn_sets.proofs.Facts.{later_at_once}
 use Rattle.sn_string.specs.Bounds.{IsIdentifier}
 use Rattle.sn_sync.specs.Members.{IsSessionToken}
 use Rattle.sn_sync.specs.declared.answer.Answer.TheVariants as answer
@@ -34,7 +35,7 @@ use Rattle.sn_client.specs.Asked.{AsksOnce, IsAsked}
 use Rattle.sn_client.specs.Asking.{Fails, Reply, said}
 use Rattle.sn_client.specs.Calls.{Ends, IfRefused, StandsOrHas, of_commit}
 use Rattle.sn_client.specs.Going.{GivesAccount, GoesOver, KeepsOrNot, MayWant}
-use Rattle.sn_client.specs.Runs.{Act, AreExchanges, AsksAccount, EndsCommit, Given, Halt, StopsAt, asked, commits, nothing, refused}
+use Rattle.sn_client.specs.Runs.{Act, AreExchanges, AsksAccount, EndsCommit, Given, Halt, StopsAt, asked, commits, longest_token, nothing, refused}
 use Rattle.sn_client.specs.States.{Bytes, HasNoAccount, HasOwner, IsFresh, IsSound}
 use Rattle.sn_client.specs.Steps.{Step, What}
 use Rattle.sn_client.specs.declared.called.Called.{Called}
@@ -42,6 +43,7 @@ use Rattle.sn_client.specs.declared.called.Called.TheVariants as called
 use Rattle.sn_client.specs.declared.error.ClientError.{ClientError}
 use Rattle.sn_client.specs.declared.error.ClientError.TheVariants as refusal
 use Rattle.sn_client.proofs.StateLemmas.{lengths}
+use Rattle.sn_client.proofs.WordLemmas.{draws_asked, draws_commit, draws_none}
 
 -- ---- a device without an account
 
@@ -71,7 +73,16 @@ module _ {S D T : Type 0} (is_open : S → Kept → Type 0) (may_have : D → Ke
   pub refuses_first : (run : List Act → Halt → Type 0) (asks : List Exchange → Type 0) (host : Bytes) (left : ChaCha) (device : S) (why : ClientError)
       → is_open device kept → asks [] → run [] (refused why) → GoesOver is_open may_have gives run asks host kept left (called.Refused device why)
   refuses_first run asks host left device why opens none runs =
-      record { acts = []; halt = refused why; runs = runs; exchanges = []; are = refl; asked_so = none; ends = (refl, opens) }
+      record {
+        acts = [];
+        halt = refused why;
+        runs = runs;
+        exchanges = [];
+        are = refl;
+        asked_so = none;
+        drawn = draws_none kept.rows left left why (later_at_once left);
+        ends = (refl, opens);
+      }
 
   -- a call that doesn't get an account
   pub gets_none : (words left : ChaCha) (asks : List Exchange → Type 0) (host : Bytes) (r : Request) (what : Bytes → Bytes → What) (device : S) (why : ClientError)
@@ -95,6 +106,7 @@ module _ {S D T : Type 0} (is_open : S → Kept → Type 0) (may_have : D → Ke
     exchanges = once.exchange ∷ [];
     are = (once.exchange, [], refl, once.is, refl);
     asked_so = once.asked;
+    drawn = draws_asked kept.rows left left r reply [] (refused why) (draws_none kept.rows left left why (later_at_once left));
     ends = (refl, opens);
   }
 
@@ -119,6 +131,8 @@ module _ {S D T : Type 0} (is_open : S → Kept → Type 0) (may_have : D → Ke
     exchanges = once.exchange ∷ [];
     are = (once.exchange, [], refl, once.is, no_exchanges host (what uuid token) changes nothing words acts halt commit);
     asked_so = once.asked;
+    drawn = draws_asked kept.rows words words r (said (answer.Account token identifier uuid)) acts halt
+        (draws_commit kept.rows words words (what uuid token) changes nothing acts halt step (later_at_once words) commit);
     ends = ends_behind r (said (answer.Account token identifier uuid)) acts halt words result ends;
   }
 
@@ -172,7 +186,7 @@ visible (byte ∷ text) (here, later) =
 
 -- an account's row takes them
 pub owner_fits : (identifier token none other : Bytes) → IsIdentifier identifier → IsSessionToken token → none ≡ [] → other ≡ []
-    → HasLength 1 254 identifier × HasLength 1 1024 token × IsVisible token × HasLength 0 33554432 none × HasLength 0 33554432 other
+    → HasLength 1 254 identifier × HasLength 1 1024 token × IsVisible token × HasLength 0 longest_token none × HasLength 0 longest_token other
 owner_fits identifier token none other named session empty too =
     let e : length none ≡ 0 = ap (λ (l : Bytes). length l) empty in
     let f : length other ≡ 0 = ap (λ (l : Bytes). length l) too in
@@ -181,11 +195,11 @@ owner_fits identifier token none other named session empty too =
 -- an account's row takes another session token
 pub renewed_fits : (owner : OwnerRow) (identifier token sync cursor : Bytes) → identifier ≡ owner.identifier → sync ≡ owner.sync_token
     → cursor ≡ owner.cursor_token → IsSessionToken token
-    → HasLength 1 254 identifier × HasLength 1 1024 token × IsVisible token × HasLength 0 33554432 sync × HasLength 0 33554432 cursor
+    → HasLength 1 254 identifier × HasLength 1 1024 token × IsVisible token × HasLength 0 longest_token sync × HasLength 0 longest_token cursor
 renewed_fits owner identifier token sync cursor named synced paged session = (
   subst (λ (t : Bytes). HasLength 1 254 t) (sym named) (lengths 1 254 owner.identifier owner.identifier_fits),
   (session.0, session.1),
   visible token (recursion_from_All (λ c. (33 ≤ c) × (c ≤ 126)) token session.2),
-  subst (λ (t : Bytes). HasLength 0 33554432 t) (sym synced) (lengths 0 33554432 owner.sync_token owner.sync_token_fits),
-  subst (λ (t : Bytes). HasLength 0 33554432 t) (sym paged) (lengths 0 33554432 owner.cursor_token owner.cursor_token_fits),
+  subst (λ (t : Bytes). HasLength 0 longest_token t) (sym synced) (lengths 0 longest_token owner.sync_token owner.sync_token_fits),
+  subst (λ (t : Bytes). HasLength 0 longest_token t) (sym paged) (lengths 0 longest_token owner.cursor_token owner.cursor_token_fits),
 )

@@ -18,13 +18,13 @@ use Rattle.sn_sets.specs.declared.sets.Sets.{Sets}
 use Rattle.sn_table.specs.Batches.{IsOf, owner_of_kind}
 use Rattle.sn_table.specs.Kept.{Kept}
 use Rattle.sn_client.specs.Calls.{Calls, MayRefuse, Prepares, none_more}
-use Rattle.sn_sets.specs.Seals.{Seals}
+use Rattle.sn_sets.specs.Seals.{IsLater, Seals}
 use Rattle.sn_client.specs.Draws.{DrawsFresh, DrawsNoFresh}
 use Rattle.sn_client.specs.Listing.{IsDeleted, Shows}
 use Rattle.sn_client.specs.Runs.{Act, Call, CommitsOnce, Given, Halt, IsGone, PutsItem, Run, RunsCall, RunsDelete, RunsEdit, RunsPut, WithContent, WithItem, a_uuid, nothing, refused}
 use Rattle.sn_client.specs.Sending.{PutsColumns}
 use Rattle.sn_client.specs.States.{Bytes, HasItem, HasOwner, HasSets, IsFree, columns, owner_columns}
-use Rattle.sn_client.specs.Steps.{Deletes, Edits, IsContent, IsUnknown, PutsNew, PutsOwner, What, deletes, drafted, edits, puts, with_next}
+use Rattle.sn_client.specs.Steps.{Deletes, Edits, IsContent, IsUnknown, PutsNew, PutsOwner, Step, What, deletes, drafted, edits, puts, with_next}
 use Rattle.sn_client.specs.Taking.{last_number, new_columns}
 use Rattle.sn_client.specs.declared.called.Called.{Called}
 use Rattle.sn_client.specs.declared.called.Called.TheVariants as called
@@ -32,29 +32,35 @@ use Rattle.sn_client.specs.declared.error.ClientError.{ClientError}
 use Rattle.sn_client.specs.declared.error.ClientError.TheVariants as refusal
 use Rattle.sn_client.proofs.CallLemmas.{Answers}
 use Rattle.sn_client.proofs.LookLemmas.{RefusesShown, of_account, of_closed, of_content, of_gone, of_shown}
+use Rattle.sn_client.proofs.WordLemmas.{drawn_on, draws_commit, draws_none}
 
 -- ---- the end of a call
 
 module _ {S D T : Type 0} (is_open : S → Kept → Type 0) (may_have : D → Kept → List Change → Type 0) (gives : T → Given) (least : ℕ) (call : Call) (kept : Kept)
     (rows : Rows) (words : ChaCha) where
   -- a call that is refused before its first act
-  pub refused_call : (left : ChaCha) (device : S) (why : ClientError) → rows ≡ kept.rows → is_open device kept → MayRefuse (RunsCall least call rows words) why
+  pub refused_call : (left : ChaCha) (device : S) (why : ClientError) → rows ≡ kept.rows → is_open device kept → IsLater words left
+      → MayRefuse (RunsCall least call rows words) why
       → Calls is_open may_have gives least call kept words left (called.Refused device why)
-  refused_call left device why are opens may = record {
+  refused_call left device why are opens later may = record {
     acts = [];
     halt = refused why;
     runs = subst (λ (r : Rows). Run least call r words [] (refused why)) are may;
+    drawn = drawn_on kept.rows words [] (refused why) left (draws_none kept.rows words left why later);
     ends = (refl, opens);
   }
 
   -- a call that makes its last commit
   pub answered_call : (left : ChaCha) (what : What) (changes : List Change) (given : T) (result : Called S D T) → rows ≡ kept.rows
+      → Step rows words what changes left → IsLater words left
       → Prepares (RunsCall least call rows words) what changes (gives given) left → Answers is_open may_have gives kept what left changes given result
       → Calls is_open may_have gives least call kept words left result
-  answered_call left what changes given result are prepared (acts, halt, commits, ends) = record {
+  answered_call left what changes given result are step later prepared (acts, halt, commits, ends) = record {
     acts = acts;
     halt = halt;
     runs = subst (λ (r : Rows). Run least call r words acts halt) are (inr (prepared acts halt commits));
+    drawn = drawn_on kept.rows words acts halt left
+        (draws_commit kept.rows words left what changes (gives given) acts halt (subst (λ (r : Rows). Step r words what changes left) are step) later commits);
     ends = ends;
   }
 

@@ -192,37 +192,18 @@ pub found_waits : (rows : Rows) (number n : ℕ) (found : Option (Bor LocalItem)
 found_waits rows number n None b some is there same = absurd (let wrong : true ≡ false = sym there ∙ is in cc)
 found_waits rows number n (Some item) b some is there same = subst (WaitsIn rows) same (item.now, some.0, some.1)
 
--- each number that stands waits, or comes at or behind the next one
-abbrev pub IsListedAhead : Option ℕ → ℕ → Type 0
-IsListedAhead None n = ⊥
-IsListedAhead (Some next) n = next ≤ n
-
-abbrev pub AreSettled : Index → Rows → Option ℕ → Type 0
-AreSettled index rows next = (n : ℕ) → Waits index n → WaitsIn rows n ⊎ IsListedAhead next n
-
-listed_ahead : (index : Index) (behind next : Option ℕ) → IfSome next (IsNextListed index behind) → IfNone next (NoneListed index behind)
-    → (n : ℕ) → IsBehind behind n → Waits index n → IsListedAhead next n
-listed_ahead index behind None some none n later waits = none n later waits
-listed_ahead index behind (Some next) some none n later waits = some.least n later waits
-
-pub settled_first : (index : Index) (rows : Rows) (next : Option ℕ) → IfSome next (IsNextListed index None) → IfNone next (NoneListed index None)
-    → AreSettled index rows next
-settled_first index rows next some none n waits = inr (listed_ahead index None next some none n tt waits)
-
-pub settled_more : (old new : Index) (rows : Rows) (number : ℕ) (next : Option ℕ) → AreSettled old rows (Some number)
-    → (Waits new number → WaitsIn rows number) → ((n : ℕ) → Waits new n → Waits old n) → IfSome next (IsNextListed new (Some number))
-    → IfNone next (NoneListed new (Some number)) → AreSettled new rows next
-settled_more old new rows number next before here less some none n waits =
+-- one key more is settled
+pub settled_more : (old new : Index) (rows : Rows) (keys : List Key) (i : ℕ) (at : Key) → i < length keys → at ≡ get_or keys i at
+    → ((n : ℕ) → Waits new n → Waits old n) → ((n : ℕ) → at ≡ key.Local n → Waits new n → WaitsIn rows n)
+    → ((k n : ℕ) → k < i → get_or keys k (key.Local n) ≡ key.Local n → Waits old n → WaitsIn rows n)
+    → (k n : ℕ) → k < i + 1 → get_or keys k (key.Local n) ≡ key.Local n → Waits new n → WaitsIn rows n
+settled_more old new rows keys i at within is less here before k n below same waits =
+    let upto : k ≤ i = omega arith in
+    let read : at ≡ get_or keys i (key.Local n) = at_read keys (λ (y : Key). at ≡ y) i at within is refl (key.Local n) in
     ⊎_elim
-    (λ (done : WaitsIn rows n). inl done)
-    (λ (upto : number ≤ n). ⊎_elim
-    (λ (same : number ≡ n). inl (subst (λ (m : ℕ). WaitsIn rows m) same (here (subst (λ (m : ℕ). Waits new m) (sym same) waits))))
-    (λ (later : number < n). inr (listed_ahead new (Some number) next some none n later waits))
-    (eq-or-lt_of_le upto))
-    (before n (less n waits))
-
-pub settled_last : (index : Index) (rows : Rows) → AreSettled index rows None → (n : ℕ) → Waits index n → WaitsIn rows n
-settled_last index rows settled n waits = ⊎_elim (λ (done : WaitsIn rows n). done) (λ (none : ⊥). absurd none) (settled n waits)
+    (λ (last : k ≡ i). here n (read ∙ ap (λ (j : ℕ). get_or keys j (key.Local n)) (sym last) ∙ same) waits)
+    (λ (earlier : k < i). before k n earlier same (less n waits))
+    (eq-or-lt_of_le upto)
 
 -- ---- changes
 

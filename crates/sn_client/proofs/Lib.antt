@@ -42,3 +42,4 @@ pub mod TellLemmas
 pub mod VersionLemmas
 pub mod WaitLemmas
 pub mod Well
+pub mod WordLemmas

@@ -55,12 +55,12 @@ front_of (commits what changes ∷ acts) kept [] later is = ([], commits what ch
 front_of (commits what changes ∷ acts) kept (x ∷ made) later is =
     let (more, so) = made_by (with_batch kept changes) acts in
     let same : changes ∷ more ≡ x ∷ (made ++ later) =
-    append_cancel_left kept.batches (changes ∷ more) (x ∷ (made ++ later))
-    (sym (append_assoc kept.batches (changes ∷ []) more) ∙ sym so ∙ is ∙ append_assoc kept.batches (x ∷ made) later)
+        append_cancel_left kept.batches (changes ∷ more) (x ∷ (made ++ later))
+        (sym (append_assoc kept.batches (changes ∷ []) more) ∙ sym so ∙ is ∙ append_assoc kept.batches (x ∷ made) later)
     in
     let first : changes ≡ x = cc in
     let moved : (kept.batches ++ changes ∷ []) ++ made ≡ kept.batches ++ x ∷ made =
-    append_assoc kept.batches (changes ∷ []) made ∙ ap (λ (c : List Change). kept.batches ++ c ∷ made) first
+        append_assoc kept.batches (changes ∷ []) made ∙ ap (λ (c : List Change). kept.batches ++ c ∷ made) first
     in
     let (front, rest, split, leaves) = front_of acts (with_batch kept changes) made later (is ∙ ap (λ (l : List (List Change)). l ++ later) (sym moved)) in
     (commits what changes ∷ front, rest, ap (λ (l : List Act). commits what changes ∷ l) split, leaves ∙ moved)
@@ -106,7 +106,7 @@ between_first old mid new more c is b = record {
 between_later : (old mid new : Kept) (before : List (List Change)) (c : List ℕ) → mid.batches ≡ old.batches ++ before → IsBetween mid new c → IsBetween old new c
 between_later old mid new before c is b =
     let moved : mid.batches ++ b.made ≡ old.batches ++ (before ++ b.made) =
-    ap (λ (l : List (List Change)). l ++ b.made) is ∙ append_assoc old.batches before b.made
+        ap (λ (l : List (List Change)). l ++ b.made) is ∙ append_assoc old.batches before b.made
     in
     record {
       made = before ++ b.made;
@@ -214,6 +214,7 @@ module _ {S D T : Type 0} (P Q : S → Kept → Type 0) (M N : D → Kept → Li
     exchanges = a.exchanges;
     are = a.are;
     asked_so = a.asked_so;
+    drawn = a.drawn;
     ends = ends_as gives_nothing a.acts a.halt left result a.ends;
   }
 
@@ -226,6 +227,7 @@ module _ {S D T : Type 0} (P Q : S → Kept → Type 0) (M N : D → Kept → Li
     exchanges = a.exchanges;
     are = a.are;
     asked_so = a.asked_so;
+    drawn = a.drawn;
     ends = ends_as gives_nothing a.acts a.halt left result a.ends;
   }
 
@@ -280,6 +282,7 @@ module _ {D T : Type 0} {g : Ghosts D} (old : Device D g) (kept : Kept) (gives :
       exchanges = over.exchanges;
       are = over.are;
       asked_so = over.asked_so;
+      drawn = over.drawn;
       ends = opened;
     }
 
@@ -294,6 +297,7 @@ module _ {D T : Type 0} {g : Ghosts D} (old : Device D g) (kept : Kept) (gives :
         exchanges = over.exchanges;
         are = over.are;
         asked_so = over.asked_so;
+        drawn = over.drawn;
         ends = opened;
       },
       moments_of over.acts over.halt left result over.ends told,

@@ -26,6 +26,7 @@ use Rattle.sn_client.specs.declared.called.Called.{Called}
 use Rattle.sn_client.specs.declared.called.Called.TheVariants as called
 use Rattle.sn_client.specs.declared.error.ClientError.{ClientError}
 use Rattle.sn_client.specs.declared.error.ClientError.TheVariants as refusal
+use Rattle.sn_client.proofs.WordLemmas.{drawn_on, draws_none}
 
 -- ---- the set
 
@@ -81,25 +82,34 @@ refused_before least cost identifier password rows words why (inr (inr (none, ba
 module _ {S D T : Type 0} (is_open : S → Kept → Type 0) (may_have : D → Kept → List Change → Type 0) (gives : T → Given) (kept : Kept) where
   -- a call that is refused before its first act
   pub refused_call : (least : ℕ) (call : Call) (asks : List Exchange → Type 0) (host : Bytes) (words left : ChaCha) (device : S) (why : ClientError)
-      → is_open device kept → asks [] → Run least call kept.rows words [] (refused why)
+      → is_open device kept → asks [] → IsLater words left → Run least call kept.rows words [] (refused why)
       → CallsOver is_open may_have gives least call asks host kept words left (called.Refused device why)
-  refused_call least call asks host words left device why opens none runs =
-      record { acts = []; halt = refused why; runs = runs; exchanges = []; are = refl; asked_so = none; ends = (refl, opens) }
+  refused_call least call asks host words left device why opens none later runs = record {
+    acts = [];
+    halt = refused why;
+    runs = runs;
+    exchanges = [];
+    are = refl;
+    asked_so = none;
+    drawn = drawn_on kept.rows words [] (refused why) left (draws_none kept.rows words left why later);
+    ends = (refl, opens);
+  }
 
   pub refused_register : (least cost : ℕ) (identifier password : Bytes) (rows : Rows) (asks : List Exchange → Type 0) (host : Bytes) (words left : ChaCha) (device : S)
-      (why : ClientError) → is_open device kept → asks [] → rows ≡ kept.rows → RefusesBefore rows least cost why
+      (why : ClientError) → is_open device kept → asks [] → IsLater words left → rows ≡ kept.rows → RefusesBefore rows least cost why
       → CallsOver is_open may_have gives least (register identifier password cost) asks host kept words left (called.Refused device why)
-  refused_register least cost identifier password rows asks host words left device why opens none same before =
-      refused_call least (register identifier password cost) asks host words left device why opens none
+  refused_register least cost identifier password rows asks host words left device why opens none later same before =
+      refused_call least (register identifier password cost) asks host words left device why opens none later
       (subst (λ (r : Rows). Run least (register identifier password cost) r words [] (refused why)) same
       (refused_before least cost identifier password rows words why before))
 
   -- one that goes on
   pub goes_register : (least cost : ℕ) (identifier password : Bytes) (rows : Rows) (asks : List Exchange → Type 0) (host : Bytes) (words left : ChaCha) (set : KeySet)
       (r : Request) (result : Called S D T) → rows ≡ kept.rows → HasNoAccount rows × ¬ (IsBadCost least cost) → IsNewSet words identifier password cost set left
+      → IsLater words left
       → r ≡ request.Register set.params set.pw → GoesOver is_open may_have gives (MayWant (AsksAccount kept.rows left r (begins set))) asks host kept left result
       → CallsOver is_open may_have gives least (register identifier password cost) asks host kept words left result
-  goes_register least cost identifier password rows asks host words left set r result same free new is goes = record {
+  goes_register least cost identifier password rows asks host words left set r result same free new later is goes = record {
     acts = goes.acts;
     halt = goes.halt;
     runs = elim goes.runs [
@@ -120,5 +130,6 @@ module _ {S D T : Type 0} (is_open : S → Kept → Type 0) (may_have : D → Ke
     exchanges = goes.exchanges;
     are = goes.are;
     asked_so = goes.asked_so;
+    drawn = record { first = left; begins = later; draws = goes.drawn };
     ends = goes.ends;
   }

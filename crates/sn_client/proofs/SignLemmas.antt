@@ -8,6 +8,7 @@ use Rattle.sn_keys.specs.Keys.{AreKeysOf}
 use Rattle.sn_rows.specs.Table.{Rows}
 use Rattle.sn_rows.specs.declared.change.Change.{Change}
 use Rattle.sn_rows.specs.declared.device_rows.OwnerRow.{OwnerRow}
+use Rattle.sn_sets.proofs.Facts.{later_at_once}
 use Rattle.sn_sets.specs.declared.sets.Sets.{Sets}
 use Rattle.sn_string.specs.declared.params.KeySet.{KeySet}
 use Rattle.sn_string.specs.declared.params.Params.{Params}
@@ -17,9 +18,9 @@ use Rattle.sn_sync.specs.declared.request.Request.{Request}
 use Rattle.sn_sync.specs.declared.request.Request.TheVariants as request
 use Rattle.sn_table.specs.Kept.{Kept}
 use Rattle.sn_client.specs.Asked.{AsksOnce}
-use Rattle.sn_client.specs.Asking.{said}
+use Rattle.sn_client.specs.Asking.{Reply, said}
 use Rattle.sn_client.specs.Going.{GoesOver, MayWant}
-use Rattle.sn_client.specs.Calls.{CallsOver}
+use Rattle.sn_client.specs.Calls.{CallsOver, HasDrawn}
 use Rattle.sn_client.specs.Runs.{Act, AsksAccount, AsksFirst, Given, Halt, IsOrMayBe, IsOtherOlder, Run, SignsInBy, SignsInUnder, SignsInWith, asked, refused, sign_in}
 use Rattle.sn_client.specs.Signing.{HasKeys, MadeBySignIn, RefusesAgain, RefusesKeys, RefusesParams, RefusesWith, RenewsWith}
 use Rattle.sn_client.specs.Steps.{Begins, Renews, begins, renews}
@@ -31,6 +32,7 @@ use Rattle.sn_client.specs.declared.error.ClientError.TheVariants as refusal
 use Rattle.sn_client.specs.declared.error.Place.TheVariants as place
 use Rattle.sn_client.proofs.AccountLemmas.{ends_behind}
 use Rattle.sn_client.proofs.RegisterLemmas.{refused_call, refuses}
+use Rattle.sn_client.proofs.WordLemmas.{drawn_on, draws_asked, draws_none}
 
 -- ---- why it is refused, and what is held
 
@@ -145,6 +147,12 @@ other_refused least identifier password rows words why (inl memory) = inl (refl,
 other_refused least identifier password rows words why (inr (owner, has, other, is)) =
     inr (inl (owner, has, other, (refl, refuses why (refusal.OtherAccount owner.identifier) is)))
 
+-- no words are drawn for a request
+refused_behind : (rows : Rows) (words : ChaCha) (r : Request) (reply : Reply) (why : ClientError) → HasDrawn rows words (asked r reply ∷ []) (refused why) words
+refused_behind rows words r reply why =
+    drawn_on rows words (asked r reply ∷ []) (refused why) words
+    (draws_asked rows words words r reply [] (refused why) (draws_none rows words words why (later_at_once words)))
+
 module _ {S D T : Type 0} (is_open : S → Kept → Type 0) (may_have : D → Kept → List Change → Type 0) (gives : T → Given) (kept : Kept) where
   -- what runs so runs as this says
   pub goes_as : (run other : List Act → Halt → Type 0) (asks : List Exchange → Type 0) (host : Bytes) (left : ChaCha) (result : Called S D T)
@@ -157,6 +165,7 @@ module _ {S D T : Type 0} (is_open : S → Kept → Type 0) (may_have : D → Ke
     exchanges = goes.exchanges;
     are = goes.are;
     asked_so = goes.asked_so;
+    drawn = goes.drawn;
     ends = goes.ends;
   }
 
@@ -185,19 +194,21 @@ module _ {S D T : Type 0} (is_open : S → Kept → Type 0) (may_have : D → Ke
     exchanges = once.exchange ∷ goes.exchanges;
     are = (once.exchange, goes.exchanges, refl, once.is, goes.are);
     asked_so = more (once.exchange ∷ []) goes.exchanges once.asked goes.asked_so;
+    drawn = draws_asked kept.rows left left r (said given) goes.acts goes.halt goes.drawn;
     ends = ends_behind is_open may_have gives kept r (said given) goes.acts goes.halt left result goes.ends;
   }
 
   -- ---- a sign-in
 
   -- it is refused for its answer about the parameters
-  pub keys_refused : (least : ℕ) (identifier password : Bytes) (asks : List Exchange → Type 0) (host : Bytes) (words left : ChaCha) (device : S) (why : ClientError)
+  pub keys_refused : (least : ℕ) (identifier password : Bytes) (asks : List Exchange → Type 0) (host : Bytes) (words : ChaCha) (device : S) (why : ClientError)
       → is_open device kept → IsOrMayBe kept.rows identifier → RefusesKeys asks host least identifier why
-      → CallsOver is_open may_have gives least (sign_in identifier password) asks host kept words left (called.Refused device why)
-  keys_refused least identifier password asks host words left device why opens may (inl (inl (none, is))) =
+      → CallsOver is_open may_have gives least (sign_in identifier password) asks host kept words words (called.Refused device why)
+  keys_refused least identifier password asks host words device why opens may (inl (inl (none, is))) =
       let memory : why ≡ refusal.Memory = cc in
-      refused_call is_open may_have gives kept least (sign_in identifier password) asks host words left device why opens none (inl (refl, refuses why refusal.Memory memory))
-  keys_refused least identifier password asks host words left device why opens may (inl (inr (reply, once, comes))) = record {
+      refused_call is_open may_have gives kept least (sign_in identifier password) asks host words words device why opens none (later_at_once words)
+      (inl (refl, refuses why refusal.Memory memory))
+  keys_refused least identifier password asks host words device why opens may (inl (inr (reply, once, comes))) = record {
     acts = asked (request.Params identifier) reply ∷ [];
     halt = refused why;
     runs = inr (inr (
@@ -215,9 +226,10 @@ module _ {S D T : Type 0} (is_open : S → Kept → Type 0) (may_have : D → Ke
     exchanges = once.exchange ∷ [];
     are = (once.exchange, [], refl, once.is, refl);
     asked_so = once.asked;
+    drawn = refused_behind kept.rows words (request.Params identifier) reply why;
     ends = (refl, opens);
   }
-  keys_refused least identifier password asks host words left device why opens may (inr (params, once, refuses_so)) = record {
+  keys_refused least identifier password asks host words device why opens may (inr (params, once, refuses_so)) = record {
     acts = asked (request.Params identifier) (said (answer.Params params)) ∷ [];
     halt = refused why;
     runs = inr (inr (
@@ -236,6 +248,7 @@ module _ {S D T : Type 0} (is_open : S → Kept → Type 0) (may_have : D → Ke
     exchanges = once.exchange ∷ [];
     are = (once.exchange, [], refl, once.is, refl);
     asked_so = once.asked;
+    drawn = refused_behind kept.rows words (request.Params identifier) (said (answer.Params params)) why;
     ends = (refl, opens);
   }
 
@@ -249,4 +262,4 @@ module _ {S D T : Type 0} (is_open : S → Kept → Type 0) (may_have : D → Ke
       let under = goes_as (MayWant (SignsInWith kept.rows words set.params.identifier set)) (MayWant (SignsInBy least kept.rows words identifier password (answer.Params keys.params)))
       later host words result (λ acts halt. signs_by least kept.rows words identifier password first host set keys acts halt) goes in
       let all = goes_behind (SignsInBy least kept.rows words identifier password) first later asks host (request.Params identifier) (answer.Params keys.params) words result more keys.once under in
-      record { acts = all.acts; halt = all.halt; runs = inr (inr (may, all.runs)); exchanges = all.exchanges; are = all.are; asked_so = all.asked_so; ends = all.ends }
+      record { acts = all.acts; halt = all.halt; runs = inr (inr (may, all.runs)); exchanges = all.exchanges; are = all.are; asked_so = all.asked_so; drawn = drawn_on kept.rows words all.acts all.halt words all.drawn; ends = all.ends }

@@ -7,6 +7,8 @@ use Rattle.rand_chacha.specs.ChaCha.{ChaCha}
 use Rattle.sn_net.specs.Exchanges.{Exchange}
 use Rattle.sn_rows.specs.Table.{Rows, rows_after}
 use Rattle.sn_rows.specs.declared.change.Change.{Change}
+use Rattle.sn_sets.specs.Seals.{IsLater}
+use Rattle.sn_sets.proofs.Facts.{later_at_once}
 use Rattle.sn_sync.specs.declared.answer.Answer.{Answer}
 use Rattle.sn_sync.specs.declared.answer.Answer.TheVariants as answer
 use Rattle.sn_sync.specs.declared.item.Item.{Item}
@@ -17,7 +19,7 @@ use Rattle.sn_table.specs.Kept.{Kept, with_batch}
 use Rattle.sn_table.specs.declared.committed.CommitError.{CommitError}
 use Rattle.sn_client.specs.Asked.{AsksOnce, ComesTo, IsAsked}
 use Rattle.sn_client.specs.Asking.{IsExchange, Reply, said}
-use Rattle.sn_client.specs.Calls.{Ends, kept_done, of_commit}
+use Rattle.sn_client.specs.Calls.{DrawsAll, Ends, kept_done, of_commit}
 use Rattle.sn_client.specs.Runs.{Act, AreExchanges, AreRounds, EndsBehind, EndsSync, EndsUnapplied, Exchanges, Given, Halt, IsAllDone, IsBatch, IsDone, IsDue, IsLeft, IsRound, IsUnapplied, Round, Sends, Standing, acts_of, answered, asked, broken, commits, items_of, most_exchanges, posting, refused}
 use Rattle.sn_client.specs.Sending.{NoneWaits, Posts, PostsAll, SomeWaits}
 use Rattle.sn_client.specs.States.{Bytes}
@@ -30,6 +32,7 @@ use Rattle.sn_client.specs.declared.error.ClientError.TheVariants as refusal
 use Rattle.sn_client.specs.declared.syncing.Exchanged.{Exchanged}
 use Rattle.sn_client.specs.declared.syncing.Exchanged.TheVariants as exchanged
 use Rattle.sn_client.proofs.CallLemmas.{stops_refused}
+use Rattle.sn_client.proofs.WordLemmas.{draws_asked, draws_behind, draws_broken, draws_none, draws_posted, rounds_draw}
 
 -- ---- acts behind acts
 
@@ -163,20 +166,29 @@ module _ {S D T : Type 0} (is_open : S → Kept → Type 0) (may_have : D → Ke
   -- ---- the answer to a request
 
   module _ (kept : Kept) (words : ChaCha) (r : Request) (given : Answer) (left : ChaCha) where
-    pub not_applied : (device : S) (why : ClientError) → is_open device kept
+    pub not_applied : (device : S) (why : ClientError) → is_open device kept → IsLater words left
         → (why ≡ refusal.Memory) ⊎ IsUnapplied kept.rows words (items_of r) given why
         → IsApplied {T = T} is_open may_have kept words r given left (exchanged.Ended (called.Refused device why))
-    not_applied device why opens (inl memory) =
-        record { halt = refused why; so = inr (inl (ap refused memory)); ends = (refl, opens) }
-    not_applied device why opens (inr unapplied) =
-        record { halt = refused why; so = inr (inr (given, refl, inl (why, unapplied, refl))); ends = (refl, opens) }
+    not_applied device why opens later (inl memory) = record {
+      halt = refused why;
+      so = inr (inl (ap refused memory));
+      drawn = draws_none kept.rows words left why later;
+      ends = (refl, opens);
+    }
+    not_applied device why opens later (inr unapplied) = record {
+      halt = refused why;
+      so = inr (inr (given, refl, inl (why, unapplied, refl)));
+      drawn = draws_none kept.rows words left why later;
+      ends = (refl, opens);
+    }
 
     pub not_committed : (device : S) (changes : List Change) (error : CommitError) → AppliesTo kept.rows words r given changes left
-        → IsCause changes error → is_open device kept
+        → IsCause changes error → is_open device kept → IsLater words left
         → IsApplied {T = T} is_open may_have kept words r given left (exchanged.Ended (called.Refused device (of_commit error)))
-    not_committed device changes error step cause opens = record {
+    not_committed device changes error step cause opens later = record {
       halt = refused (of_commit error);
       so = inr (inr (given, refl, inr (changes, left, step, stops_refused (applies r given) changes error cause)));
+      drawn = draws_none kept.rows words left (of_commit error) later;
       ends = (refl, opens);
     }
 
@@ -185,6 +197,7 @@ module _ {S D T : Type 0} (is_open : S → Kept → Type 0) (may_have : D → Ke
     broken_off disk changes step fits may = record {
       halt = broken (applies r given) changes;
       so = inr (inr (given, refl, inr (changes, left, step, inl (fits, refl))));
+      drawn = draws_broken kept.rows words left (applies r given) changes step;
       ends = (applies r given, changes, refl, may);
     }
 
@@ -201,6 +214,7 @@ module _ {S D T : Type 0} (is_open : S → Kept → Type 0) (may_have : D → Ke
       exchanges = once.exchange ∷ [];
       are = (once.exchange, [], refl, once.is, refl);
       asked_so = once.asked;
+      drawn = draws_asked kept.rows words left r (said given) [] applied.halt applied.drawn;
       ends = ends_behind kept (asked r (said given) ∷ []) [] applied.halt left result applied.ends;
     }
 
@@ -212,18 +226,28 @@ module _ {S D T : Type 0} (is_open : S → Kept → Type 0) (may_have : D → Ke
         answered_by given (subst (AsksOnce asks host r) is once) result applied
 
     -- none came
-    pub asks_ill : (device : S) (why : ClientError) → IsAsked asks host r (Err why) → is_open device kept
+    pub asks_ill : (device : S) (why : ClientError) → IsAsked asks host r (Err why) → is_open device kept → IsLater words left
         → IsAskedAndApplied {T = T} is_open may_have kept words r host asks left (exchanged.Ended (called.Refused device why))
-    asks_ill device why (inl (none, is)) opens =
+    asks_ill device why (inl (none, is)) opens later =
         let memory : why ≡ refusal.Memory = cc in
-        record { acts = []; halt = refused why; so = inl (refl, ap refused memory); exchanges = []; are = refl; asked_so = none; ends = (refl, opens) }
-    asks_ill device why (inr (reply, once, comes)) opens = record {
+        record {
+          acts = [];
+          halt = refused why;
+          so = inl (refl, ap refused memory);
+          exchanges = [];
+          are = refl;
+          asked_so = none;
+          drawn = draws_none kept.rows words left why later;
+          ends = (refl, opens);
+        }
+    asks_ill device why (inr (reply, once, comes)) opens later = record {
       acts = asked r reply ∷ [];
       halt = refused why;
       so = inr (reply, refl, elim comes [ inl fails ↦ inl (why, fails, refl) | inr memory ↦ inr (inl (ap refused memory)) ]);
       exchanges = once.exchange ∷ [];
       are = (once.exchange, [], refl, once.is, refl);
       asked_so = once.asked;
+      drawn = draws_asked kept.rows words left r reply [] (refused why) (draws_none kept.rows words left why later);
       ends = (refl, opens);
     }
 
@@ -232,15 +256,23 @@ module _ {S D T : Type 0} (is_open : S → Kept → Type 0) (may_have : D → Ke
   module _ (kept : Kept) (words : ChaCha) (last : Option Answer) (host : Bytes) (asks : List Exchange → Type 0) (left : ChaCha)
       (due : IsDue kept.rows last) where
     -- nothing is made of it, in want of memory
-    pub sends_none : (device : S) → asks [] → is_open device kept
+    pub sends_none : (device : S) → asks [] → is_open device kept → IsLater words left
         → IsExchanged {T = T} is_open may_have kept (stood kept words last) host asks left (exchanged.Ended (called.Refused device refusal.Memory))
-    sends_none device none opens =
-        record { acts = []; halt = refused refusal.Memory; so = inr (refl, refl); exchanges = []; are = refl; asked_so = none; ends = (refl, opens) }
+    sends_none device none opens later = record {
+      acts = [];
+      halt = refused refusal.Memory;
+      so = inr (refl, refl);
+      exchanges = [];
+      are = refl;
+      asked_so = none;
+      drawn = draws_none kept.rows words left refusal.Memory later;
+      ends = (refl, opens);
+    }
 
     module _ (numbers : List ℕ) (posted : List Change) (r : Request) (ready : Rows) (sends : Sends kept.rows numbers posted r ready) where
-      pub not_posted : (device : S) (error : CommitError) → numbers ≢ [] → IsCause posted error → asks [] → is_open device kept
+      pub not_posted : (device : S) (error : CommitError) → numbers ≢ [] → IsCause posted error → asks [] → is_open device kept → IsLater words left
           → IsExchanged {T = T} is_open may_have kept (stood kept words last) host asks left (exchanged.Ended (called.Refused device (of_commit error)))
-      not_posted device error some cause none opens = record {
+      not_posted device error some cause none opens later = record {
         acts = [];
         halt = refused (of_commit error);
         so = inl (record {
@@ -255,12 +287,13 @@ module _ {S D T : Type 0} (is_open : S → Kept → Type 0) (may_have : D → Ke
         exchanges = [];
         are = refl;
         asked_so = none;
+        drawn = draws_none kept.rows words left (of_commit error) later;
         ends = (refl, opens);
       }
 
-      pub posting_broken : (disk : D) → numbers ≢ [] → IsBatch posted → asks [] → may_have disk kept posted
+      pub posting_broken : (disk : D) → numbers ≢ [] → IsBatch posted → asks [] → may_have disk kept posted → left ≡ words
           → IsExchanged {T = T} is_open may_have kept (stood kept words last) host asks left (exchanged.Ended (called.Broken disk))
-      posting_broken disk some fits none may = record {
+      posting_broken disk some fits none may same = record {
         acts = [];
         halt = broken (posts numbers) posted;
         so = inl (record {
@@ -275,6 +308,7 @@ module _ {S D T : Type 0} (is_open : S → Kept → Type 0) (may_have : D → Ke
         exchanges = [];
         are = refl;
         asked_so = none;
+        drawn = draws_broken kept.rows words left (posts numbers) posted (sends.posts_them, same);
         ends = (posts numbers, posted, refl, may);
       }
 
@@ -313,6 +347,7 @@ module _ {S D T : Type 0} (is_open : S → Kept → Type 0) (may_have : D → Ke
         exchanges = so.exchanges;
         are = exchanges_append host (posting numbers posted) so.acts [] so.exchanges (posted_asks host numbers posted) so.are;
         asked_so = so.asked_so;
+        drawn = draws_posted kept words left numbers posted so.acts so.halt sends.posts_them so.drawn;
         ends = ends_behind kept (posting numbers posted) so.acts so.halt left result so.ends;
       }
 
@@ -340,6 +375,13 @@ module _ {S : Type 0} (is_open : S → Kept → Type 0) where
   abbrev pub kept_now : (kept : Kept) (words : ChaCha) (host : Bytes) (asks : List Exchange → Type 0) (left : ChaCha) (last : Option Answer) (device : S)
       (count : ℕ) → HasMade kept words host asks left last device count → Kept
   kept_now kept words host asks left last device count made = kept_done kept (flat_map acts_of made.rounds)
+
+  -- its commits draw one after another
+  pub made_draws : (kept : Kept) (words : ChaCha) (host : Bytes) (asks : List Exchange → Type 0) (left : ChaCha) (last : Option Answer) (device : S)
+      (count : ℕ) (made : HasMade kept words host asks left last device count) → DrawsAll kept.rows words (flat_map acts_of made.rounds) left
+  made_draws kept words host asks left last device count made =
+      rounds_draw (record { rows = kept.rows; words = words; last = None }) made.rounds
+      (record { rows = (kept_done kept (flat_map acts_of made.rounds)).rows; words = left; last = last }) made.went
 
   -- with another exchange
   abbrev pub IsMade : (kept : Kept) (words : ChaCha) (host : Bytes) (asks : List Exchange → Type 0) (left : ChaCha) (after : Standing) (device : S)
@@ -430,6 +472,7 @@ module _ {S D T : Type 0} (is_open : S → Kept → Type 0) (may_have : D → Ke
     exchanges = made.exchanges;
     are = made.are;
     asked_so = made.asked_so;
+    drawn = record { last = left; draws = made_draws is_open kept words host asks left last device count made; hands_on = refl };
     ends = (refl, made.stands);
   }
 
@@ -451,6 +494,7 @@ module _ {S D T : Type 0} (is_open : S → Kept → Type 0) (may_have : D → Ke
     exchanges = made.exchanges;
     are = made.are;
     asked_so = made.asked_so;
+    drawn = record { last = left; draws = made_draws is_open kept words host asks left last device count made; hands_on = later_at_once left };
     ends = (refl, made.stands);
   }
 
@@ -477,5 +521,7 @@ module _ {S D T : Type 0} (is_open : S → Kept → Type 0) (may_have : D → Ke
     exchanges = made.exchanges ++ one.exchanges;
     are = exchanges_append host (flat_map acts_of made.rounds) one.acts made.exchanges one.exchanges made.are one.are;
     asked_so = on made.exchanges one.exchanges made.asked_so one.asked_so;
+    drawn = draws_behind kept words left later (flat_map acts_of made.rounds) one.acts one.halt
+        (made_draws is_open kept words host asks left last device count made) one.drawn;
     ends = ends_behind is_open may_have kept (flat_map acts_of made.rounds) one.acts one.halt later result one.ends;
   }

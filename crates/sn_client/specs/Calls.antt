@@ -5,15 +5,16 @@ use Rattle.sn_disk.specs.declared.disk.Disk.{Ghosts}
 use Rattle.sn_journal.specs.declared.owner.Owner.TheVariants.{Device as DeviceOwner}
 use Rattle.sn_net.specs.Exchanges.{Exchange}
 use Rattle.sn_row_map.specs.RowMaps.{row_in}
-use Rattle.sn_rows.specs.Table.{Rows}
+use Rattle.sn_rows.specs.Table.{Rows, rows_after}
 use Rattle.sn_rows.specs.declared.change.Change.{Change}
+use Rattle.sn_sets.specs.Seals.{IsLater}
 use Rattle.sn_table.specs.Batches.{IsAllOrNothing, IsStore}
 use Rattle.sn_table.specs.Kept.{Kept, with_batch}
 use Rattle.sn_table.specs.declared.committed.CommitError.{CommitError}
 use Rattle.sn_table.specs.declared.committed.CommitError.TheVariants as commit
 use Rattle.sn_table.specs.Tables.{IsOpen as IsOpenTable, table_disk, table_rows}
 use Rattle.sn_client.specs.Runs.{Act, AreExchanges, Call, EndsCommit, Given, Halt, Run, Wants, answered, asked, broken, commits, refused}
-use Rattle.sn_client.specs.Steps.{What}
+use Rattle.sn_client.specs.Steps.{Step, What}
 use Rattle.sn_client.specs.States.{Bytes}
 use Rattle.sn_client.specs.declared.called.Called.{Called}
 use Rattle.sn_client.specs.declared.called.Called.TheVariants as called
@@ -47,6 +48,39 @@ abbrev pub kept_done : Kept → List Act → Kept
 kept_done kept [] = kept
 kept_done kept (commits what changes ∷ acts) = kept_done (with_batch kept changes) acts
 kept_done kept (asked r reply ∷ acts) = kept_done kept acts
+
+-- the acts of a call, and behind them the commit in which the disk failed: of that it has all or nothing
+abbrev pub tried : List Act → Halt → List Act
+tried acts (answered given left) = acts
+tried acts (refused why) = acts
+tried acts (broken what changes) = acts ++ commits what changes ∷ []
+
+-- ---- the words of a call
+
+-- the first of the acts' commits draws from these words, each later one from those that the one before it left, and the last one leaves these
+abbrev pub DrawsAll : Rows → ChaCha → List Act → ChaCha → Type 0
+DrawsAll rows words [] left = left ≡ words
+DrawsAll rows words (commits what changes ∷ acts) left =
+    (between : ChaCha) × Step rows words what changes between × DrawsAll (rows_after rows changes) between acts left
+DrawsAll rows words (asked r reply ∷ acts) left = DrawsAll rows words acts left
+
+-- behind its last commit a call hands on the words that this left; one that is refused may have drawn from them
+abbrev pub HandsOn : Halt → ChaCha → ChaCha → Type 0
+HandsOn (answered given words) last left = left ≡ last
+HandsOn (refused why) last left = IsLater last left
+HandsOn (broken what changes) last left = left ≡ last
+
+-- so a call draws that ends with these words, also in a commit in which the disk failed
+pub record DrawsOn (rows : Rows) (words : ChaCha) (acts : List Act) (halt : Halt) (left : ChaCha) : Type 0 where
+  pub last : ChaCha
+  pub draws : DrawsAll rows words (tried acts halt) last
+  pub hands_on : HandsOn halt last left
+
+-- the same, with what is drawn before the first commit
+pub record HasDrawn (rows : Rows) (words : ChaCha) (acts : List Act) (halt : Halt) (left : ChaCha) : Type 0 where
+  pub first : ChaCha
+  pub begins : IsLater words first
+  pub draws : DrawsOn rows first acts halt left
 
 module _ {S D T : Type 0} where
   -- the disk that a call hands on
@@ -84,6 +118,7 @@ module _ {S D T : Type 0} (is_open : S → Kept → Type 0) (may_have : D → Ke
     pub acts : List Act
     pub halt : Halt
     pub runs : Run least call kept.rows words acts halt
+    pub drawn : HasDrawn kept.rows words acts halt left
     pub ends : Ends kept acts halt left result
 
   -- a call that asks a host, with the exchanges that the link tells
@@ -95,6 +130,7 @@ module _ {S D T : Type 0} (is_open : S → Kept → Type 0) (may_have : D → Ke
     pub exchanges : List Exchange
     pub are : AreExchanges host acts exchanges
     pub asked_so : asks exchanges
+    pub drawn : HasDrawn kept.rows words acts halt left
     pub ends : Ends kept acts halt left result
 
 -- ---- before the first act
@@ -118,12 +154,6 @@ abbrev pub StandsOrHas : List (List Change) → (List Change → Type 0) → Lis
 StandsOrHas batches P c = IsStore DeviceOwner c batches ⊎ ((changes : List Change) × P changes × IsStore DeviceOwner c (batches ++ changes ∷ []))
 
 -- ---- a crash in a call of many commits
-
--- the acts of a call, and behind them the commit in which the disk failed: of that it has all or nothing
-abbrev pub tried : List Act → Halt → List Act
-tried acts (answered given left) = acts
-tried acts (refused why) = acts
-tried acts (broken what changes) = acts ++ commits what changes ∷ []
 
 -- these bytes stand for what a front of these acts leaves
 pub record HasFront (kept : Kept) (acts : List Act) (c : List ℕ) : Type 0 where

@@ -13,7 +13,7 @@ use Rattle.sn_sync.specs.declared.request.Route.TheVariants as route
 use Rattle.sn_table.specs.Kept.{Kept}
 use Rattle.sn_client.specs.Asked.{AsksOnce, IsAsked}
 use Rattle.sn_client.specs.Asking.{said}
-use Rattle.sn_client.specs.Calls.{Ends}
+use Rattle.sn_client.specs.Calls.{DrawsOn, Ends}
 use Rattle.sn_client.specs.Runs.{Act, AreExchanges, Given, Halt, Wants}
 use Rattle.sn_client.specs.States.{Bytes}
 use Rattle.sn_client.specs.declared.called.Called.{Called}
@@ -24,7 +24,7 @@ abbrev pub MayWant : (List Act → Halt → Type 0) → List Act → Halt → Ty
 MayWant run acts halt = Wants acts halt ⊎ run acts halt
 
 module _ {S D T : Type 0} (is_open : S → Kept → Type 0) (may_have : D → Kept → List Change → Type 0) (gives : T → Given) where
-  -- from here on the call runs so, with the exchanges that the link tells
+  -- from here on the call runs so, with the exchanges that the link tells, and draws no words
   pub record GoesOver (run : List Act → Halt → Type 0) (asks : List Exchange → Type 0) (host : Bytes) (kept : Kept) (left : ChaCha)
       (result : Called S D T) : Type 0 where
     pub acts : List Act
@@ -33,6 +33,7 @@ module _ {S D T : Type 0} (is_open : S → Kept → Type 0) (may_have : D → Ke
     pub exchanges : List Exchange
     pub are : AreExchanges host acts exchanges
     pub asked_so : asks exchanges
+    pub drawn : DrawsOn kept.rows left acts halt left
     pub ends : Ends is_open may_have gives kept acts halt left result
 
 -- ---- an account

@@ -3,7 +3,7 @@ use Rattle.std.specs.Prelude.{◌≡◌, ℕ, ◌==◌, ◌<◌, ◌≤◌, List
 use Rattle.std.specs.BTreeMap.{BTreeMap, get}
 use Rattle.std.specs.Cmp.Lexicographic.{slice_cmp}
 use Rattle.std.specs.Coded.{Coded-set, coded_bool, Π_prop, →_prop, ×_prop}
-use Rattle.std.specs.List.{list_any}
+use Rattle.std.specs.List.{Contains, list_any}
 use Rattle.std.specs.Option.{unwrap_or}
 use Rattle.std.specs.Ordering.{nat_cmp}
 use Rattle.sn_rows.specs.Table.{Puts, Rows}
@@ -50,6 +50,10 @@ IndexesChange index change = (n : ℕ) (local : LocalItem) → Puts change (key.
 -- the number's item waits to be sent
 abbrev pub WaitsIn : Rows → ℕ → Type 0
 WaitsIn rows n = (local : LocalItem) × HasLocal rows n local × IsWaiting local
+
+-- of these items just those that wait stand among those that do
+abbrev pub IsSettled : Index → Rows → List Key → Type 0
+IsSettled index rows keys = (n : ℕ) → Contains keys (key.Local n) → Waits index n → WaitsIn rows n
 
 -- what stands there stays
 pub record KeepsIndexed (old new : Index) : Type 0 where

@@ -18,7 +18,7 @@ use Rattle.sn_table.specs.Batches.{IsStore}
 use Rattle.sn_table.specs.Kept.{Kept, with_batch}
 use Rattle.sn_client.specs.Asked.{AsksOnce}
 use Rattle.sn_client.specs.Asking.{Reply, said}
-use Rattle.sn_client.specs.Calls.{Ends, IfBroken, IfStands, IsOpen, MayHave, called_disk, device_disk, device_rows, kept_done}
+use Rattle.sn_client.specs.Calls.{DrawsOn, Ends, IfBroken, IfStands, IsOpen, MayHave, called_disk, device_disk, device_rows, kept_done}
 use Rattle.sn_client.specs.Runs.{Act, AreExchanges, EndsBehind, EndsUnapplied, Exchanges, Given, Halt, IsBatch, IsCheckPlace, IsDue, IsLeft, IsRound, Round, Standing, Wants, acts_of, asked, nothing, refused}
 use Rattle.sn_client.specs.Sending.{AreOfRows}
 use Rattle.sn_client.specs.States.{Bytes, IsSound}
@@ -127,6 +127,7 @@ module _ {S D T : Type 0} (is_open : S → Kept → Type 0) (may_have : D → Ke
   pub record IsUnappliedBy (kept : Kept) (words : ChaCha) (r : Request) (given : Answer) (left : ChaCha) (result : Called S D T) : Type 0 where
     pub halt : Halt
     pub so : EndsBehind kept.rows words r (said given) halt
+    pub drawn : DrawsOn kept.rows words [] halt left
     pub ends : Ends is_open may_have gives_nothing kept [] halt left result
 
   abbrev pub IsApplied : Kept → ChaCha → Request → Answer → ChaCha → Exchanged S D T → Type 0
@@ -143,6 +144,7 @@ module _ {S D T : Type 0} (is_open : S → Kept → Type 0) (may_have : D → Ke
     pub exchanges : List Exchange
     pub are : AreExchanges host acts exchanges
     pub asked_so : asks exchanges
+    pub drawn : DrawsOn kept.rows words acts halt left
     pub ends : Ends is_open may_have gives_nothing kept acts halt left result
 
   abbrev pub IsAskedAndApplied : Kept → ChaCha → Request → Bytes → (List Exchange → Type 0) → ChaCha → Exchanged S D T → Type 0
@@ -159,6 +161,7 @@ module _ {S D T : Type 0} (is_open : S → Kept → Type 0) (may_have : D → Ke
     pub exchanges : List Exchange
     pub are : AreExchanges host acts exchanges
     pub asked_so : asks exchanges
+    pub drawn : DrawsOn at.rows at.words acts halt left
     pub ends : Ends is_open may_have gives_nothing kept acts halt left result
 
   abbrev pub IsExchanged : Kept → Standing → Bytes → (List Exchange → Type 0) → ChaCha → Exchanged S D T → Type 0
@@ -175,4 +178,5 @@ module _ {S D T : Type 0} (is_open : S → Kept → Type 0) (may_have : D → Ke
     pub exchanges : List Exchange
     pub are : AreExchanges host acts exchanges
     pub asked_so : asks exchanges
+    pub drawn : DrawsOn kept.rows words acts halt left
     pub ends : Ends is_open may_have gives_nothing kept acts halt left result

@@ -26,6 +26,7 @@ use Rattle.sn_sync.specs.declared.item.Item.{Item}
 use Rattle.sn_table.specs.Logs.{HasKinds}
 use Rattle.sn_client.specs.Draws.{DrawsFresh, DrawsNoFresh}
 use Rattle.sn_client.specs.Index.{Indexes}
+use Rattle.sn_client.specs.Runs.{longest_token}
 use Rattle.sn_client.specs.Sending.{PutsColumns}
 use Rattle.sn_client.specs.States.{Bytes, HasItem, HasLocal, text_of_token}
 use Rattle.sn_client.specs.Taking.{Forks, IsNewItem, Progress, changed, last_number, made, new_columns, with_words}
@@ -93,8 +94,8 @@ HasVersion (conflict.Content unsaved) = Unit {0}
 
 -- the tokens of an answer are within what the device's own row may have
 pub record FitsTokens (token : Bytes) (cursor : Option Bytes) : Type 0 where
-  pub token_fits : HasLength 0 33554432 token
-  pub cursor_fits : HasLength 0 33554432 (text_of_token cursor)
+  pub token_fits : HasLength 0 longest_token token
+  pub cursor_fits : HasLength 0 longest_token (text_of_token cursor)
 
 -- what a row's draft leaves to the row where that takes the version it meets
 abbrev pub left_by : LocalItem → Meeting → Option RowBody

@@ -4,7 +4,7 @@ ghost use Rattle.std.specs.Prelude.{◌≡◌};
 ghost use Rattle.sn_journal.specs.declared.owner.Owner.TheVariants.{Device as DeviceOwner};
 ghost use Rattle.sn_row_map.specs.RowMaps.{row_in};
 ghost use Rattle.sn_table.specs.Tables.{table_owner, table_rows};
-ghost use Rattle.sn_client.specs.Index.{Indexes, indexes-prop};
+ghost use Rattle.sn_client.specs.Index.{Indexes, IsSettled, indexes-prop};
 
 use crate::called::Called;
 use crate::error::of_commit;
@@ -26,10 +26,10 @@ pub struct Device<D: Disk> {
 }
 
 impl<D: Disk> Device<D> {
-    ghost use Rattle.std.specs.Prelude.{◌+◌, ◌<◌, ◌≤◌, ℕ, List, All, length};
+    ghost use Rattle.std.specs.Prelude.{◌+◌, ◌<◌, ◌≤◌, ℕ, List, All, length, map};
     ghost use Rattle.sn_disk.specs.Disk.{LeavesOnly};
     ghost use Rattle.sn_io.specs.Causes.{Rose};
-    ghost use Rattle.sn_rows.specs.Table.{rows_after};
+    ghost use Rattle.sn_rows.specs.Table.{key_of, rows_after};
     ghost use Rattle.sn_table.specs.Batches.{IsAllOrNothing, IsOf};
     ghost use Rattle.sn_table.specs.Committing.{IfBroken, IfDone, IfRefused, IsCause, disk_after};
     ghost use Rattle.sn_table.specs.Kept.{Kept, with_batch};
@@ -55,6 +55,7 @@ impl<D: Disk> Device<D> {
         requires { All (IsOf DeviceOwner) changes.items }
         ensures done { (kept : Kept) → IsOpen self kept → IfDone result (λ device. IsOpen device (with_batch kept changes.items)) }
         ensures rows { IfDone result (λ device. device_rows device ≡ rows_after (device_rows self) changes.items) }
+        ensures settled { IfDone result (λ device. IsSettled device.index (device_rows device) (map key_of changes.items)) }
         ensures fits { IfDone result (λ device. IsBatch changes.items) × IfBroken result (λ disk. IsBatch changes.items) }
 
         // A refused batch leaves all as it was, and its disk isn't called.
@@ -79,7 +80,7 @@ impl<D: Disk> Device<D> {
             mut index,
             least_cost,
         } = self;
-        let Ok(()) = index.add_all(&changes) else {
+        let Ok(keys) = index.prepare(&changes) else {
             let device = Device {
                 alloc,
                 table,
@@ -89,12 +90,15 @@ impl<D: Disk> Device<D> {
             return Committed::Refused(device, CommitError::Memory);
         };
         match table.commit(changes) {
-            Committed::Done(table) => Committed::Done(Device {
-                alloc,
-                table,
-                index,
-                least_cost,
-            }),
+            Committed::Done(table) => {
+                index.settle(table.rows(), &keys);
+                Committed::Done(Device {
+                    alloc,
+                    table,
+                    index,
+                    least_cost,
+                })
+            }
             Committed::Refused(table, error) => {
                 let device = Device {
                     alloc,

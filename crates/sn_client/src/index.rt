@@ -1,15 +1,15 @@
 //! Where items are found: by their uuids, and those that wait to be sent.
 
-ghost use Rattle.std.specs.Prelude.{◌≡◌, ◌↔◌, ◌++◌, ◌∷◌, ℕ, [], IfNone, IfOk, IfSome, IsTrue, OnOk, Option};
-ghost use Rattle.sn_client.specs.Index.{Indexes, IndexesChange, IndexesRow, IsIndexed, IsNextListed, KeepsIndexed, Lists, NoneListed, Waits, WaitsIn, numbers_at};
+ghost use Rattle.std.specs.Prelude.{◌≡◌, ◌↔◌, ◌++◌, ◌∷◌, ℕ, [], IfNone, IfOk, IfSome, IsTrue, OnOk, Option, map};
+ghost use Rattle.sn_client.specs.Index.{Indexes, IndexesChange, IndexesRow, IsIndexed, IsNextListed, IsSettled, KeepsIndexed, Lists, NoneListed, Waits, WaitsIn, numbers_at};
 ghost use Rattle.sn_client.specs.Sending.{IsWaiting};
 ghost use Rattle.sn_client.specs.States.{HasLocal};
 ghost use Rattle.sn_row_map.specs.RowMaps.{row_in};
-ghost use Rattle.sn_rows.specs.Table.{Rows, rows_after};
+ghost use Rattle.sn_rows.specs.Table.{Rows, key_of, rows_after};
 ghost use Rattle.sn_rows.specs.declared.device_rows.LocalItem.{LocalItem};
 ghost use Rattle.sn_rows.specs.declared.key.Key.TheVariants.{Local};
 
-use sn_row_map::RowMap;
+use sn_row_map::{RowMap, keys_of};
 use sn_rows::{Change, Key, LocalItem, RowKind, Value};
 use sn_string::Many;
 use std::alloc::{AllocError, Global};
@@ -75,8 +75,8 @@ impl Index {
         }
     }
 
-    /// Adds the items that changes put. After an error some may be added.
-    pub(crate) fn add_all(&mut self, changes: &[Change]) -> Result<(), AllocError>
+    // Adds the items that changes put. After an error some may be added.
+    fn add_all(&mut self, changes: &[Change]) -> Result<(), AllocError>
         ensures added { OnOk result ((rows : Rows) → Indexes self.old rows → Indexes self.new (rows_after rows changes.now)) }
         ensures kept { (rows : Rows) → Indexes self.old rows → Indexes self.new rows }
     {
@@ -147,24 +147,23 @@ impl Index {
         }
     }
 
-    /// Takes the numbers of the changed items out that don't wait in the rows. Takes no memory.
-    pub(crate) fn settle(&mut self, rows: &RowMap, changes: &[Change])
-        ensures { Indexes self.old (row_in rows.now) → Indexes self.new (row_in rows.now) }
+    /// Adds the items that changes put, and gives the keys of all that they change. After an error some may be added.
+    pub(crate) fn prepare(&mut self, changes: &[Change]) -> Result<Vec<Key>, AllocError>
+        ensures added { OnOk result ((rows : Rows) → Indexes self.old rows → Indexes self.new (rows_after rows changes.now)) }
+        ensures kept { (rows : Rows) → Indexes self.old rows → Indexes self.new rows }
+        ensures keys { IfOk result (λ keys. keys.items ≡ map key_of changes.now) }
     {
-        'changes: for change in changes {
-            self.settle_one(rows, change.key());
-        }
+        self.add_all(changes)?;
+        keys_of(self.alloc, changes)
     }
 
-    /// Takes all numbers out whose items don't wait in the rows. Takes no memory.
-    pub(crate) fn settle_all(&mut self, rows: &RowMap)
+    /// Takes the numbers of these items out that don't wait in the rows. Takes no memory.
+    pub(crate) fn settle(&mut self, rows: &RowMap, keys: &[Key])
         ensures indexes { Indexes self.old (row_in rows.now) → Indexes self.new (row_in rows.now) }
-        ensures exact { (n : ℕ) → Waits self.new n → WaitsIn (row_in rows.now) n }
+        ensures exact { IsSettled self.new (row_in rows.now) keys.now }
     {
-        let mut next = self.next_listed(None);
-        'numbers: while let Some(number) = next {
-            self.settle_one(rows, Key::Local(number));
-            next = self.next_listed(Some(number));
+        'keys: for key in keys {
+            self.settle_one(rows, *key);
         }
     }
 

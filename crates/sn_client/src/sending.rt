@@ -24,11 +24,8 @@ use sn_sync::{Body, Item, Request, Stamp};
 use sn_table::Table;
 use std::alloc::{AllocError, Global};
 
-/// How many items a request has at most.
-const MOST_SENT: usize = 150;
-
-/// How many items an answer may give at most.
-const MOST_RETRIEVED: u32 = 150;
+/// How many items a request has at most, and how many its answer may give.
+const MOST_ITEMS: u32 = 150;
 
 /// What a sync sends next.
 #[derive(Drop)]
@@ -87,7 +84,7 @@ fn sync_request(alloc: Global, account: &OwnerRow, items: Vec<Item>) -> Result<R
     Ok(Request::Sync {
         token,
         items: Many::of_vec(items),
-        limit: MOST_RETRIEVED,
+        limit: MOST_ITEMS,
         sync_token,
         cursor_token,
     })
@@ -161,7 +158,7 @@ impl Chosen {
         if self.items.is_empty() {
             return true;
         }
-        self.items.len() < MOST_SENT && self.bytes.saturating_add(weight(item)) as u64 <= MOST_BYTES
+        self.items.len() < MOST_ITEMS as usize && self.bytes.saturating_add(weight(item)) as u64 <= MOST_BYTES
     }
 
     // Chooses an item.

@@ -54,7 +54,7 @@ returns-after-has_cursor-clause-holds g c =
 pub returns-in-Err-clause-applied : goal.returns-in-Err-clause-applied
 returns-in-Err-clause-applied g c = λ kept opens.
     not_applied (IsOpenSince c.args.self kept) (MayHaveSince c.args.self kept) kept c.args.words.now c.args.request.now c.args.answer.now c.changes_of.new.words
-    c.args.self c.in-Err.why (still_open c.args.self c.args.self kept refl g.met.D.Disk.only_now opens opens)
+    c.args.self c.in-Err.why (still_open c.args.self c.args.self kept refl g.met.D.Disk.only_now opens opens) c.changes_of.ensures.words
     (subst (λ (r : Rows). (c.in-Err.why ≡ refusal.Memory) ⊎ IsUnapplied r c.args.words.now (items_of c.args.request.now) c.args.answer.now c.in-Err.why) opens.rows_are
     c.in-Err.ensures.err)
 
@@ -67,7 +67,8 @@ returns-in-Refused-clause-applied g c = λ kept opens.
     c.changes_of.new.words c.in-Refused.device c.in-Ok.changes.items c.in-Refused.error
     (subst (λ (r : Rows). AppliesTo r c.args.words.now c.args.request.now c.args.answer.now c.in-Ok.changes.items c.changes_of.new.words) opens.rows_are c.in-Ok.ensures.ok)
     c.in-Refused.ensures.cause
-    (still_open c.args.self c.in-Refused.device kept c.in-Refused.ensures.still g.met.D.Disk.only_now opens (c.in-Refused.ensures.stays kept opens)))
+    (still_open c.args.self c.in-Refused.device kept c.in-Refused.ensures.still g.met.D.Disk.only_now opens (c.in-Refused.ensures.stays kept opens))
+    c.changes_of.ensures.words)
 
 pub returns-in-Refused-clause-holds : goal.returns-in-Refused-clause-holds
 returns-in-Refused-clause-holds g c = subst (λ (r : Rows). HoldsSets r c.args.sets.now) (sym c.in-Refused.ensures.same) c.requires.holds

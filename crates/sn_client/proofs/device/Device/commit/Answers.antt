@@ -1,35 +1,47 @@
-use Rattle.std.specs.Prelude.{List, All}
+use Rattle.std.specs.Prelude.{List, All, map}
 use Rattle.std.proofs.Common.{sym, ap, subst, ◌∙◌}
 use Rattle.std.proofs.Math.Path.{fun_ext}
 use Rattle.sn_journal.specs.declared.owner.Owner.{Owner}
 use Rattle.sn_row_map.specs.RowMaps.{row_in}
-use Rattle.sn_rows.specs.Table.{Rows, rows_after}
+use Rattle.sn_row_map.specs.declared.row_map.RowMap.{RowMap}
+use Rattle.sn_rows.specs.Table.{Rows, key_of, rows_after}
 use Rattle.sn_rows.specs.declared.change.Change.{Change}
+use Rattle.sn_rows.specs.declared.key.Key.{Key}
 use Rattle.sn_table.specs.Batches.{IsOf}
 use Rattle.sn_table.specs.Logs.{log_owner}
 use Rattle.sn_table.specs.Tables.{table_rows}
-use Rattle.sn_client.specs.Index.{Indexes}
+use Rattle.sn_client.specs.Index.{Indexes, IsSettled}
 use Rattle.sn_client.proofs.device.Device.commit.Goals as goal
 
 pub commit-requires : goal.commit-requires
 commit-requires g c = subst (λ (o : Owner). All (IsOf o) c.args.changes.items) (sym c.args.self.owner) c.requires
 
 pub invariant_of-device : goal.invariant_of-device
-invariant_of-device g c = record { owner = c.args.self.owner; indexed = c.add_all.ensures.kept (row_in (table_rows c.args.self.table)) c.args.self.indexed }
+invariant_of-device g c = record { owner = c.args.self.owner; indexed = c.prepare.ensures.kept (row_in (table_rows c.args.self.table)) c.args.self.indexed }
 
 pub invariant_of-result : goal.invariant_of-result
 invariant_of-result g c = record {
   owner = c.in-Done.ensures.owner ∙ c.args.self.owner;
-  indexed = subst (λ (r : Rows). Indexes c.add_all.new.self r)
+  indexed = subst (λ (m : RowMap). Indexes c.settle.new.self (row_in m)) c.rows.ensures.rows
+      (c.settle.ensures.indexes
+      (subst (λ (m : RowMap). Indexes c.prepare.new.self (row_in m)) (sym c.rows.ensures.rows)
+      (subst (λ (r : Rows). Indexes c.prepare.new.self r)
       (ap (λ (l : List Change). rows_after (row_in (table_rows c.args.self.table)) l) c.deref.ensures.value ∙ sym (fun_ext c.in-Done.ensures.rows))
-      (c.in-Ok.ensures.added (row_in (table_rows c.args.self.table)) c.args.self.indexed);
+      (c.in-Ok.ensures.added (row_in (table_rows c.args.self.table)) c.args.self.indexed))));
 }
+
+pub returns-in-Done-clause-settled : goal.returns-in-Done-clause-settled
+returns-in-Done-clause-settled g c =
+    subst (λ (m : RowMap). IsSettled c.settle.new.self (row_in m) (map key_of c.args.changes.items)) c.rows.ensures.rows
+    (subst (λ (l : List Key). IsSettled c.settle.new.self (row_in c.rows.result.now) l)
+    (c.deref-in-Done.ensures.value ∙ c.in-Ok.ensures.keys ∙ ap (λ (l : List Change). map key_of l) c.deref.ensures.value)
+    c.settle.ensures.exact)
 
 pub invariant_of-device-in-Refused : goal.invariant_of-device-in-Refused
 invariant_of-device-in-Refused g c = record {
   owner = ap (λ log. log_owner log) c.in-Refused.ensures.refused.0.log ∙ c.args.self.owner;
-  indexed = subst (λ (r : Rows). Indexes c.add_all.new.self r) (sym (fun_ext c.in-Refused.ensures.refused.0.rows))
-      (c.add_all.ensures.kept (row_in (table_rows c.args.self.table)) c.args.self.indexed);
+  indexed = subst (λ (r : Rows). Indexes c.prepare.new.self r) (sym (fun_ext c.in-Refused.ensures.refused.0.rows))
+      (c.prepare.ensures.kept (row_in (table_rows c.args.self.table)) c.args.self.indexed);
 }
 
 pub returns-in-Done-clause-done : goal.returns-in-Done-clause-done

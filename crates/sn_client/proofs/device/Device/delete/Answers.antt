@@ -2,6 +2,7 @@ use Rattle.std.specs.Prelude.{[]}
 use Rattle.std.proofs.Common.{refl, subst}
 use Rattle.rand_chacha.specs.ChaCha.{ChaCha}
 use Rattle.sn_rows.specs.Table.{Rows}
+use Rattle.sn_sets.proofs.Facts.{later_at_once}
 use Rattle.sn_client.specs.Calls.{IsOpen, MayHave, called_disk, device_disk, device_rows}
 use Rattle.sn_client.specs.Runs.{delete, nothing}
 use Rattle.sn_client.specs.Steps.{Deletes, deletes}
@@ -21,7 +22,7 @@ answer-requires-clause-stays g c =
 pub returns-in-Ok-clause-runs : goal.returns-in-Ok-clause-runs
 returns-in-Ok-clause-runs g c = λ words kept opens.
     answered_call {T = Unit {0}} (IsOpen {D = g.row.D.Denot} {g = g.D.Disk}) (MayHave g.D.Disk.told g.D.Disk.may_leave) (λ given. nothing) c.args.self.least_cost (delete c.args.uuid) kept
-    (device_rows c.args.self) words words (deletes c.args.uuid) c.in-Ok.changes.items tt c.answer.result opens.rows_are (c.in-Ok.ensures.runs words)
+    (device_rows c.args.self) words words (deletes c.args.uuid) c.in-Ok.changes.items tt c.answer.result opens.rows_are (c.in-Ok.ensures.step, refl) (later_at_once words) (c.in-Ok.ensures.runs words)
     (c.answer.ensures.ends kept (deletes c.args.uuid) words (λ given. nothing) opens)
 
 pub returns-in-Ok-clause-any_moment : goal.returns-in-Ok-clause-any_moment
@@ -32,7 +33,7 @@ returns-in-Ok-clause-any_moment g c = λ told kept opens.
 pub returns-in-Err-clause-runs : goal.returns-in-Err-clause-runs
 returns-in-Err-clause-runs g c = λ words kept opens.
     refused_call {T = Unit {0}} (IsOpen {D = g.row.D.Denot} {g = g.D.Disk}) (MayHave g.D.Disk.told g.D.Disk.may_leave) (λ given. nothing) c.args.self.least_cost (delete c.args.uuid) kept
-    (device_rows c.args.self) words words c.args.self c.in-Err.why opens.rows_are opens (c.in-Err.ensures.err words)
+    (device_rows c.args.self) words words c.args.self c.in-Err.why opens.rows_are opens (later_at_once words) (c.in-Err.ensures.err words)
 
 pub returns-in-Err-clause-any_moment : goal.returns-in-Err-clause-any_moment
 returns-in-Err-clause-any_moment g c = λ told kept opens.

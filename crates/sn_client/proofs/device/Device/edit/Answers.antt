@@ -22,7 +22,7 @@ pub returns-in-Ok-clause-runs : goal.returns-in-Ok-clause-runs
 returns-in-Ok-clause-runs g c = λ kept opens.
     answered_call {T = Unit {0}} (IsOpen {D = g.row.D.Denot} {g = g.D.Disk}) (MayHave g.D.Disk.told g.D.Disk.may_leave) (λ given. nothing) c.args.self.least_cost
     (edit c.args.uuid c.args.text.now) kept (device_rows c.args.self) c.args.words.now c.changes_to_edit.new.words (edits c.args.uuid c.args.text.now) c.in-Ok.changes.items tt
-    c.answer.result opens.rows_are c.in-Ok.ensures.runs
+    c.answer.result opens.rows_are c.in-Ok.ensures.step c.changes_to_edit.ensures.words c.in-Ok.ensures.runs
     (c.answer.ensures.ends kept (edits c.args.uuid c.args.text.now) c.changes_to_edit.new.words (λ given. nothing) opens)
 
 pub returns-in-Ok-clause-any_moment : goal.returns-in-Ok-clause-any_moment
@@ -35,7 +35,7 @@ returns-in-Ok-clause-any_moment g c = λ told kept opens.
 pub returns-in-Err-clause-runs : goal.returns-in-Err-clause-runs
 returns-in-Err-clause-runs g c = λ kept opens.
     refused_call {T = Unit {0}} (IsOpen {D = g.row.D.Denot} {g = g.D.Disk}) (MayHave g.D.Disk.told g.D.Disk.may_leave) (λ given. nothing) c.args.self.least_cost
-    (edit c.args.uuid c.args.text.now) kept (device_rows c.args.self) c.args.words.now c.changes_to_edit.new.words c.args.self c.in-Err.why opens.rows_are opens c.in-Err.ensures.err
+    (edit c.args.uuid c.args.text.now) kept (device_rows c.args.self) c.args.words.now c.changes_to_edit.new.words c.args.self c.in-Err.why opens.rows_are opens c.changes_to_edit.ensures.words c.in-Err.ensures.err
 
 pub returns-in-Err-clause-any_moment : goal.returns-in-Err-clause-any_moment
 returns-in-Err-clause-any_moment g c = λ told kept opens.

@@ -1,6 +1,7 @@
 use Rattle.std.proofs.Common.{arith, ◌≡◌, ◌≢◌, List, [], ◌∷◌, refl, subst, sym}
 use Rattle.sn_rows.specs.Table.{Rows, rows_after}
 use Rattle.sn_rows.specs.declared.change.Change.{Change}
+use Rattle.sn_sets.proofs.Facts.{later_at_once}
 use Rattle.sn_table.specs.Kept.{Kept, with_batch}
 use Rattle.sn_client.specs.Calls.{device_rows}
 use Rattle.sn_client.specs.Runs.{Act, Sends, commits}
@@ -21,7 +22,7 @@ pub returns-in_default-clause-exchanged : goal.returns-in_default-clause-exchang
 returns-in_default-clause-exchanged g c = λ kept last opens due.
     sends_none (IsOpenSince c.args.self kept) (MayHaveSince c.args.self kept) kept c.args.words.now last
     (g.L.Link.aimed c.args.link.now) (g.L.Link.asks c.args.link.now c.args.link.now) c.args.words.now due c.args.self (g.met.L.Link.asking.none c.args.link.now)
-    (still_open c.args.self c.args.self kept refl g.met.D.Disk.only_now opens opens)
+    (still_open c.args.self c.args.self kept refl g.met.D.Disk.only_now opens opens) (later_at_once c.args.words.now)
 
 pub ask_and_apply-requires-clause-sent : goal.ask_and_apply-requires-clause-sent
 ask_and_apply-requires-clause-sent g c =
@@ -62,7 +63,7 @@ returns-in-Done-clause-exchanged g c = λ kept last opens due.
     let before : List Act = commits (posts c.in-Ok.sending.numbers.items) c.in-Ok.sending.changes.items ∷ [] in
     let now : Kept = with_batch kept c.in-Ok.sending.changes.items in
     let stood_on : IsOpenSince c.args.self kept c.in-Done.device now =
-    committed_open c.args.self c.in-Done.device kept c.in-Ok.sending.changes.items (λ told. c.in-Done.ensures.any_moment told kept opens) (c.in-Done.ensures.done kept opens)
+        committed_open c.args.self c.in-Done.device kept c.in-Ok.sending.changes.items (λ told. c.in-Done.ensures.any_moment told kept opens) (c.in-Done.ensures.done kept opens)
     in
     let some : c.in-Ok.sending.numbers.items ≢ [] = (is_some c.in-Ok.sending.numbers.len c.in-Ok.sending.numbers.items c.if-is_empty.ensures (omega (arith, c.in-Ok.sending.numbers.ok.0))) in
     let sends : Sends kept.rows c.in-Ok.sending.numbers.items c.in-Ok.sending.changes.items c.in-Ok.sending.request c.in-Ok.ensures.sends.0 = subst (λ (r : Rows). Sends r c.in-Ok.sending.numbers.items c.in-Ok.sending.changes.items c.in-Ok.sending.request c.in-Ok.ensures.sends.0) opens.rows_are c.in-Ok.ensures.sends.1 in
@@ -93,7 +94,8 @@ returns-in-Refused-clause-exchanged g c = λ kept last opens due.
     (g.L.Link.aimed c.args.link.now) (g.L.Link.asks c.args.link.now c.args.link.now) c.args.words.now due
     c.in-Ok.sending.numbers.items c.in-Ok.sending.changes.items c.in-Ok.sending.request c.in-Ok.ensures.sends.0 sends c.in-Refused.device c.in-Refused.error some c.in-Refused.ensures.cause
     (g.met.L.Link.asking.none c.args.link.now)
-    (still_open c.args.self c.in-Refused.device kept c.in-Refused.ensures.still g.met.D.Disk.only_now opens (c.in-Refused.ensures.stays kept opens)))
+    (still_open c.args.self c.in-Refused.device kept c.in-Refused.ensures.still g.met.D.Disk.only_now opens (c.in-Refused.ensures.stays kept opens))
+    (later_at_once c.args.words.now))
 
 pub returns-in-Refused-clause-holds : goal.returns-in-Refused-clause-holds
 returns-in-Refused-clause-holds g c = subst (λ (r : Rows). HoldsSets r c.args.sets.now) (sym c.in-Refused.ensures.same) c.requires.holds
@@ -107,3 +109,4 @@ returns-clause-exchanged g c = λ kept last opens due.
     c.in-Ok.sending.numbers.items c.in-Ok.sending.changes.items c.in-Ok.sending.request c.in-Ok.ensures.sends.0 sends c.in-Broken.disk some c.in-Broken.ensures.fits.1
     (g.met.L.Link.asking.none c.args.link.now)
     (committed_broken c.args.self c.in-Broken.disk kept c.in-Ok.sending.changes.items (λ told. c.in-Broken.ensures.any_moment told kept opens) (c.in-Broken.ensures.broken kept opens))
+    refl

@@ -24,6 +24,7 @@ pub returns-in-Ok-clause-runs : goal.returns-in-Ok-clause-runs
 returns-in-Ok-clause-runs g c = λ kept opens.
     answered_call {T = Bytes} (IsOpen {D = g.row.D.Denot} {g = g.D.Disk}) (MayHave g.D.Disk.told g.D.Disk.may_leave) a_uuid c.args.self.least_cost (put c.args.kind.now c.args.text.now) kept
     (device_rows c.args.self) c.args.words.now c.changes_to_put.new.words (puts c.in-Ok.made.0 c.args.kind.now c.args.text.now) c.in-Ok.made.1.items c.in-Ok.made.0 c.answer.result opens.rows_are
+    c.in-Ok.ensures.step c.changes_to_put.ensures.words
     (put_runs c.args.kind.now c.args.text.now (device_rows c.args.self) c.args.words.now c.changes_to_put.new.words c.in-Ok.made.0 c.in-Ok.made.1.items c.in-Ok.ensures.step)
     (c.answer.ensures.ends kept (puts c.in-Ok.made.0 c.args.kind.now c.args.text.now) c.changes_to_put.new.words a_uuid opens)
 
@@ -39,7 +40,7 @@ returns-in-Ok-clause-any_moment g c = λ told kept opens.
 pub returns-in-Err-clause-runs : goal.returns-in-Err-clause-runs
 returns-in-Err-clause-runs g c = λ kept opens.
     refused_call {T = Bytes} (IsOpen {D = g.row.D.Denot} {g = g.D.Disk}) (MayHave g.D.Disk.told g.D.Disk.may_leave) a_uuid c.args.self.least_cost (put c.args.kind.now c.args.text.now) kept
-    (device_rows c.args.self) c.args.words.now c.changes_to_put.new.words c.args.self c.in-Err.why opens.rows_are opens c.in-Err.ensures.err
+    (device_rows c.args.self) c.args.words.now c.changes_to_put.new.words c.args.self c.in-Err.why opens.rows_are opens c.changes_to_put.ensures.words c.in-Err.ensures.err
 
 pub returns-in-Err-clause-any_moment : goal.returns-in-Err-clause-any_moment
 returns-in-Err-clause-any_moment g c = λ told kept opens.

@@ -2,6 +2,7 @@ use Rattle.std.proofs.Common.{List, ℕ, inl, refl}
 use Rattle.sn_disk.specs.Moments.{weaker}
 use Rattle.sn_rows.specs.declared.change.Change.{Change}
 use Rattle.sn_string.specs.declared.params.KeySet.{KeySet}
+use Rattle.sn_sets.proofs.Facts.{later_at_once}
 use Rattle.sn_client.specs.Calls.{IsOpen, MayHave, StandsOrHas, called_disk, device_disk, device_rows}
 use Rattle.sn_client.specs.Runs.{IsNewSet, nothing, register}
 use Rattle.sn_client.specs.Steps.{Begins}
@@ -14,7 +15,7 @@ pub returns-in-Some-clause-runs : goal.returns-in-Some-clause-runs
 returns-in-Some-clause-runs g c = λ kept opens.
     refused_register (IsOpen {D = g.row.D.Denot} {g = g.D.Disk}) (MayHave g.D.Disk.told g.D.Disk.may_leave) (λ given. nothing) kept c.args.self.least_cost c.args.cost
     c.args.identifier.now c.args.password.now (device_rows c.args.self) (g.L.Link.asks c.args.link.now c.args.link.now) (g.L.Link.aimed c.args.link.now)
-    c.args.words.now c.args.words.now c.args.self c.in-Some.why opens (g.met.L.Link.asking.none c.args.link.now) opens.rows_are c.in-Some.ensures.some
+    c.args.words.now c.args.words.now c.args.self c.in-Some.why opens (g.met.L.Link.asking.none c.args.link.now) (later_at_once c.args.words.now) opens.rows_are c.in-Some.ensures.some
 
 pub returns-in-Some-clause-any_moment : goal.returns-in-Some-clause-any_moment
 returns-in-Some-clause-any_moment g c = λ told kept opens.
@@ -26,7 +27,8 @@ pub returns-in_default-registration-clause-runs : goal.returns-in_default-regist
 returns-in_default-registration-clause-runs g c = λ kept opens.
     refused_call (IsOpen {D = g.row.D.Denot} {g = g.D.Disk}) (MayHave g.D.Disk.told g.D.Disk.may_leave) (λ given. nothing) kept c.args.self.least_cost
     (register c.args.identifier.now c.args.password.now c.args.cost) (g.L.Link.asks c.args.link.now c.args.link.now) (g.L.Link.aimed c.args.link.now)
-    c.args.words.now c.nonce-nonce.new.self c.args.self refusal.Memory opens (g.met.L.Link.asking.none c.args.link.now) (inl (refl, refl))
+    c.args.words.now c.nonce-nonce.new.self c.args.self refusal.Memory opens (g.met.L.Link.asking.none c.args.link.now)
+    (later_nonce c.args.words.now c.nonce-nonce.new.self c.nonce-nonce.result c.nonce-nonce.ensures) (inl (refl, refl))
 
 pub returns-in_default-registration-clause-any_moment : goal.returns-in_default-registration-clause-any_moment
 returns-in_default-registration-clause-any_moment g c = λ told kept opens.
@@ -43,7 +45,7 @@ returns-clause-runs g c = λ kept opens.
     c.args.identifier.now c.args.password.now (device_rows c.args.self) (g.L.Link.asks c.args.link.now c.begin.new.link) (g.L.Link.aimed c.args.link.now)
     c.args.words.now c.nonce-nonce.new.self c.in-Ok.set c.in-Ok.request c.begin.result opens.rows_are c.in_default.ensures.none
     (is_new c.args.words.now c.nonce-nonce.new.self c.nonce-nonce.result c.args.identifier.now c.args.password.now c.args.cost c.in-Ok.set c.nonce-nonce.ensures
-    c.in-Ok.ensures.set) c.in-Ok.ensures.request (c.begin.ensures.runs kept c.nonce-nonce.new.self opens)
+    c.in-Ok.ensures.set) (later_nonce c.args.words.now c.nonce-nonce.new.self c.nonce-nonce.result c.nonce-nonce.ensures) c.in-Ok.ensures.request (c.begin.ensures.runs kept c.nonce-nonce.new.self opens)
 
 pub returns-clause-any_moment : goal.returns-clause-any_moment
 returns-clause-any_moment g c = λ told kept opens.

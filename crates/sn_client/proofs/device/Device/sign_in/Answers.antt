@@ -2,6 +2,7 @@ use Rattle.std.proofs.Common.{◌⊎◌, List, [], ℕ, subst}
 use Rattle.sn_disk.specs.Moments.{weaker}
 use Rattle.sn_rows.specs.Table.{Rows}
 use Rattle.sn_rows.specs.declared.change.Change.{Change}
+use Rattle.sn_sets.proofs.Facts.{later_at_once}
 use Rattle.sn_client.specs.Calls.{IsOpen, MayHave, StandsOrHas, called_disk, device_disk, device_rows}
 use Rattle.sn_client.specs.Going.{MayWant}
 use Rattle.sn_client.specs.Runs.{IsOrMayBe, Run, SignsInWith, nothing, refused, sign_in}
@@ -16,7 +17,7 @@ pub returns-in-Some-clause-runs : goal.returns-in-Some-clause-runs
 returns-in-Some-clause-runs g c = λ kept opens.
     refused_call (IsOpen {D = g.row.D.Denot} {g = g.D.Disk}) (MayHave g.D.Disk.told g.D.Disk.may_leave) (λ given. nothing) kept c.args.self.least_cost
     (sign_in c.args.identifier.now c.args.password.now) (g.L.Link.asks c.args.link.now c.args.link.now) (g.L.Link.aimed c.args.link.now) c.args.words.now c.args.words.now
-    c.args.self c.in-Some.why opens (g.met.L.Link.asking.none c.args.link.now)
+    c.args.self c.in-Some.why opens (g.met.L.Link.asking.none c.args.link.now) (later_at_once c.args.words.now)
     (subst (λ (r : Rows). Run c.args.self.least_cost (sign_in c.args.identifier.now c.args.password.now) r c.args.words.now [] (refused c.in-Some.why)) opens.rows_are
     (other_refused c.args.self.least_cost c.args.identifier.now c.args.password.now (device_rows c.args.self) c.args.words.now c.in-Some.why c.in-Some.ensures.some))
 
@@ -50,7 +51,7 @@ pub returns-in-Err-clause-runs : goal.returns-in-Err-clause-runs
 returns-in-Err-clause-runs g c = λ kept opens.
     let may : IsOrMayBe kept.rows c.args.identifier.now = subst (λ (r : Rows). IsOrMayBe r c.args.identifier.now) opens.rows_are c.in_default.ensures.none in
     keys_refused (IsOpen {D = g.row.D.Denot} {g = g.D.Disk}) (MayHave g.D.Disk.told g.D.Disk.may_leave) (λ given. nothing) kept c.args.self.least_cost c.args.identifier.now
-    c.args.password.now (g.L.Link.asks c.args.link.now c.keys.new.link) (g.L.Link.aimed c.args.link.now) c.args.words.now c.args.words.now c.args.self c.in-Err.why opens may
+    c.args.password.now (g.L.Link.asks c.args.link.now c.keys.new.link) (g.L.Link.aimed c.args.link.now) c.args.words.now c.args.self c.in-Err.why opens may
     c.in-Err.ensures.err
 
 pub returns-in-Err-clause-any_moment : goal.returns-in-Err-clause-any_moment

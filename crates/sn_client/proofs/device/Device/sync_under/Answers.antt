@@ -1,5 +1,6 @@
 use Rattle.std.proofs.Common.{◌≡◌, rules, inl, inr, refl, subst, sym}
 use Rattle.sn_rows.specs.Table.{Rows}
+use Rattle.sn_sets.proofs.Facts.{later_at_once}
 use Rattle.sn_client.specs.Calls.{CallsOver}
 use Rattle.sn_client.specs.Runs.{IsChanging, sync}
 use Rattle.sn_client.specs.States.{HasSets}
@@ -22,7 +23,8 @@ returns-then-is_some-clause-runs g c = λ kept opens.
     (sym c.bad_auth.ensures)
     (syncs_changing (IsOpenSince c.args.self kept) (MayHaveSince c.args.self kept) c.args.self.least_cost kept c.args.words.now (g.L.Link.aimed c.args.link.now) (g.L.Link.asks c.args.link.now c.args.link.now) c.args.words.now c.requires.holds.0 c.args.sets.now
     (subst (λ (r : Rows). HasSets r c.requires.holds.0 c.args.sets.now) opens.rows_are c.requires.holds.1)
-    c.args.self changing (g.met.L.Link.asking.none c.args.link.now) (still_open c.args.self c.args.self kept refl g.met.D.Disk.only_now opens opens))
+    c.args.self changing (g.met.L.Link.asking.none c.args.link.now) (still_open c.args.self c.args.self kept refl g.met.D.Disk.only_now opens opens)
+    (later_at_once c.args.words.now))
 
 pub returns-clause-runs : goal.returns-clause-runs
 returns-clause-runs g c = λ kept opens.
