@@ -25,6 +25,3 @@ pub mod syncing;
 pub use device::PlainDevice;
 pub use server::PlainServer;
 pub use settings::Settings;
-
-#[cfg(test)]
-mod tests;

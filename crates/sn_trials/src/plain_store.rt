@@ -1,8 +1,7 @@
-//! A store in memory.
+//! The batches of an end without a disk.
 
-use crate::changes::put_store;
-use crate::store::PlainStore;
-use sn_rows::{Change, Key, StoreRow, Value};
+use sn_ends::store::PlainStore;
+use sn_rows::{Change, Key, Row, StoreRow, Value};
 use sn_string::Many;
 use std::test::Fail;
 
@@ -15,7 +14,10 @@ fn batches(rt: HostRuntime) -> Result<(), Fail> {
 
     let row = StoreRow::new([7; 32], 1000, 1).ok_or("row")?;
     let mut changes = Many::new(alloc);
-    changes.push(put_store(row))?;
+    changes.push(Change::Put(Row {
+        key: Key::Store,
+        value: Value::Store(row),
+    }))?;
     store.commit(alloc, changes)?;
     assert_eq!(rt; store.mark(), 1);
     let Some(Value::Store(found)) = store.get(&Key::Store) else {
