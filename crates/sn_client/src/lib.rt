@@ -37,6 +37,3 @@ pub use laws::{
     steps_stay_sound, steps_stay_sound_device, tells_soundness,
 };
 pub use listed::{Listed, Mark};
-
-#[cfg(test)]
-mod soundness_tests;
