@@ -1,0 +1,7 @@
+pub mod DeviceNames
+pub mod Free
+pub mod Givens
+pub mod Numerals
+pub mod OneDevice
+pub mod OneLine
+pub mod ServerLemmas
