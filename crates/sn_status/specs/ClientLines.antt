@@ -1,0 +1,34 @@
+-- The texts of a device's refusals and of places in an answer.
+use Rattle.std.specs.Prelude.{ℕ, List, ◌++◌, codes}
+use Rattle.std.specs.Fmt.{decimal}
+use Rattle.sn_status.specs.declared.refusal.ClientRefusal.{ClientRefusal}
+use Rattle.sn_status.specs.declared.refusal.ClientRefusal.TheVariants.{NoAccount, NoItem, Closed, TooLong, NotObject, RoundsUsed, NoFreshUuid, WrongPassword, OtherAccount, HasAccount, Cost, NumbersUsed, TooLarge}
+use Rattle.sn_client.specs.declared.error.Place.{Place}
+use Rattle.sn_client.specs.declared.error.Place.TheVariants.{Head, Json, Member, Saved, Conflict, Retrieved, Cursor}
+use Rattle.sn_string.specs.Uuids.{uuid_text}
+
+-- a refusal: its number among a device's, its name and the values that it keeps; a batch too large is the journal's
+abbrev pub client_text : ClientRefusal → List ℕ
+client_text NoAccount = codes "client.1 NoAccount"
+client_text (NoItem uuid) = codes "client.2 NoItem " ++ uuid_text uuid
+client_text (Closed nonce) = codes "client.3 Closed " ++ nonce
+client_text (TooLong length) = codes "client.4 TooLong " ++ decimal length
+client_text NotObject = codes "client.5 NotObject"
+client_text RoundsUsed = codes "client.8 RoundsUsed"
+client_text (NoFreshUuid drawn) = codes "client.9 NoFreshUuid " ++ uuid_text drawn
+client_text WrongPassword = codes "client.11 WrongPassword"
+client_text (OtherAccount identifier) = codes "client.12 OtherAccount " ++ identifier
+client_text (HasAccount identifier) = codes "client.13 HasAccount " ++ identifier
+client_text (Cost cost) = codes "client.14 Cost " ++ decimal cost
+client_text (NumbersUsed next) = codes "client.15 NumbersUsed " ++ decimal next
+client_text (TooLarge size) = codes "journal.3 TooLarge " ++ decimal size
+
+-- where bytes that came as an answer are out of form, or fail a check
+abbrev pub place_text : Place → List ℕ
+place_text Head = codes "head"
+place_text Json = codes "json"
+place_text (Member name) = codes "member " ++ name
+place_text (Saved index) = codes "saved " ++ decimal index
+place_text (Conflict index) = codes "conflict " ++ decimal index
+place_text (Retrieved index) = codes "retrieved " ++ decimal index
+place_text Cursor = codes "cursor"

@@ -1,0 +1,3 @@
+pub mod ClientLines
+pub mod Errors
+pub mod Lines
