@@ -3,19 +3,24 @@ use Rattle.std.proofs.Common.{◌≡◌, ◌⊎◌, inl, inr, ℕ, zero, suc, �
 use Rattle.std.proofs.lemmas.List.{append_cancel_right}
 use Rattle.std.specs.Str.{IsUtf8}
 use Rattle.sn_cli.specs.Calls.{OpenCallsFor, OpenRefuses, ReplayCallsFor, ReplayRefuses, SealCallsFor, SealRefuses, ShowRefuses, encryption_half, authentication_half}
-use Rattle.sn_cli.specs.CommandLine.{OpenLine, ServeLine, IsUsage}
-use Rattle.sn_cli.specs.Errors.{form_error, item_error}
+use Rattle.sn_command.specs.CommandLine.{OpenLine, ServeLine, IsUsage}
+use Rattle.sn_calls.specs.declared.ends.CallEnd.{CallEnd}
+use Rattle.sn_cli.specs.DeviceCalls.{IsPassword, TakesPassword, first_line}
+use Rattle.sn_command.specs.DeviceLines.{DeviceLine}
+use Rattle.sn_cli.specs.Devices.{DeviceRuns}
+use Rattle.sn_status.specs.Errors.{form_error, item_error}
+use Rattle.sn_client.specs.Runs.{Call}
 use Rattle.sn_cli.specs.Inputs.{MOST_INPUT, HasText, IsOneLine}
-use Rattle.sn_cli.specs.Runs.{Accepts, IsRefusal, Meets, RunsOver}
+use Rattle.sn_cli.specs.Runs.{Accepts, IsInputRefusal, IsRefusal, Meets, RunsOver}
 use Rattle.sn_cli.specs.Shown.{IsShown}
-use Rattle.sn_cli.specs.declared.refusal.FormRefusal.{FormRefusal}
-use Rattle.sn_cli.specs.declared.refusal.FormRefusal.TheVariants as form
-use Rattle.sn_cli.specs.declared.refusal.ItemRefusal.{ItemRefusal}
-use Rattle.sn_cli.specs.declared.refusal.ItemRefusal.TheVariants as item
-use Rattle.sn_cli.specs.declared.refusal.Refusal.{Refusal}
-use Rattle.sn_cli.specs.declared.refusal.Refusal.TheVariants.{InputLong, InputUtf8, Form, Item, Line}
-use Rattle.sn_cli.specs.declared.status.Status.{Status}
-use Rattle.sn_cli.specs.declared.status.Status.TheVariants.{Done, Usage, Refused, DiskFault, LinkFault, ReadFault, WriteFault, Memory, Foreign}
+use Rattle.sn_status.specs.declared.refusal.FormRefusal.{FormRefusal}
+use Rattle.sn_status.specs.declared.refusal.FormRefusal.TheVariants as form
+use Rattle.sn_status.specs.declared.refusal.ItemRefusal.{ItemRefusal}
+use Rattle.sn_status.specs.declared.refusal.ItemRefusal.TheVariants as item
+use Rattle.sn_status.specs.declared.refusal.Refusal.{Refusal}
+use Rattle.sn_status.specs.declared.refusal.Refusal.TheVariants.{InputLong, InputUtf8, Form, Item, Line, PasswordLine, Client}
+use Rattle.sn_status.specs.declared.status.Status.{Status}
+use Rattle.sn_status.specs.declared.status.Status.TheVariants.{Done, Usage, Refused, DiskFault, LinkFault, ReadFault, WriteFault, Memory, Foreign, Server, BadAnswer}
 use Rattle.sn_io.specs.Streams.{GivesPart, HasGiven}
 use Rattle.sn_items.proofs.Utf8Bytes.{utf8_bytes}
 use Rattle.sn_items.specs.Laws.{SealedOpens}
@@ -63,6 +68,10 @@ not_refused calls_for refuses (Item refusal) i j o p text has none ran =
     none (Item refusal) (subst (λ t. refuses t (Item refusal)) (same_input i j text ran.text has.is ran.read.given) ran.cause)
 not_refused calls_for refuses (Line number) i j o p text has none ran =
     none (Line number) (subst (λ t. refuses t (Line number)) (same_input i j text ran.text has.is ran.read.given) ran.cause)
+not_refused calls_for refuses (PasswordLine count) i j o p text has none ran =
+    none (PasswordLine count) (subst (λ t. refuses t (PasswordLine count)) (same_input i j text ran.text has.is ran.read.given) ran.cause)
+not_refused calls_for refuses (Client refusal) i j o p text has none ran =
+    none (Client refusal) (subst (λ t. refuses t (Client refusal)) (same_input i j text ran.text has.is ran.read.given) ran.cause)
 
 -- ---- `open`
 
@@ -98,6 +107,8 @@ open_apart law line input plain calls InputLong refuses = refuses
 open_apart law line input plain calls (InputUtf8 place) refuses = refuses
 open_apart law line input plain calls (Form refusal) refuses = refuses
 open_apart law line input plain calls (Line number) refuses = refuses
+open_apart law line input plain calls (PasswordLine count) refuses = refuses
+open_apart law line input plain calls (Client refusal) refuses = refuses
 open_apart law line input plain calls (Item refusal) refuses =
     let cause : HasCause calls.text line.uuid (encryption_half line.key) (authentication_half line.key) (item_error refusal) =
     subst (λ t. HasCause t line.uuid (encryption_half line.key) (authentication_half line.key) (item_error refusal))
@@ -138,6 +149,8 @@ show_apart law text output shown (Form refusal) refuses =
     no_form_want refusal (law text shown.reading shown.reads (Err (form_error refusal)) (may_refuse text refusal refuses))
 show_apart law text output shown (Item refusal) refuses = refuses
 show_apart law text output shown (Line number) refuses = refuses
+show_apart law text output shown (PasswordLine count) refuses = refuses
+show_apart law text output shown (Client refusal) refuses = refuses
 
 -- ---- `replay`
 
@@ -158,6 +171,8 @@ replay_apart text lines script InputLong refuses = refuses
 replay_apart text lines script (InputUtf8 place) refuses = refuses
 replay_apart text lines script (Form refusal) refuses = refuses
 replay_apart text lines script (Item refusal) refuses = refuses
+replay_apart text lines script (PasswordLine count) refuses = refuses
+replay_apart text lines script (Client refusal) refuses = refuses
 replay_apart text lines script (Line number) refuses =
     let found = line_there (lines_of text) lines 0 refuses.place refuses.place refuses.wrong_text script refuses.there (omega arith) in
     refuses.wrong found.0 found.1
@@ -170,28 +185,56 @@ no_usage words text usage (inr (inl (line, plain, is, calls))) = usage.no_open l
 no_usage words text usage (inr (inr (inl (output, is, shown)))) = usage.no_show is
 no_usage words text usage (inr (inr (inr (lines, is, script)))) = usage.no_replay is
 
-none_refused : SealedOpens → IsReadBack → (words : List (List ℕ)) (serves : ServeLine → Status → Type 0) (left : Type 0) (refusal : Refusal) (b c : PlainBench) (i j o p : Option (List ℕ))
-    (s t : Option (List (List ℕ))) (text : List ℕ) → HasText i text → Accepts words text → Meets words serves left (Refused refusal) b c i j o p s t → ⊥
-none_refused opens reads words serves left refusal b c i j o p s t text has (inl (line, is)) met =
+none_refused : SealedOpens → IsReadBack → (words : List (List ℕ)) (serves : ServeLine → Status → Type 0) (ends : List ℕ → Call → Option (List ℕ) → CallEnd → Type 0) (untouched left link_left shelf_left : Type 0) (refusal : Refusal) (b c : PlainBench) (i j o p : Option (List ℕ))
+    (s t : Option (List (List ℕ))) (text : List ℕ) → HasText i text → Accepts words text → Meets words serves ends untouched left link_left shelf_left (Refused refusal) b c i j o p s t → ⊥
+none_refused opens reads words serves ends untouched left link_left shelf_left refusal b c i j o p s t text has (inl (line, is)) met =
     let runs = met.seal line is in
     not_refused (SealCallsFor line runs.seed) SealRefuses refusal i j o p text has (λ r refuses. refuses) runs.ran
-none_refused opens reads words serves left refusal b c i j o p s t text has (inr (inl (line, plain, is, calls))) met =
+none_refused opens reads words serves ends untouched left link_left shelf_left refusal b c i j o p s t text has (inr (inl (line, plain, is, calls))) met =
     not_refused (OpenCallsFor line) (OpenRefuses line) refusal i j o p text has (open_apart opens line text plain calls) (met.open_ line is)
-none_refused opens reads words serves left refusal b c i j o p s t text has (inr (inr (inl (output, is, shown)))) met =
+none_refused opens reads words serves ends untouched left link_left shelf_left refusal b c i j o p s t text has (inr (inr (inl (output, is, shown)))) met =
     not_refused IsShown ShowRefuses refusal i j o p text has (show_apart reads text output shown) (met.show is)
-none_refused opens reads words serves left refusal b c i j o p s t text has (inr (inr (inr (lines, is, script)))) met =
+none_refused opens reads words serves ends untouched left link_left shelf_left refusal b c i j o p s t text has (inr (inr (inr (lines, is, script)))) met =
     not_refused (ReplayCallsFor c) ReplayRefuses refusal i j o p text has (replay_apart text lines script) (met.replay is)
 
-pub accepted : SealedOpens → IsReadBack → (words : List (List ℕ)) (serves : ServeLine → Status → Type 0) (left : Type 0) (status : Status) (b c : PlainBench) (i j o p : Option (List ℕ))
-    (s t : Option (List (List ℕ))) → Meets words serves left status b c i j o p s t → (text : List ℕ) → HasText i text → Accepts words text
+pub accepted : SealedOpens → IsReadBack → (words : List (List ℕ)) (serves : ServeLine → Status → Type 0) (ends : List ℕ → Call → Option (List ℕ) → CallEnd → Type 0) (untouched left link_left shelf_left : Type 0) (status : Status) (b c : PlainBench) (i j o p : Option (List ℕ))
+    (s t : Option (List (List ℕ))) → Meets words serves ends untouched left link_left shelf_left status b c i j o p s t → (text : List ℕ) → HasText i text → Accepts words text
     → IsRefusal status → ⊥
-accepted opens reads words serves left Done b c i j o p s t met text has accepts refusal = refusal
-accepted opens reads words serves left Usage b c i j o p s t met text has accepts refusal = no_usage words text met.spelled accepts
-accepted opens reads words serves left (Refused r) b c i j o p s t met text has accepts refusal =
-    none_refused opens reads words serves left r b c i j o p s t text has accepts met
-accepted opens reads words serves left ReadFault b c i j o p s t met text has accepts refusal = refusal
-accepted opens reads words serves left WriteFault b c i j o p s t met text has accepts refusal = refusal
-accepted opens reads words serves left Memory b c i j o p s t met text has accepts refusal = refusal
-accepted opens reads words serves left DiskFault b c i j o p s t met text has accepts refusal = refusal
-accepted opens reads words serves left LinkFault b c i j o p s t met text has accepts refusal = refusal
-accepted opens reads words serves left (Foreign unfit) b c i j o p s t met text has accepts refusal = refusal
+accepted opens reads words serves ends untouched left link_left shelf_left Done b c i j o p s t met text has accepts refusal = refusal
+accepted opens reads words serves ends untouched left link_left shelf_left Usage b c i j o p s t met text has accepts refusal = no_usage words text met.spelled accepts
+accepted opens reads words serves ends untouched left link_left shelf_left (Refused r) b c i j o p s t met text has accepts refusal =
+    none_refused opens reads words serves ends untouched left link_left shelf_left r b c i j o p s t text has accepts met
+accepted opens reads words serves ends untouched left link_left shelf_left ReadFault b c i j o p s t met text has accepts refusal = refusal
+accepted opens reads words serves ends untouched left link_left shelf_left WriteFault b c i j o p s t met text has accepts refusal = refusal
+accepted opens reads words serves ends untouched left link_left shelf_left Memory b c i j o p s t met text has accepts refusal = refusal
+accepted opens reads words serves ends untouched left link_left shelf_left DiskFault b c i j o p s t met text has accepts refusal = refusal
+accepted opens reads words serves ends untouched left link_left shelf_left LinkFault b c i j o p s t met text has accepts refusal = refusal
+accepted opens reads words serves ends untouched left link_left shelf_left (Foreign unfit) b c i j o p s t met text has accepts refusal = refusal
+accepted opens reads words serves ends untouched left link_left shelf_left (Server number tag) b c i j o p s t met text has accepts refusal = refusal
+accepted opens reads words serves ends untouched left link_left shelf_left (BadAnswer place) b c i j o p s t met text has accepts refusal = refusal
+
+-- ---- a device
+
+-- an input of which the line takes what it asks isn't refused
+pub taken : (ends : List ℕ → Call → Option (List ℕ) → CallEnd → Type 0) (untouched : Type 0) (line : DeviceLine) (status : Status)
+    (i j o p : Option (List ℕ)) (text : List ℕ) → DeviceRuns ends untouched line i j o p status
+    → HasText i text → (TakesPassword line.task → IsPassword (first_line text)) → IsInputRefusal status → ⊥
+taken ends untouched line Done i j o p text runs has password refusal = refusal
+taken ends untouched line Usage i j o p text runs has password refusal = runs
+taken ends untouched line (Refused InputLong) i j o p text runs has password refusal = no_longer i j text has.is has.short runs.read.stops
+taken ends untouched line (Refused (InputUtf8 place)) i j o p text runs has password refusal =
+    runs.read.stops.valid.invalid (subst IsUtf8 (sym (same_input i j text runs.read.stops.input has.is runs.read.stops.given)) has.utf8)
+taken ends untouched line (Refused (Form cause)) i j o p text runs has password refusal = runs
+taken ends untouched line (Refused (Item cause)) i j o p text runs has password refusal = runs
+taken ends untouched line (Refused (Line number)) i j o p text runs has password refusal = runs
+taken ends untouched line (Refused (PasswordLine count)) i j o p text runs has password refusal =
+    runs.read.none (subst (λ t. IsPassword (first_line t)) (sym (same_input i j text runs.read.text has.is runs.read.read.given)) (password runs.read.takes))
+taken ends untouched line (Refused (Client cause)) i j o p text runs has password refusal = refusal
+taken ends untouched line DiskFault i j o p text runs has password refusal = refusal
+taken ends untouched line LinkFault i j o p text runs has password refusal = refusal
+taken ends untouched line ReadFault i j o p text runs has password refusal = refusal
+taken ends untouched line WriteFault i j o p text runs has password refusal = refusal
+taken ends untouched line Memory i j o p text runs has password refusal = refusal
+taken ends untouched line (Foreign fault) i j o p text runs has password refusal = refusal
+taken ends untouched line (Server number tag) i j o p text runs has password refusal = refusal
+taken ends untouched line (BadAnswer place) i j o p text runs has password refusal = refusal

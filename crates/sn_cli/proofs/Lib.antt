@@ -1,8 +1,6 @@
 pub mod Accepting
-pub mod Free
-pub mod Givens
+pub mod DeviceRuns
 pub mod MeetsLemmas
-pub mod Numerals
-pub mod OneLine
 pub mod RunLemmas
 pub mod ShownLemmas
+pub mod ToldLemmas

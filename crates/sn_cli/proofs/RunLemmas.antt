@@ -2,13 +2,15 @@
 use Rattle.std.proofs.Common.{◌≡◌, inl, ℕ, ◌+◌, List, [], Option, arith}
 use Rattle.std.proofs.KnownBytes.{Consumes-nil}
 use Rattle.sn_cli.specs.Calls.{SealCallsFor, SealRefuses}
-use Rattle.sn_cli.specs.CommandLine.{SealLine}
+use Rattle.sn_command.specs.CommandLine.{SealLine}
 use Rattle.sn_cli.specs.Inputs.{MOST_INPUT, ReadsText, StopsReading}
-use Rattle.sn_cli.specs.Runs.{Draws, RunsOver, SealRuns, Writes}
-use Rattle.sn_cli.specs.declared.refusal.Refusal.{Refusal}
-use Rattle.sn_cli.specs.declared.refusal.Refusal.TheVariants.{InputLong, InputUtf8, Form, Item, Line}
-use Rattle.sn_cli.specs.declared.status.Status.{Status}
-use Rattle.sn_cli.specs.declared.status.Status.TheVariants.{Done, Usage, Refused, DiskFault, LinkFault, ReadFault, WriteFault, Memory, Foreign}
+use Rattle.sn_status.specs.Lines.{TellsValues}
+use Rattle.sn_cli.specs.Outputs.{Writes}
+use Rattle.sn_cli.specs.Runs.{Draws, RunsOver, SealRuns}
+use Rattle.sn_status.specs.declared.refusal.Refusal.{Refusal}
+use Rattle.sn_status.specs.declared.refusal.Refusal.TheVariants.{InputLong, InputUtf8, Form, Item, Line, PasswordLine, Client}
+use Rattle.sn_status.specs.declared.status.Status.{Status}
+use Rattle.sn_status.specs.declared.status.Status.TheVariants.{Done, Usage, Refused, DiskFault, LinkFault, ReadFault, WriteFault, Memory, Foreign, Server, BadAnswer}
 use Rattle.sn_io.specs.Streams.{Gains, GivesAtMost, GivesPart, HasGiven}
 
 -- an input that is no text ends the run
@@ -21,12 +23,16 @@ stopped calls_for refuses (Refused (InputUtf8 place)) i j o p stops = stops
 stopped calls_for refuses (Refused (Form refusal)) i j o p stops = absurd stops
 stopped calls_for refuses (Refused (Item refusal)) i j o p stops = absurd stops
 stopped calls_for refuses (Refused (Line number)) i j o p stops = absurd stops
+stopped calls_for refuses (Refused (PasswordLine count)) i j o p stops = absurd stops
+stopped calls_for refuses (Refused (Client refusal)) i j o p stops = absurd stops
 stopped calls_for refuses DiskFault i j o p stops = absurd stops
 stopped calls_for refuses LinkFault i j o p stops = absurd stops
 stopped calls_for refuses ReadFault i j o p stops = stops
 stopped calls_for refuses WriteFault i j o p stops = absurd stops
 stopped calls_for refuses Memory i j o p stops = stops
 stopped calls_for refuses (Foreign unfit) i j o p stops = absurd stops
+stopped calls_for refuses (Server number tag) i j o p stops = absurd stops
+stopped calls_for refuses (BadAnswer place) i j o p stops = absurd stops
 
 -- before anything is drawn
 pub stops_undrawn : (seed : List ℕ) (status : Status) (i j : Option (List ℕ)) (s t : Option (List (List ℕ))) → StopsReading status i j → t ≡ s
@@ -40,6 +46,8 @@ stops_undrawn seed ReadFault i j s t stops same = same
 stops_undrawn seed WriteFault i j s t stops same = absurd stops
 stops_undrawn seed Memory i j s t stops same = inl same
 stops_undrawn seed (Foreign unfit) i j s t stops same = same
+stops_undrawn seed (Server number tag) i j s t stops same = same
+stops_undrawn seed (BadAnswer place) i j s t stops same = same
 
 -- a status of writing an output that the text calls for
 pub written : (calls_for : List ℕ → List ℕ → Type 0) (refuses : List ℕ → Refusal → Type 0) (status : Status) (i j o p : Option (List ℕ))
@@ -55,6 +63,8 @@ written calls_for refuses WriteFault i j o p text output read called wrote =
     record { text = text; read = read; output = output; called = called; wrote = wrote }
 written calls_for refuses Memory i j o p text output read called wrote = absurd wrote
 written calls_for refuses (Foreign unfit) i j o p text output read called wrote = absurd wrote
+written calls_for refuses (Server number tag) i j o p text output read called wrote = absurd wrote
+written calls_for refuses (BadAnswer place) i j o p text output read called wrote = absurd wrote
 
 pub drawn_for_output : (seed output : List ℕ) (status : Status) (o p : Option (List ℕ)) (s t : Option (List (List ℕ))) → Writes status o p output
     → Gains s t seed → Draws status seed s t
@@ -67,19 +77,21 @@ drawn_for_output seed output ReadFault o p s t wrote gains = absurd wrote
 drawn_for_output seed output WriteFault o p s t wrote gains = gains
 drawn_for_output seed output Memory o p s t wrote gains = absurd wrote
 drawn_for_output seed output (Foreign unfit) o p s t wrote gains = absurd wrote
+drawn_for_output seed output (Server number tag) o p s t wrote gains = absurd wrote
+drawn_for_output seed output (BadAnswer place) o p s t wrote gains = absurd wrote
 
 -- nothing was read
 pub none_read : (i : Option (List ℕ)) (most : ℕ) → GivesAtMost i i most
 none_read i most = ([], omega arith, Consumes-nil i)
 
 -- want of memory behind a whole input
-whole_at_most : (i j : Option (List ℕ)) (input : List ℕ) → HasGiven MOST_INPUT i j input → GivesAtMost i j (MOST_INPUT + 1)
+pub whole_at_most : (i j : Option (List ℕ)) (input : List ℕ) → HasGiven MOST_INPUT i j input → GivesAtMost i j (MOST_INPUT + 1)
 whole_at_most i j input given = let short = given.short in (input, omega (arith, short), given.given)
 
 pub read_at_most : (i j : Option (List ℕ)) (text : List ℕ) → ReadsText i j text → GivesAtMost i j (MOST_INPUT + 1)
 read_at_most i j text read = whole_at_most i j text read.given
 
-part_at_most : (i j : Option (List ℕ)) (n : ℕ) → GivesPart i j n → GivesAtMost i j n
+pub part_at_most : (i j : Option (List ℕ)) (n : ℕ) → GivesPart i j n → GivesAtMost i j n
 part_at_most i j n part = let count = part.1 in (part.0, omega (arith, count), part.2)
 
 -- a refusal for whose line memory was wanting
@@ -90,11 +102,41 @@ refused_to_memory calls_for refuses (InputUtf8 place) i j o p ran = whole_at_mos
 refused_to_memory calls_for refuses (Form refusal) i j o p ran = read_at_most i j ran.text ran.read
 refused_to_memory calls_for refuses (Item refusal) i j o p ran = read_at_most i j ran.text ran.read
 refused_to_memory calls_for refuses (Line number) i j o p ran = read_at_most i j ran.text ran.read
+refused_to_memory calls_for refuses (PasswordLine count) i j o p ran = read_at_most i j ran.text ran.read
+refused_to_memory calls_for refuses (Client refusal) i j o p ran = read_at_most i j ran.text ran.read
 
-pub seal_to_memory : (line : SealLine) (refusal : Refusal) (i j o p : Option (List ℕ)) (s t : Option (List (List ℕ)))
-    → SealRuns line (Refused refusal) i j o p s t → SealRuns line Memory i j o p s t
-seal_to_memory line refusal i j o p s t runs = record {
+-- or another status for whose line it was
+pub run_to_memory : (calls_for : List ℕ → List ℕ → Type 0) (refuses : List ℕ → Refusal → Type 0) (status : Status) → TellsValues status
+    → (i j o p : Option (List ℕ)) → RunsOver calls_for refuses status i j o p → RunsOver calls_for refuses Memory i j o p
+run_to_memory calls_for refuses Done tells i j o p ran = absurd tells
+run_to_memory calls_for refuses Usage tells i j o p ran = absurd tells
+run_to_memory calls_for refuses (Refused refusal) tells i j o p ran = refused_to_memory calls_for refuses refusal i j o p ran
+run_to_memory calls_for refuses DiskFault tells i j o p ran = absurd tells
+run_to_memory calls_for refuses LinkFault tells i j o p ran = absurd tells
+run_to_memory calls_for refuses ReadFault tells i j o p ran = absurd tells
+run_to_memory calls_for refuses WriteFault tells i j o p ran = absurd tells
+run_to_memory calls_for refuses Memory tells i j o p ran = absurd tells
+run_to_memory calls_for refuses (Foreign unfit) tells i j o p ran = absurd ran
+run_to_memory calls_for refuses (Server number tag) tells i j o p ran = absurd ran
+run_to_memory calls_for refuses (BadAnswer place) tells i j o p ran = absurd ran
+
+undrawn_to_memory : (seed : List ℕ) (status : Status) → TellsValues status → (s t : Option (List (List ℕ))) → Draws status seed s t → Draws Memory seed s t
+undrawn_to_memory seed Done tells s t drew = absurd tells
+undrawn_to_memory seed Usage tells s t drew = absurd tells
+undrawn_to_memory seed (Refused refusal) tells s t drew = inl drew
+undrawn_to_memory seed DiskFault tells s t drew = absurd tells
+undrawn_to_memory seed LinkFault tells s t drew = absurd tells
+undrawn_to_memory seed ReadFault tells s t drew = absurd tells
+undrawn_to_memory seed WriteFault tells s t drew = absurd tells
+undrawn_to_memory seed Memory tells s t drew = absurd tells
+undrawn_to_memory seed (Foreign unfit) tells s t drew = inl drew
+undrawn_to_memory seed (Server number tag) tells s t drew = inl drew
+undrawn_to_memory seed (BadAnswer place) tells s t drew = inl drew
+
+pub seal_to_memory : (line : SealLine) (status : Status) → TellsValues status → (i j o p : Option (List ℕ)) (s t : Option (List (List ℕ)))
+    → SealRuns line status i j o p s t → SealRuns line Memory i j o p s t
+seal_to_memory line status tells i j o p s t runs = record {
   seed = runs.seed;
-  drew = inl runs.drew;
-  ran = refused_to_memory (SealCallsFor line runs.seed) SealRefuses refusal i j o p runs.ran;
+  drew = undrawn_to_memory runs.seed status tells s t runs.drew;
+  ran = run_to_memory (SealCallsFor line runs.seed) SealRefuses status tells i j o p runs.ran;
 }

@@ -1,11 +1,11 @@
 -- What each line calls for, of the text that it reads: an output, or a refusal.
 use Rattle.std.specs.Prelude.{◌≡◌, ℕ, List, [], ◌∷◌, ◌++◌, take, drop}
 use Rattle.rand_chacha.specs.ChaCha.{of_seed}
-use Rattle.sn_cli.specs.CommandLine.{SealLine, OpenLine}
-use Rattle.sn_cli.specs.Errors.{form_error, item_error}
+use Rattle.sn_command.specs.CommandLine.{SealLine, OpenLine}
+use Rattle.sn_status.specs.Errors.{form_error, item_error}
 use Rattle.sn_cli.specs.Inputs.{IsOneLine}
-use Rattle.sn_cli.specs.declared.refusal.Refusal.{Refusal}
-use Rattle.sn_cli.specs.declared.refusal.Refusal.TheVariants.{InputLong, InputUtf8, Form, Item, Line}
+use Rattle.sn_status.specs.declared.refusal.Refusal.{Refusal}
+use Rattle.sn_status.specs.declared.refusal.Refusal.TheVariants.{InputLong, InputUtf8, Form, Item, Line, PasswordLine, Client}
 use Rattle.sn_items.specs.Draws.{drawn}
 use Rattle.sn_items.specs.Opens.{Opens}
 use Rattle.sn_items.specs.Refusals.{HasCause}
@@ -64,6 +64,8 @@ OpenRefuses line input (InputUtf8 place) = ⊥
 OpenRefuses line input (Form refusal) = ⊥
 OpenRefuses line input (Item refusal) = IsUnopened line input (item_error refusal)
 OpenRefuses line input (Line number) = ⊥
+OpenRefuses line input (PasswordLine length) = ⊥
+OpenRefuses line input (Client refusal) = ⊥
 
 -- `show` calls for the lines of a 003 string (`Shown.IsShown`), or the text is none, for this cause
 abbrev pub ShowRefuses : List ℕ → Refusal → Type 0
@@ -72,6 +74,8 @@ ShowRefuses text (InputUtf8 place) = ⊥
 ShowRefuses text (Form refusal) = Refuses (parts_of text) (form_error refusal)
 ShowRefuses text (Item refusal) = ⊥
 ShowRefuses text (Line number) = ⊥
+ShowRefuses text (PasswordLine length) = ⊥
+ShowRefuses text (Client refusal) = ⊥
 
 -- `replay` calls for the report that the text's script carries at this bench
 pub record ReplayCallsFor (bench : PlainBench) (text output : List ℕ) : Type 0 where
@@ -88,3 +92,5 @@ ReplayRefuses text (InputUtf8 place) = ⊥
 ReplayRefuses text (Form refusal) = ⊥
 ReplayRefuses text (Item refusal) = ⊥
 ReplayRefuses text (Line number) = IsFirstWrong text number
+ReplayRefuses text (PasswordLine length) = ⊥
+ReplayRefuses text (Client refusal) = ⊥

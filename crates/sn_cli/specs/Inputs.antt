@@ -2,9 +2,9 @@
 use Rattle.std.specs.Prelude.{◌≡◌, ◌⊎◌, ℕ, ◌+◌, ◌≤◌, ◌^◌, List, [], ◌∷◌, ◌++◌, Some, length}
 use Rattle.std.specs.declared.option.Option.{Option}
 use Rattle.std.specs.Str.{IsUtf8}
-use Rattle.sn_cli.specs.declared.refusal.Refusal.TheVariants.{InputLong, InputUtf8}
-use Rattle.sn_cli.specs.declared.status.Status.{Status}
-use Rattle.sn_cli.specs.declared.status.Status.TheVariants.{Done, Usage, Refused, DiskFault, LinkFault, ReadFault, WriteFault, Memory, Foreign}
+use Rattle.sn_status.specs.declared.refusal.Refusal.TheVariants.{InputLong, InputUtf8}
+use Rattle.sn_status.specs.declared.status.Status.{Status}
+use Rattle.sn_status.specs.declared.status.Status.TheVariants.{Done, Usage, Refused, DiskFault, LinkFault, ReadFault, WriteFault, Memory, Foreign, Server, BadAnswer}
 use Rattle.sn_io.specs.Streams.{GivesAtMost, GivesPart, HasGiven}
 use Rattle.sn_items.specs.Utf8.{IsValidTo}
 
@@ -42,6 +42,8 @@ StopsReading ReadFault before after = GivesAtMost before after MOST_INPUT
 StopsReading WriteFault before after = ⊥
 StopsReading Memory before after = GivesAtMost before after (MOST_INPUT + 1)
 StopsReading (Foreign unfit) before after = ⊥
+StopsReading (Server number tag) before after = ⊥
+StopsReading (BadAnswer place) before after = ⊥
 
 -- the text is the input without a line feed at its end
 abbrev pub IsOneLine : List ℕ → List ℕ → Type 0

@@ -1,11 +1,9 @@
+pub mod CallEnds
 pub mod Calls
-pub mod CommandLine
-pub mod Commands
-pub mod Errors
-pub mod Given
+pub mod DeviceCalls
+pub mod Devices
 pub mod Inputs
-pub mod Lines
+pub mod Listed
+pub mod Outputs
 pub mod Runs
 pub mod Shown
-pub mod Syntax
-pub mod Words

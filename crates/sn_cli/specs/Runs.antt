@@ -1,39 +1,35 @@
 -- What a run did, by its status: what it read, which output its line called for, and how much of it was appended.
 use Rattle.std.specs.Prelude.{◌≡◌, ◌⊎◌, ℕ, List, ⊤}
 use Rattle.std.specs.declared.option.Option.{Option}
-use Rattle.std.specs.Io.KnownBytes.{Appends}
 use Rattle.sn_cli.specs.Calls.{OpenCallsFor, OpenRefuses, ReplayCallsFor, ReplayRefuses, SealCallsFor, SealRefuses, ShowRefuses}
-use Rattle.sn_cli.specs.CommandLine.{SealLine, OpenLine, ServeLine, Asks, IsReading, IsServing, IsSealLine, IsOpenLine, IsShowLine, IsReplayLine, IsServeLine, IsUsage}
+use Rattle.sn_command.specs.CommandLine.{SealLine, OpenLine, ServeLine, Asks, IsReading, IsServing, IsSealLine, IsOpenLine, IsShowLine, IsReplayLine, IsServeLine, IsUsage}
+use Rattle.sn_command.specs.DeviceLines.{DeviceLine, IsDeviceLine, IsDevicing}
+use Rattle.sn_cli.specs.Devices.{DeviceRuns}
 use Rattle.sn_cli.specs.Inputs.{ReadsText, StopsReading}
+use Rattle.sn_command.specs.Named.{USUAL_COST}
+use Rattle.sn_cli.specs.Outputs.{Writes}
 use Rattle.sn_cli.specs.Shown.{IsShown}
-use Rattle.sn_cli.specs.declared.refusal.Refusal.{Refusal}
-use Rattle.sn_cli.specs.declared.refusal.Refusal.TheVariants.{InputLong, InputUtf8}
-use Rattle.sn_cli.specs.declared.status.Status.{Status}
-use Rattle.sn_cli.specs.declared.status.Status.TheVariants.{Done, Usage, Refused, DiskFault, LinkFault, ReadFault, WriteFault, Memory, Foreign}
-use Rattle.sn_cli.specs.declared.status.Unfit.{Unfit}
-use Rattle.sn_cli.specs.declared.status.Unfit.TheVariants as unfit
+use Rattle.sn_status.specs.declared.refusal.Refusal.{Refusal}
+use Rattle.sn_status.specs.declared.refusal.Refusal.TheVariants.{InputLong, InputUtf8, Client}
+use Rattle.sn_status.specs.declared.status.Status.{Status}
+use Rattle.sn_status.specs.declared.status.Status.TheVariants.{Done, Usage, Refused, DiskFault, LinkFault, ReadFault, WriteFault, Memory, Foreign, Server, BadAnswer}
+use Rattle.sn_status.specs.declared.status.Unfit.{Unfit}
+use Rattle.sn_status.specs.declared.status.Unfit.TheVariants as unfit
+use Rattle.sn_calls.specs.Ends.{CallEnds}
+use Rattle.sn_calls.specs.Ends.{Handed as HandedCall}
+use Rattle.sn_calls.specs.declared.ends.CallEnd.{CallEnd}
+use Rattle.sn_client.specs.Runs.{Call}
 use Rattle.sn_disk.specs.Shelf.{Slot}
 use Rattle.sn_disk.specs.declared.disk.Disk.{Ghosts}
-use Rattle.sn_io.specs.Streams.{Gains, TakesPart}
+use Rattle.sn_io.specs.Streams.{Gains}
 use Rattle.sn_net.specs.Connections.{Event}
+use Rattle.sn_net.specs.Exchanges.{Exchange}
 use Rattle.sn_replay.specs.declared.bench.PlainBench.{PlainBench}
 use Rattle.sn_script.specs.Scripts.{IsScript}
 use Rattle.sn_serve.specs.Serving.{Handed, ServeEnds}
 use Rattle.sn_serve.specs.declared.ends.Served.{Served}
 use Rattle.sn_serve.specs.declared.ends.Served.TheVariants as served
 use Rattle.sn_script.specs.declared.script.Line.{Line}
-
--- the output was appended: all of it, or at a write fault a front of it and not all
-abbrev pub Writes : Status → Option (List ℕ) → Option (List ℕ) → List ℕ → Type 0
-Writes Done before after output = Appends before after output
-Writes Usage before after output = ⊥
-Writes (Refused refusal) before after output = ⊥
-Writes DiskFault before after output = ⊥
-Writes LinkFault before after output = ⊥
-Writes ReadFault before after output = ⊥
-Writes WriteFault before after output = TakesPart before after output
-Writes Memory before after output = ⊥
-Writes (Foreign unfit) before after output = ⊥
 
 -- the whole input was read as a text, which calls for an output, and that was appended
 pub record WritesOf (calls_for : List ℕ → List ℕ → Type 0) (status : Status) (input_before input_after out_before out_after : Option (List ℕ)) : Type 0 where
@@ -69,6 +65,8 @@ RunsOver calls_for refuses WriteFault input_before input_after out_before out_af
     WritesOf calls_for WriteFault input_before input_after out_before out_after
 RunsOver calls_for refuses Memory input_before input_after out_before out_after = StopsReading Memory input_before input_after
 RunsOver calls_for refuses (Foreign unfit) input_before input_after out_before out_after = ⊥
+RunsOver calls_for refuses (Server number tag) input_before input_after out_before out_after = ⊥
+RunsOver calls_for refuses (BadAnswer place) input_before input_after out_before out_after = ⊥
 
 -- what a command drew that draws one seed: it, once the input is a text, and none before
 abbrev pub Draws : Status → List ℕ → Option (List (List ℕ)) → Option (List (List ℕ)) → Type 0
@@ -81,6 +79,8 @@ Draws ReadFault seed before after = after ≡ before
 Draws WriteFault seed before after = Gains before after seed
 Draws Memory seed before after = (after ≡ before) ⊎ Gains before after seed
 Draws (Foreign unfit) seed before after = after ≡ before
+Draws (Server number tag) seed before after = after ≡ before
+Draws (BadAnswer place) seed before after = after ≡ before
 
 -- what `seal` did: the output is the one that the seed drawn calls for
 pub record SealRuns (line : SealLine) (status : Status) (input_before input_after out_before out_after : Option (List ℕ))
@@ -100,6 +100,8 @@ WritesText ReadFault before after = ⊥
 WritesText WriteFault before after = (text : List ℕ) × Writes WriteFault before after text
 WritesText Memory before after = ⊤
 WritesText (Foreign unfit) before after = ⊥
+WritesText (Server number tag) before after = ⊥
+WritesText (BadAnswer place) before after = ⊥
 
 -- What a question for help or for the version brought about: nothing is read, and a text is the output. Where `clap` finds
 -- a fault beside the question, the words may be faulty.
@@ -109,15 +111,18 @@ pub record AnswersWith (status : Status) (input_before input_after out_before ou
 
 -- what the words of a run of this status are; want of memory may come at any words
 abbrev pub AreWordsOf : Status → List (List ℕ) → Type 0
-AreWordsOf Done words = IsReading words ⊎ IsServing words ⊎ Asks words
+AreWordsOf Done words = IsReading words ⊎ IsServing words ⊎ IsDevicing words ⊎ Asks words
 AreWordsOf Usage words = IsUsage words
+AreWordsOf (Refused (Client refusal)) words = IsDevicing words
 AreWordsOf (Refused refusal) words = IsReading words
-AreWordsOf DiskFault words = IsServing words
-AreWordsOf LinkFault words = IsServing words
+AreWordsOf DiskFault words = IsServing words ⊎ IsDevicing words
+AreWordsOf LinkFault words = IsServing words ⊎ IsDevicing words
 AreWordsOf ReadFault words = IsReading words
-AreWordsOf WriteFault words = IsReading words ⊎ IsServing words ⊎ Asks words
+AreWordsOf WriteFault words = IsReading words ⊎ IsServing words ⊎ IsDevicing words ⊎ Asks words
 AreWordsOf Memory words = ⊤
-AreWordsOf (Foreign unfit) words = IsServing words
+AreWordsOf (Foreign unfit) words = IsServing words ⊎ IsDevicing words
+AreWordsOf (Server number tag) words = IsDevicing words
+AreWordsOf (BadAnswer place) words = IsDevicing words
 
 -- the words are a line of a command to which this text is a right one
 abbrev pub Accepts : List (List ℕ) → List ℕ → Type 0
@@ -138,6 +143,23 @@ IsRefusal ReadFault = ⊥
 IsRefusal WriteFault = ⊥
 IsRefusal Memory = ⊥
 IsRefusal (Foreign unfit) = ⊥
+IsRefusal (Server number tag) = ⊥
+IsRefusal (BadAnswer place) = ⊥
+
+-- a status that refuses the input itself, or wants another line
+abbrev pub IsInputRefusal : Status → Type 0
+IsInputRefusal Done = ⊥
+IsInputRefusal Usage = ⊤
+IsInputRefusal (Refused (Client refusal)) = ⊥
+IsInputRefusal (Refused refusal) = ⊤
+IsInputRefusal DiskFault = ⊥
+IsInputRefusal LinkFault = ⊥
+IsInputRefusal ReadFault = ⊥
+IsInputRefusal WriteFault = ⊥
+IsInputRefusal Memory = ⊥
+IsInputRefusal (Foreign unfit) = ⊥
+IsInputRefusal (Server number tag) = ⊥
+IsInputRefusal (BadAnswer place) = ⊥
 
 -- a status that comes of the input alone
 abbrev pub IsOfInput : Status → Type 0
@@ -150,18 +172,22 @@ IsOfInput ReadFault = ⊤
 IsOfInput WriteFault = ⊥
 IsOfInput Memory = ⊥
 IsOfInput (Foreign unfit) = ⊥
+IsOfInput (Server number tag) = ⊥
+IsOfInput (BadAnswer place) = ⊥
 
 -- a status at which a command that doesn't serve has written nothing to standard output
 abbrev pub IsSilent : Status → Type 0
 IsSilent Done = ⊥
 IsSilent Usage = ⊤
 IsSilent (Refused refusal) = ⊤
-IsSilent DiskFault = ⊥
-IsSilent LinkFault = ⊥
+IsSilent DiskFault = ⊤
+IsSilent LinkFault = ⊤
 IsSilent ReadFault = ⊤
 IsSilent WriteFault = ⊥
 IsSilent Memory = ⊤
-IsSilent (Foreign unfit) = ⊥
+IsSilent (Foreign unfit) = ⊤
+IsSilent (Server number tag) = ⊤
+IsSilent (BadAnswer place) = ⊤
 
 -- the end of serving that is this refusal of a store
 abbrev pub unfit_end : Unfit → Served
@@ -180,9 +206,8 @@ status_of_end (served.Damaged place) = Foreign (unfit.Damaged place)
 status_of_end (served.Rows kind) = Foreign (unfit.Rows kind)
 status_of_end served.Memory = Memory
 
--- the shelf, the port and the clock are as they were
-pub record AreLeft {S P C : Type 0} (shelf shelf_after : S) (port port_after : P) (clock clock_after : C) : Type 0 where
-  pub same_shelf : shelf_after ≡ shelf
+-- the port and the clock are as they were
+pub record AreLeft {P C : Type 0} (port port_after : P) (clock clock_after : C) : Type 0 where
   pub same_port : port_after ≡ port
   pub same_clock : clock_after ≡ clock
 
@@ -198,6 +223,8 @@ ServeRuns ends untouched ReadFault = ⊥
 ServeRuns ends untouched WriteFault = ends served.WriteFault
 ServeRuns ends untouched Memory = untouched ⊎ ends served.Memory ⊎ ((fault : Unfit) × ends (unfit_end fault))
 ServeRuns ends untouched (Foreign fault) = ends (unfit_end fault)
+ServeRuns ends untouched (Server number tag) = ⊥
+ServeRuns ends untouched (BadAnswer place) = ⊥
 
 module _ {S D P O C R : Type 0} (g : Ghosts D) (told : Type 0) (slot : S → List ℕ → Slot D) (shelf_faults : S → ℕ) (goes : P → P → List Event → Type 0) (bound : P → ℕ)
     (held : O → Option (List ℕ)) (given : C → Option (List ℕ)) (drawn : R → Option (List (List ℕ))) (old new : Handed S P O C R) where
@@ -205,9 +232,17 @@ module _ {S D P O C R : Type 0} (g : Ghosts D) (told : Type 0) (slot : S → Lis
   abbrev pub Serves : ServeLine → Status → Type 0
   Serves line status = ServeRuns (ServeEnds g told slot shelf_faults goes bound held given drawn line.store line.port line.requests old new) (new ≡ old) status
 
--- What a run did, whatever its words; each field is a clause of the top call. `serves` is what a line of `serve` did, and
--- `left` that what serves was left as it was.
-pub record Meets (words : List (List ℕ)) (serves : ServeLine → Status → Type 0) (left : Type 0) (status : Status) (bench_before bench_after : PlainBench)
+module _ {S D L R : Type 0} (g : Ghosts D) (told : Type 0) (slot : S → List ℕ → Slot D) (shelf_faults : S → ℕ)
+    (asks : L → L → List Exchange → Type 0) (aimed : L → List ℕ) (drawn : R → Option (List (List ℕ))) (old new : HandedCall S L R) where
+  -- how the call of a device on the store of a name ended, by what was handed in
+  abbrev pub EndsCall : List ℕ → Call → Option (List ℕ) → CallEnd → Type 0
+  EndsCall store call server ended = CallEnds g told slot shelf_faults asks aimed drawn store call server USUAL_COST old new ended
+
+-- What a run did, whatever its words; each field is a clause of the top call. `serves` is what a line of `serve` did,
+-- `ends` how a device's call ended, and `untouched` that what it is handed is as it was. `left` says that of what serves
+-- alone, `link_left` of the link, and `shelf_left` of the shelf.
+pub record Meets (words : List (List ℕ)) (serves : ServeLine → Status → Type 0) (ends : List ℕ → Call → Option (List ℕ) → CallEnd → Type 0)
+    (untouched left link_left shelf_left : Type 0) (status : Status) (bench_before bench_after : PlainBench)
     (input_before input_after out_before out_after : Option (List ℕ)) (seeds_before seeds_after : Option (List (List ℕ))) : Type 0 where
   pub seal : (line : SealLine) → IsSealLine words line
       → SealRuns line status input_before input_after out_before out_after seeds_before seeds_after
@@ -216,12 +251,15 @@ pub record Meets (words : List (List ℕ)) (serves : ServeLine → Status → Ty
   pub show : IsShowLine words → RunsOver IsShown ShowRefuses status input_before input_after out_before out_after
   pub replay : IsReplayLine words → RunsOver (ReplayCallsFor bench_after) ReplayRefuses status input_before input_after out_before out_after
   pub serve : (line : ServeLine) → IsServeLine words line → serves line status
+  pub device : (line : DeviceLine) → IsDeviceLine words line → DeviceRuns ends untouched line input_before input_after out_before out_after status
   pub help : Asks words → AnswersWith status input_before input_after out_before out_after
   pub spelled : AreWordsOf status words
   pub usage : IsUsage words → ¬ (Asks words) → (status ≡ Usage) ⊎ (status ≡ Memory)
   pub unread : IsUsage words → input_after ≡ input_before
   pub served_unread : IsServing words → input_after ≡ input_before
-  pub undrawn : ((line : SealLine) → ¬ (IsSealLine words line)) → ¬ (IsServing words) → seeds_after ≡ seeds_before
+  pub undrawn : ((line : SealLine) → ¬ (IsSealLine words line)) → ¬ (IsServing words) → ¬ (IsDevicing words) → seeds_after ≡ seeds_before
   pub unplayed : ¬ (IsReplayLine words) → bench_after ≡ bench_before
   pub unserved : ¬ (IsServing words) → left
+  pub unasked : ¬ (IsDevicing words) → link_left
+  pub unstored : ¬ (IsServing words) → ¬ (IsDevicing words) → shelf_left
   pub no_script : IsOfInput status → bench_after ≡ bench_before

@@ -5,9 +5,9 @@ ghost use Rattle.sn_io.specs.Causes.{Rose};
 ghost use Rattle.sn_cli.specs.Runs.{IsSilent, WritesText};
 
 use crate::output::write_out;
-use crate::status::Status;
 use clap::Error;
 use sn_io::Sink;
+use sn_status::Status;
 use std::alloc::Global;
 
 /// Writes the text that the words ask for.

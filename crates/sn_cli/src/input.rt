@@ -3,10 +3,9 @@ ghost use Rattle.std.specs.Prelude.{◌≡◌, IfErr, IfOk, IsErrOf, string_byte
 ghost use Rattle.sn_io.specs.Causes.{Rose};
 ghost use Rattle.sn_cli.specs.Inputs.{MOST_INPUT, IsOneLine, ReadsText, StopsReading};
 
-use crate::refusal::Refusal;
-use crate::status::Status;
 use sn_io::{ReadError, Source, read_all};
 use sn_items::utf8_text;
+use sn_status::{Refusal, Status};
 use std::alloc::Global;
 
 const MOST_INPUT: usize = 1 << 24;

@@ -1,23 +1,21 @@
 //! The program `sn`: its top call, and the real outside that `main` hands to it.
 #![tactic(auto)]
 
-mod command_line;
-mod given;
+mod calling;
+mod ends;
+mod halves;
 mod help;
 mod input;
-mod lines;
-mod number;
+mod listing;
 mod opening;
 mod output;
 mod outside;
+mod passwords;
 mod program;
-mod refusal;
 mod replaying;
 mod sealing;
 mod serving;
 mod showing;
-mod status;
-mod syntax;
 #[cfg(test)]
 mod tests;
 mod words;
@@ -27,8 +25,8 @@ use program::run;
 use rand_chacha::ChaCha20Rng;
 use rand_core::Rng;
 use sn_replay::PlainBench;
-use sn_system::{FileShelf, Input, Output, SystemClock, TcpPort};
-use status::Status;
+use sn_status::{Status, tell};
+use sn_system::{FileShelf, Input, Output, SystemClock, TcpLink, TcpPort};
 use std::io;
 use std::process::ExitCode;
 use std::random::RandomSource;
@@ -52,6 +50,7 @@ fn run_on_streams(rt: &HostRuntime, words: &[String]) -> Status {
         &mut FileShelf::new(rt),
         &mut PlainBench::new(rt.alloc()),
         &mut TcpPort::new(rt),
+        &mut TcpLink::new(rt),
         &mut Input::new(rt.reader()),
         &mut Output::new(rt.stdout()),
         &mut Output::new(rt.stderr()),
@@ -62,7 +61,7 @@ fn run_on_streams(rt: &HostRuntime, words: &[String]) -> Status {
 
 // The status, once its line is written.
 fn told(rt: &HostRuntime, status: Status) -> Status {
-    lines::tell(rt.alloc(), &mut Output::new(rt.stderr()), status)
+    tell(rt.alloc(), &mut Output::new(rt.stderr()), status)
 }
 
 fn system_seed(rt: &impl RandomSource) -> io::Result<[u8; 32]> {

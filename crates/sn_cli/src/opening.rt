@@ -3,16 +3,16 @@ ghost use Rattle.std.specs.Prelude.{◌≡◌};
 ghost use Rattle.std.specs.Io.KnownBytes.{Keeps};
 ghost use Rattle.sn_io.specs.Causes.{Rose};
 ghost use Rattle.sn_cli.specs.Calls.{OpenCallsFor, OpenRefuses};
-ghost use Rattle.sn_cli.specs.Commands.{open_line};
+ghost use Rattle.sn_command.specs.Commands.{open_line};
 ghost use Rattle.sn_cli.specs.Runs.{IsSilent, RunsOver};
 
-use crate::command_line::{ItemOptions, halves};
+use crate::halves::halves;
 use crate::input::{input_text, one_line};
 use crate::output::write_out;
-use crate::refusal::{Refusal, item_refusal};
-use crate::status::Status;
+use sn_command::ItemOptions;
 use sn_io::{Sink, Source};
 use sn_items::open_text;
+use sn_status::{Refusal, Status, item_refusal};
 use std::alloc::Global;
 
 /// Opens the input's one 003 string and writes its plain bytes.

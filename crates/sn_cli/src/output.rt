@@ -1,10 +1,10 @@
 // The output of a command.
 ghost use Rattle.std.specs.Prelude.{◌≡◌};
 ghost use Rattle.sn_io.specs.Causes.{Rose};
-ghost use Rattle.sn_cli.specs.Runs.{Writes};
+ghost use Rattle.sn_cli.specs.Outputs.{Writes};
 
-use crate::status::Status;
 use sn_io::{Sink, write_all};
+use sn_status::Status;
 
 /// Writes the whole output, or a front of it where a write fails.
 pub fn write_out<O: Sink>(out: &mut O, bytes: &[u8]) -> Status

@@ -12,12 +12,11 @@ ghost use Rattle.sn_cli.specs.Runs.{IsOfInput, IsSilent, RunsOver};
 
 use crate::input::input_text;
 use crate::output::write_out;
-use crate::refusal::Refusal;
-use crate::status::Status;
 use sn_io::{Sink, Source};
 use sn_replay::{PlainBench, replay};
 use sn_report::report_text;
 use sn_script::{Script, ScriptError, read_script};
+use sn_status::{Refusal, Status};
 use sn_string::Text;
 use std::alloc::{AllocError, Global};
 

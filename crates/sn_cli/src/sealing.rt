@@ -7,15 +7,16 @@ ghost use Rattle.sn_items.specs.Seals.{IsSealed};
 ghost use Rattle.sn_string.specs.Bounds.{IsIdentifier, IsCost, IsNonce};
 ghost use Rattle.sn_string.specs.declared.params.Params.{Params};
 ghost use Rattle.sn_cli.specs.Calls.{HasParams, encryption_half, authentication_half};
-ghost use Rattle.sn_cli.specs.Commands.{seal_line};
+ghost use Rattle.sn_command.specs.Commands.{seal_line};
 ghost use Rattle.sn_cli.specs.Runs.{IsSilent, SealRuns};
 
-use crate::command_line::{ItemOptions, ParamsOptions, halves};
+use crate::halves::halves;
 use crate::input::input_text;
 use crate::output::write_out;
-use crate::status::Status;
+use sn_command::{ItemOptions, ParamsOptions};
 use sn_io::{Seeds, Sink, Source};
 use sn_items::{Words, seal_owned_text};
+use sn_status::Status;
 use sn_string::{Params, Text};
 use std::alloc::{AllocError, Global};
 

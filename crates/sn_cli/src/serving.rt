@@ -2,15 +2,15 @@
 ghost use Rattle.std.specs.Prelude.{◌≡◌};
 ghost use Rattle.sn_io.specs.Causes.{Rose};
 ghost use Rattle.sn_serve.specs.Serving.{handed};
-ghost use Rattle.sn_cli.specs.Commands.{serve_line};
+ghost use Rattle.sn_command.specs.Commands.{serve_line};
 ghost use Rattle.sn_cli.specs.Runs.{Serves, status_of_end};
 
-use crate::command_line::ServeOptions;
-use crate::status::{Status, Unfit};
+use sn_command::ServeOptions;
 use sn_disk::{Disk, Shelf};
 use sn_io::{Seeds, Sink};
 use sn_net::{Clock, Port};
 use sn_serve::{Served, serve};
+use sn_status::{Status, Unfit};
 use std::alloc::Global;
 
 /// Serves the store at the port until so many requests are served.

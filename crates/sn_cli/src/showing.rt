@@ -11,11 +11,10 @@ ghost use Rattle.sn_cli.specs.Shown.{IsShown, json_text, salt_json, parts_lines,
 
 use crate::input::input_text;
 use crate::output::write_out;
-use crate::refusal::{Refusal, form_refusal};
-use crate::status::Status;
 use serde_json::Value;
 use sn_io::{Sink, Source};
 use sn_keys::salt_text;
+use sn_status::{Refusal, Status, form_refusal};
 use sn_string::{Params, Parts, base64_bytes, read};
 use std::alloc::{AllocError, Global};
 
@@ -98,9 +97,9 @@ fn salt_json(alloc: Global, params: &Params) -> Result<String, AllocError>
     json_text(alloc, text.as_str())
 }
 
-// The text as a JSON string.
+/// The text as a JSON string.
 #[tactic(auto, unfolding(crate::specs::Shown::json_text))]
-fn json_text(alloc: Global, text: &str) -> Result<String, AllocError>
+pub fn json_text(alloc: Global, text: &str) -> Result<String, AllocError>
     ensures { IfOk result (λ json. string_bytes json ≡ json_text text.now) }
 {
     Value::try_from_str(alloc, text)?.to_string(alloc)

@@ -2,11 +2,11 @@
 //! reports are worked out by hand from what each line asks for.
 
 use crate::program::run;
-use crate::status::Status;
 use sn_disk::MemShelf;
 use sn_io::{MemSeeds, MemSink, MemSource};
-use sn_net::{MemClock, MemPort};
+use sn_net::{MemClock, MemLink, MemPort};
 use sn_replay::PlainBench;
+use sn_status::Status;
 use std::alloc::Global;
 use std::test::Fail;
 
@@ -701,10 +701,11 @@ fn outcome_of(alloc: Global, case: &Case) -> Result<Outcome, Fail> {
     let mut bench = PlainBench::new(alloc);
     let mut shelf = MemShelf::new(alloc, Vec::new(alloc));
     let mut port = MemPort::new(alloc, Vec::new(alloc), 4711, Vec::new(alloc));
+    let mut link = MemLink::new(alloc, Vec::new(alloc), Vec::new(alloc));
     let mut clock = MemClock::new(Vec::new(alloc));
     let status = run(
-        alloc, &words, &mut shelf, &mut bench, &mut port, &mut input, &mut out, &mut err,
-        &mut clock, &mut seeds,
+        alloc, &words, &mut shelf, &mut bench, &mut port, &mut link, &mut input, &mut out,
+        &mut err, &mut clock, &mut seeds,
     );
     Ok(Outcome { status, out, err })
 }

@@ -2,7 +2,7 @@
 ghost use Rattle.std.specs.Prelude.{◌≡◌, ◌≢◌};
 ghost use Rattle.std.specs.IoError.{error_kind};
 
-use crate::status::Status;
+use sn_status::Status;
 use std::io;
 use std::io::ErrorKind;
 

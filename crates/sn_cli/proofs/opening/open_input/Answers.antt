@@ -1,9 +1,9 @@
 use Rattle.std.proofs.Common.{rules, subst, string_bytes}
 use Rattle.sn_items.specs.Opens.{Opens}
 use Rattle.sn_cli.specs.Calls.{OpenCallsFor, OpenRefuses, encryption_half, authentication_half}
-use Rattle.sn_cli.specs.Commands.{open_line}
+use Rattle.sn_command.specs.Commands.{open_line}
 use Rattle.sn_cli.specs.Inputs.{IsOneLine}
-use Rattle.sn_cli.specs.Runs.{Writes}
+use Rattle.sn_cli.specs.Outputs.{Writes}
 use Rattle.sn_cli.proofs.RunLemmas.{written}
 use Rattle.sn_cli.proofs.opening.open_input.Goals as goal
 

@@ -2,8 +2,8 @@ use Rattle.std.proofs.Common.{subst, string_bytes}
 use Rattle.sn_items.specs.Draws.{drawn}
 use Rattle.sn_items.specs.Seals.{IsSealed}
 use Rattle.sn_cli.specs.Calls.{SealCallsFor, SealRefuses, encryption_half, authentication_half}
-use Rattle.sn_cli.specs.Commands.{seal_line}
-use Rattle.sn_cli.specs.Runs.{Writes}
+use Rattle.sn_command.specs.Commands.{seal_line}
+use Rattle.sn_cli.specs.Outputs.{Writes}
 use Rattle.sn_cli.proofs.RunLemmas.{drawn_for_output, written}
 use Rattle.sn_cli.proofs.sealing.seal_input.Goals as goal
 

@@ -1,7 +1,7 @@
 use Rattle.std.proofs.Common.{rules, string_bytes}
 use Rattle.sn_items.specs.Draws.{drawn}
 use Rattle.sn_items.specs.Seals.{IsSealed}
-use Rattle.sn_cli.specs.Commands.{seal_line}
+use Rattle.sn_command.specs.Commands.{seal_line}
 use Rattle.sn_cli.specs.Calls.{HasParams, encryption_half, authentication_half}
 use Rattle.sn_cli.proofs.sealing.sealed_line.Goals as goal
 

@@ -1,6 +1,6 @@
 use Rattle.std.proofs.Common.{subst, string_bytes}
 use Rattle.sn_cli.specs.Calls.{ShowRefuses}
-use Rattle.sn_cli.specs.Runs.{Writes}
+use Rattle.sn_cli.specs.Outputs.{Writes}
 use Rattle.sn_cli.specs.Shown.{IsShown}
 use Rattle.sn_cli.proofs.RunLemmas.{written}
 use Rattle.sn_string.specs.Grammar.{Is003}
