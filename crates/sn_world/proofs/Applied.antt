@@ -1,0 +1,70 @@
+-- What was live of a device is live where a saved item is applied to its row.
+use Rattle.std.proofs.Common.{◌≡◌, ◌≢◌, ℕ, [], ◌∷◌, Option, Some, Bool, false, sym, ap, ◌∙◌, subst, inl, inr, ⊎_elim}
+use Rattle.std.specs.Prelude.{if◌then◌else◌}
+use Rattle.sn_laws.specs.Lookups.{Bytes}
+use Rattle.sn_account.specs.Stored.{body_of}
+use Rattle.sn_rows.specs.Facts.{apart_keys}
+use Rattle.sn_rows.specs.Table.{rows_after, same_key, value_of}
+use Rattle.sn_rows.specs.declared.body.RowBody.{RowBody}
+use Rattle.sn_rows.specs.declared.device_rows.LocalItem.{LocalItem}
+use Rattle.sn_rows.specs.declared.key.Key.{Key}
+use Rattle.sn_rows.specs.declared.key.Key.TheVariants as key
+use Rattle.sn_rows.specs.declared.server_rows.ItemRow.{ItemRow}
+use Rattle.sn_sync.specs.declared.item.Body.{Body}
+use Rattle.sn_sync.specs.declared.item.Body.TheVariants as body
+use Rattle.sn_world.proofs.DeviceRows.{one_local}
+use Rattle.sn_world.proofs.Items.{apart_numbers}
+use Rattle.sn_world.proofs.Making.{sends_it}
+use Rattle.sn_client.specs.Sending.{first_some, message_body}
+use Rattle.sn_world.specs.Settling.{AppliesLive}
+
+pub number_of_key : {n m : ℕ} → key.Local m ≡ key.Local n → n ≡ m
+number_of_key e = cc
+
+one_body : (x y : RowBody) (found : Option RowBody) → found ≡ Some x → found ≡ Some y → x ≡ y
+one_body x y found e k = cc
+
+-- a row that isn't deleted is given with strings
+not_deleted : (row : ItemRow) (q : Bool) (b : Body) → q ≡ false → (if q then body.Deleted else body.Strings row.content row.enc) ≡ b → b ≢ body.Deleted
+not_deleted row q b live is deleted =
+    let strings : (if false then body.Deleted else body.Strings row.content row.enc) ≡ b =
+    subst (λ (z : Bool). (if z then body.Deleted else body.Strings row.content row.enc) ≡ b) live is in
+    cc
+
+pub applies_live : AppliesLive
+applies_live server device n number local sent saved j change stands sends stored of at (inl h) = inl h
+applies_live server device n number local sent saved j change stands sends stored of at (inr (inl h)) = inr (inl h)
+applies_live server device n number local sent saved j change stands sends stored of at (inr (inr (inl h))) = inr (inr (inl h))
+applies_live server device n number local sent saved j change stands sends stored of at (inr (inr (inr x))) =
+    ⊎_elim
+    (λ (same : x.number ≡ number).
+    let row : x.local ≡ local = one_local x.local local (device (key.Local number)) (ap (λ (k : ℕ). device (key.Local k)) (sym same) ∙ x.stands) stands in
+    let posted_is : local.posted ≡ Some sends.0.version = sends_it local.posted (first_some local.latest local.body) sends.0.version sends.1 sends.0.sent in
+    let posted : sends.0.version ≡ x.posted =
+    one_body sends.0.version x.posted local.posted posted_is (ap (λ (y : LocalItem). y.posted) (sym row) ∙ x.posted_is) in
+    let bodies : sent.body ≡ j.body = sends.0.body_is ∙ ap message_body posted ∙ sym x.body_is in
+    let kinds : sent.kind ≡ j.kind = sends.0.kind_is ∙ ap (λ (y : LocalItem). y.kind) (sym row) ∙ x.kind_is in
+    let uuids : saved.uuid ≡ j.uuid = of.uuid ∙ sends.0.uuid_is ∙ ap (λ (y : LocalItem). y.uuid) (sym row) ∙ x.uuid_is in
+    let given : body_of stored.0 ≡ sent.body = sym stored.3.body ∙ of.body in
+    inr (inl (
+      stored.0,
+      ap (λ (u : Bytes). server (key.Item u)) (sym uuids) ∙ stored.1,
+      stored.2,
+      (given ∙ bodies, λ live. sym stored.3.kind ∙ of.kind (not_deleted stored.0 stored.0.deleted sent.body live given) ∙ kinds),
+    )))
+    (λ (differs : x.number ≢ number).
+    inr (inr (inr (record {
+      number = x.number;
+      local = x.local;
+      stands = away (key.Local x.number) (λ e. differs (number_of_key e)) ∙ x.stands;
+      uuid_is = x.uuid_is;
+      kind_is = x.kind_is;
+      base = x.base;
+      posted = x.posted;
+      posted_is = x.posted_is;
+      body_is = x.body_is;
+    }))))
+    (apart_numbers x.number number)
+  where
+    away : (k : Key) → key.Local number ≢ k → rows_after device (change ∷ []) k ≡ device k
+    away k apart = ap (λ (b : Bool). if b then value_of change else device k) (ap (λ (z : Key). same_key z k) at ∙ apart_keys (key.Local number) k apart)

@@ -1,0 +1,286 @@
+-- An answer to a sync that is applied keeps the invariant, where no draft meets another's version.
+use Rattle.std.proofs.Common.{◌≡◌, ◌⊎◌, ℕ, List, [], ◌∷◌, ◌++◌, map, Option, Some, sym, ap, ◌∙◌, subst, None, refl, inl, inr}
+use mathlib.Core.Path.{fun_ext}
+use Rattle.std.specs.List.{Contains}
+use Rattle.std.specs.Prelude.{find}
+use Rattle.rand_chacha.specs.ChaCha.{ChaCha}
+use Rattle.sn_account.specs.Sessions.{IsSession}
+use Rattle.sn_account.specs.Tells.{AreApart, IsStored}
+use Rattle.sn_client.specs.Laws.{AreStanding}
+use Rattle.sn_client.specs.States.{HasLocal, IsSound, OwnerColumns}
+use Rattle.sn_client.specs.Steps.{Applies, start}
+use Rattle.sn_client.specs.Taking.{Progress, is_conflict, is_retrieved, is_saved, told_by}
+use Rattle.sn_conflict.specs.Checks.{HasItsStrings, IsConflict, IsRetrieved, IsSaved}
+use Rattle.sn_laws.proofs.Facts.{one_there}
+use Rattle.sn_laws.specs.Each.{Each}
+use Rattle.sn_laws.specs.Lookups.{Bytes, device_named, is_device}
+use Rattle.sn_laws.specs.Runs.{end_from}
+use Rattle.sn_laws.specs.declared.ideal.Account.{Account}
+use Rattle.sn_laws.specs.declared.ideal.Device.{Device}
+use Rattle.sn_laws.specs.declared.ideal.Ideal.{Ideal}
+use Rattle.sn_laws.specs.declared.moves.Move.{Move}
+use Rattle.sn_rows.specs.Facts.{put_here, row_after-append}
+use Rattle.sn_rows.specs.Table.{Rows, rows_after}
+use Rattle.sn_rows.specs.declared.change.Change.{Change}
+use Rattle.sn_rows.specs.declared.device_rows.LocalItem.{LocalItem}
+use Rattle.sn_rows.specs.declared.device_rows.OwnerRow.{OwnerRow}
+use Rattle.sn_rows.specs.declared.key.Key.TheVariants as key
+use Rattle.sn_rows.specs.declared.value.Value.TheVariants as value
+use Rattle.sn_shows.proofs.Facts.{holder_of}
+use Rattle.sn_shows.specs.Laws.{AccountsApart, HasAccount, TokensShow}
+use Rattle.sn_sync.specs.Versions.{item_of, uuids}
+use Rattle.sn_sync.specs.declared.answer.Conflict.{Conflict}
+use Rattle.sn_sync.specs.declared.answer.Conflict.TheVariants as conflict
+use Rattle.sn_sync.specs.declared.item.Item.{Item}
+use Rattle.sn_world.proofs.DeviceRows.{local_past, one_local, one_owner, posted_same, unstale_same}
+use Rattle.sn_world.proofs.DeviceSets.{identifier_of}
+use Rattle.sn_world.proofs.Frames.{DeviceFrame, device_kept, live_kept}
+use Rattle.sn_world.proofs.Lists.{each_apart, each_both, each_contained, each_map, each_right, of_each}
+use Rattle.sn_world.proofs.TakenAll.{Good, LinkedAt, NotSaved, TakingLaws, ToldApart, all_told}
+use Rattle.sn_world.proofs.TakenFrames.{Took}
+use Rattle.sn_client.specs.States.{text_of_token, token_of}
+use Rattle.sn_laws.specs.Lookups.{greatest}
+use Rattle.sn_rows.specs.declared.value.Value.{Value}
+use Rattle.sn_shows.specs.Servers.{ShowsStore, stamps_in}
+use Rattle.sn_sync.specs.Tokens.{IsToken}
+use Rattle.sn_world.proofs.Started.{nobody}
+use Rattle.sn_world.specs.Holds.{IsTokenBelow, TokensBelow}
+use Rattle.std.proofs.Common.{◌≤◌}
+use Rattle.sn_world.proofs.Tokens.{apart_of, device_account, token_session}
+use Rattle.sn_world.specs.Applying.{SaysApplied, Tells}
+use Rattle.sn_world.specs.Holds.{DeviceToken, HasToken, Holds, TokensDiffer}
+use Rattle.sn_world.specs.Laws.{KeptBy}
+use Rattle.sn_world.specs.Live.{LiveItem}
+use Rattle.sn_world.specs.Making.{IsPostedOf, SendsPosted}
+use Rattle.sn_world.specs.World.{OnDevice, World}
+
+-- none of these is saved
+none_saved : (uuid : Bytes) (conflicts : List Conflict) (retrieved : List Item) → Each (NotSaved uuid) (map is_conflict conflicts ++ map is_retrieved retrieved)
+none_saved uuid conflicts retrieved =
+    each_both (NotSaved uuid) (map is_conflict conflicts) (map is_retrieved retrieved)
+    (each_map is_conflict (NotSaved uuid) conflicts (all conflicts)) (each_map is_retrieved (NotSaved uuid) retrieved (all_too retrieved))
+  where
+    all : (cs : List Conflict) → Each (λ (c : Conflict). NotSaved uuid (is_conflict c)) cs
+    all [] = tt
+    all (c ∷ cs) = (tt, all cs)
+
+    all_too : (is : List Item) → Each (λ (i : Item). NotSaved uuid (is_retrieved i)) is
+    all_too [] = tt
+    all_too (i ∷ is) = (tt, all_too is)
+
+rest_apart : (conflicts : List Conflict) (retrieved : List Item) → ToldApart (map is_conflict conflicts ++ map is_retrieved retrieved)
+rest_apart (c ∷ cs) retrieved = (none_saved _ cs retrieved, rest_apart cs retrieved)
+rest_apart [] [] = tt
+rest_apart [] (i ∷ is) = (none_saved i.uuid [] is, rest_apart [] is)
+
+told_apart : (saved : List Item) (conflicts : List Conflict) (retrieved : List Item) → AreApart (uuids saved) → ToldApart (told_by saved conflicts retrieved)
+told_apart [] conflicts retrieved apart = rest_apart conflicts retrieved
+told_apart (i ∷ is) conflicts retrieved apart = (
+  each_both (NotSaved i.uuid) (map is_saved is) (map is_conflict conflicts ++ map is_retrieved retrieved)
+      (each_map is_saved (NotSaved i.uuid) is (each_apart (λ (j : Item). j.uuid) i.uuid is apart.0)) (none_saved i.uuid conflicts retrieved),
+  told_apart is conflicts retrieved apart.1,
+)
+
+each_two : {A : Type 0} (P Q R : A → Type 0) → ((x : A) → P x → Q x → R x) → (xs : List A) → Each P xs → Each Q xs → Each R xs
+each_two P Q R f [] h k = tt
+each_two P Q R f (x ∷ xs) h k = (f x h.0 k.0, each_two P Q R f xs h.1 k.1)
+
+module _ (laws : TakingLaws) (apart : AccountsApart) (tokens_law : TokensShow) (secret : Bytes) (w next : World) (s : Ideal) (differ : TokensDiffer secret)
+    (h : Holds secret w s) (name : Bytes) (words left : ChaCha) (sent : List Item) (conflicts : List Conflict) (cursor : Option Bytes)
+    (retrieved saved : List Item) (token : Bytes) (changes : List Change) (moves : List Move)
+    (x : Applies (w.devices name) words sent conflicts cursor retrieved saved token changes left)
+    (may : Tells w.server (w.devices name) s name sent conflicts cursor retrieved saved token)
+    (says : SaysApplied (w.devices name) name conflicts cursor retrieved saved token changes moves)
+    (sound : IsSound (rows_after (w.devices name) changes)) (on : OnDevice w next name changes) where
+  abbrev rows : Rows
+  rows = w.devices name
+
+  abbrev n : ℕ
+  n = may.number
+
+  abbrev a : Account
+  a = may.account
+
+  abbrev d : Device
+  d = may.device
+
+  has : HasAccount s name d a
+  has = device_account apart secret w s h name n a d may.at may.named may.own
+
+  abbrev p : Progress
+  p = start rows says.owner says.words
+
+  -- ---- what is known of each entry
+
+  linked : (i : Item) → Contains saved i → LinkedAt rows i
+  linked i among number local stands =
+      let is = (may.tells.saved_are i among).1 in
+      let row : IsPostedOf rows is.0 = of_each (IsPostedOf rows) sent may.posted is.0 is.1 in
+      let same_number : row.0 ≡ number = (h.sound name).locals.apart row.0 number row.1 local row.2 stands.0 (sym row.3.0.uuid_is ∙ sym is.2.uuid ∙ sym stands.1) in
+      let same : row.1 ≡ local = one_local row.1 local (rows (key.Local number)) (subst (λ (k : ℕ). HasLocal rows k row.1) same_number row.2) stands.0 in
+      (is.0, subst (λ (l : LocalItem). SendsPosted l is.0) same row.3, is.2)
+
+  saved_good : Each (λ (i : Item). Good w.server n saved rows (is_saved i)) saved
+  saved_good =
+      each_two HasItsStrings (λ (i : Item). IsStored w.server n i × LinkedAt rows i) (λ (i : Item). Good w.server n saved rows (is_saved i))
+      (λ i strings k. (k.0, strings, k.1)) saved
+      (each_right (IsSaved sent) HasItsStrings (λ before i r. r.strings) saved x.passes.lists.named.saved_are)
+      (each_contained (λ (i : Item). IsStored w.server n i × LinkedAt rows i) saved (λ i among. ((may.tells.saved_are i among).0, linked i among)))
+
+  conflict_good : (c : Conflict) → HasItsStrings (item_of c) → Contains conflicts c → Good w.server n saved rows (is_conflict c)
+  conflict_good (conflict.Sync i) strings among = ((may.tells.conflicts_are (conflict.Sync i) among).0, strings)
+  conflict_good (conflict.Uuid i) strings among = strings
+  conflict_good (conflict.Content i) strings among = strings
+
+  conflicts_good : Each (λ (c : Conflict). Good w.server n saved rows (is_conflict c)) conflicts
+  conflicts_good =
+      each_two (λ (c : Conflict). HasItsStrings (item_of c)) (λ (c : Conflict). Contains conflicts c) (λ (c : Conflict). Good w.server n saved rows (is_conflict c))
+      (λ c strings among. conflict_good c strings among) conflicts
+      (each_right (IsConflict sent saved) (λ (c : Conflict). HasItsStrings (item_of c)) (λ before c r. r.strings) conflicts x.passes.lists.named.conflicts_are)
+      (each_contained (λ (c : Conflict). Contains conflicts c) conflicts (λ c among. among))
+
+  retrieved_good : Each (λ (i : Item). Good w.server n saved rows (is_retrieved i)) retrieved
+  retrieved_good =
+      each_two HasItsStrings (λ (i : Item). IsStored w.server n i ⊎ Contains (uuids saved) i.uuid) (λ (i : Item). Good w.server n saved rows (is_retrieved i))
+      (λ i strings k. (k, strings)) retrieved
+      (each_right IsRetrieved HasItsStrings (λ before i r. r.strings) retrieved x.passes.lists.retrieved_are)
+      (each_contained (λ (i : Item). IsStored w.server n i ⊎ Contains (uuids saved) i.uuid) retrieved may.tells.retrieved_are)
+
+  all_good : Each (Good w.server n saved rows) (told_by saved conflicts retrieved)
+  all_good =
+      each_both (Good w.server n saved rows) (map is_saved saved) (map is_conflict conflicts ++ map is_retrieved retrieved)
+      (each_map is_saved (Good w.server n saved rows) saved saved_good)
+      (each_both (Good w.server n saved rows) (map is_conflict conflicts) (map is_retrieved retrieved)
+      (each_map is_conflict (Good w.server n saved rows) conflicts conflicts_good) (each_map is_retrieved (Good w.server n saved rows) retrieved retrieved_good))
+
+  -- ---- all of them
+
+  standing : AreStanding says.owner.next rows
+  standing = record {
+    numbered = λ number local there. (h.sound name).locals.numbered says.owner number local says.holds.owned there;
+    apart = (h.sound name).locals.apart;
+    items = (h.sound name).locals.items;
+  }
+
+  took : Took w.server name n a d says.owner says.sets p says.end s moves
+  took =
+      all_told laws w.server name n a d says.owner says.sets says.no_older saved (told_by saved conflicts retrieved) p says.end s moves
+      (record {
+        reached = h.reached;
+        accounts = h.server.all;
+        at = may.at;
+        has = has;
+        shows = h.devices name;
+        holds = says.holds;
+        standing = standing;
+        unstale = h.unstale name;
+        kinds = λ k v e. (h.sound name).device.kinds k v e;
+        numbers = h.numbers;
+      })
+      all_good (told_apart saved conflicts retrieved may.tells.saved_apart) says.told
+
+  -- ---- and the device's own row behind them
+
+  abbrev later : Ideal
+  later = end_from s moves
+
+  abbrev mid : Rows
+  mid = says.end.rows
+
+  abbrev new : OwnerRow
+  new = says.counted_is.owner
+
+  after_is : rows_after rows changes ≡ rows_after mid (says.counted ∷ [])
+  after_is =
+      ap (rows_after rows) (says.changes_are ∙ ap (λ (c : List Change). c ++ says.counted ∷ []) took.changes)
+      ∙ fun_ext (λ k. row_after-append (rows k) k took.made (says.counted ∷ []))
+      ∙ ap (λ (r : Rows). rows_after r (says.counted ∷ [])) (sym took.rows)
+
+  same_device : (other : Bytes) → device_named later other ≡ device_named s other
+  same_device other = ap (find (is_device other)) took.devices
+
+  here : rows_after mid (says.counted ∷ []) key.Owner ≡ Some (value.Owner new)
+  here = put_here mid says.counted key.Owner (value.Owner new) says.counted_is.puts_it
+
+  token_after : (e : Device) → device_named later name ≡ Some e → DeviceToken secret (rows_after mid (says.counted ∷ [])) s.accounts e
+  token_after e named =
+      let was = h.own_tokens name e (sym (same_device name) ∙ named) in
+      let same : says.owner ≡ was.owner = one_owner says.owner was.owner (rows key.Owner) says.holds.owned was.has in
+      record {
+        owner = new;
+        has = here;
+        number = was.number;
+        account = was.account;
+        at = was.at;
+        own = was.own;
+        uuid_is = ap (λ (c : OwnerColumns). c.account) says.counted_is.columns_are ∙ ap (λ (o : OwnerRow). o.account) same ∙ was.uuid_is;
+        is = ap (λ (c : OwnerColumns). c.token) says.counted_is.columns_are ∙ ap (λ (o : OwnerRow). o.token) same ∙ was.is;
+      }
+
+  -- the answer's tokens are of a stamp that was given
+  stamp_given : may.tells.stamp ≤ greatest 0 (stamps_in s.accounts)
+  stamp_given = by (w.server key.Store) refl h.server.store
+    where
+      by : (found : Option Value) → w.server key.Store ≡ found → ShowsStore found s.accounts → may.tells.stamp ≤ greatest 0 (stamps_in s.accounts)
+      by None e none = absurd (nobody n s.accounts a none may.at)
+      by (Some v) e shown =
+          let within : may.tells.stamp ≤ shown.0.last = may.tells.given shown.0 (e ∙ ap Some shown.1) in
+          subst (λ (k : ℕ). may.tells.stamp ≤ k) shown.2 within
+
+  below : (text : Bytes) → IsToken text may.tells.stamp → IsTokenBelow (token_of text) (greatest 0 (stamps_in s.accounts))
+  below [] is = tt
+  below (byte ∷ bytes) is = (may.tells.stamp, is, stamp_given)
+
+  cursor_same : (found : Option Bytes) → (found ≡ None) ⊎ (found ≡ Some token) → (token_of (text_of_token found) ≡ None) ⊎ (token_of (text_of_token found) ≡ token_of token)
+  cursor_same found (inl none) = inl (ap (λ (o : Option Bytes). token_of (text_of_token o)) none)
+  cursor_same found (inr same) = inr (ap (λ (o : Option Bytes). token_of (text_of_token o)) same)
+
+  tokens_after : TokensBelow (rows_after mid (says.counted ∷ [])) (greatest 0 (stamps_in s.accounts))
+  tokens_after holder has_owner =
+      let is : holder ≡ new = one_owner holder new (rows_after mid (says.counted ∷ []) key.Owner) has_owner here in
+      let sync : token ≡ holder.sync_token = sym (ap (λ (o : OwnerRow). o.sync_token) is ∙ ap (λ (c : OwnerColumns). c.sync_token) says.counted_is.columns_are) in
+      let page : text_of_token cursor ≡ holder.cursor_token =
+      sym (ap (λ (o : OwnerRow). o.cursor_token) is ∙ ap (λ (c : OwnerColumns). c.cursor_token) says.counted_is.columns_are) in (
+        subst (λ (t : Bytes). IsTokenBelow (token_of t) (greatest 0 (stamps_in s.accounts))) sync (below token may.tells.token_is),
+        subst (λ (t : Bytes). (token_of holder.cursor_token ≡ None) ⊎ (token_of holder.cursor_token ≡ token_of t)) sync
+            (subst (λ (c : Bytes). (token_of c ≡ None) ⊎ (token_of c ≡ token_of token)) page (cursor_same cursor may.tells.cursor_is)),
+      )
+
+  -- a request of this device that is alive is of its account
+  number_is : (t : Bytes) (k : ℕ) → HasToken secret s.accounts (device_named s name) t → IsSession w.server t k → n ≡ k
+  number_is t k tok session =
+      let number : tok.number ≡ k = (token_session apart secret w s h differ name t tok k session).0 in
+      let device : tok.device ≡ d = one_there tok.device d (device_named s name) tok.named may.named in
+      apart_of apart s h.reached n tok.number a tok.account may.at tok.at (may.own ∙ sym (tok.own ∙ ap (λ (z : Device). z.account) device)) ∙ number
+
+  frame : DeviceFrame secret w (rows_after mid (says.counted ∷ [])) s later name
+  frame = record {
+    reached = took.along.reached;
+    accounts = took.accounts;
+    others = λ other off. same_device other;
+    shows = tokens_law mid later name d a says.counted took.along.shows took.along.has (record {
+      row = new;
+      puts = says.counted_is.puts_it;
+      identifier = ap (λ (c : OwnerColumns). c.identifier) says.counted_is.columns_are
+          ∙ identifier_of rows s name d a says.owner (holder_of rows s name d a (h.devices name) has) says.holds.owned;
+    });
+    shows_others = took.others;
+    sound = subst (λ (r : Rows). IsSound r) after_is sound;
+    unstale = unstale_same mid (rows_after mid (says.counted ∷ [])) (local_past mid says.counted (value.Owner new) says.counted_is.puts_it) took.along.unstale;
+    numbers = took.along.numbers;
+    own_token = token_after;
+    sync_tokens = tokens_after;
+    tokens = λ t k. subst (λ (o : Option Device). HasToken secret s.accounts o t) (sym (same_device name)) k;
+    live = λ t k tok session i was.
+        let same : n ≡ k = number_is t k tok session in
+        live_kept mid (rows_after mid (says.counted ∷ [])) (posted_same mid (rows_after mid (says.counted ∷ [])) (local_past mid says.counted (value.Owner new) says.counted_is.puts_it))
+        (w.server (key.Item i.uuid)) k i
+        (subst (λ (m : ℕ). LiveItem (w.server (key.Item i.uuid)) mid m i) same
+        (took.live i (subst (λ (m : ℕ). LiveItem (w.server (key.Item i.uuid)) rows m i) (sym same) was)));
+  }
+
+  pub applied_so : KeptBy secret next s moves
+  applied_so = (
+    took.legal,
+    device_kept secret w next s later name changes h on (subst (λ (r : Rows). DeviceFrame secret w r s later name) (sym after_is) frame),
+  )

@@ -1,0 +1,251 @@
+-- What a commit of one end leaves of the invariant, where it is known what it makes of that end's rows.
+use Rattle.std.proofs.Common.{◌≡◌, ◌≢◌, ◌≤◌, ℕ, List, [], ◌∷◌, Option, Some, None, Bool, true, false, refl, sym, ap, ◌∙◌, subst, inl, inr, arith}
+use Rattle.std.specs.Prelude.{find}
+use Rattle.std.specs.Str.{bytes_eq}
+use Rattle.sn_account.specs.Lookups.{HasStore}
+use Rattle.sn_account.specs.Sessions.{IsSession}
+use Rattle.sn_account.specs.Sound.{IsSound as IsSoundServer}
+use Rattle.sn_laws.proofs.Facts.{clash, same_text, text_same}
+use Rattle.sn_laws.specs.Each.{Each}
+use Rattle.sn_laws.specs.Lookups.{Bytes, device_named, greatest, is_device}
+use Rattle.sn_laws.specs.declared.ideal.Account.{Account}
+use Rattle.sn_laws.specs.declared.ideal.Device.{Device}
+use Rattle.sn_laws.specs.declared.ideal.Ideal.{Ideal}
+use Rattle.sn_rows.specs.Table.{Rows, rows_after}
+use Rattle.sn_rows.specs.declared.change.Change.{Change}
+use Rattle.sn_rows.specs.declared.device_rows.LocalItem.{LocalItem}
+use Rattle.sn_rows.specs.declared.key.Key.TheVariants as key
+use Rattle.sn_rows.specs.declared.server_rows.StoreRow.{StoreRow}
+use Rattle.sn_rows.specs.declared.value.Value.{Value}
+use Rattle.sn_shows.specs.Devices.{ShowsDevice}
+use Rattle.sn_shows.specs.Servers.{ShowsServer, account_at, stamps_in}
+use Rattle.sn_sync.specs.declared.item.Item.{Item}
+use Rattle.sn_world.specs.Holds.{AreFew, DeviceToken, HasToken, Holds, HoldsSync, IsSync, IsTokenBelow, NoneStale, NumbersOf, Reached, TokensBelow}
+use Rattle.sn_world.specs.Live.{KnownBelow, LiveItem, LiveItems}
+use Rattle.sn_client.specs.Sending.{SaysBase}
+use Rattle.sn_client.specs.States.{HasLocal, IsSound, token_of}
+use Rattle.sn_world.specs.World.{IsMade, Made, OnDevice, World}
+
+-- ---- worlds of the same parts
+
+pub same_world : (secret : Bytes) (next : World) (s : Ideal) (server : Rows) (devices : Bytes → Rows) (made : List Made) → next.server ≡ server
+    → next.devices ≡ devices → next.made ≡ made → Holds secret (record { server = server; devices = devices; made = made }) s → Holds secret next s
+same_world secret next s server devices made server_is devices_are made_is h =
+    subst (λ (r : Rows). Holds secret (record { server = r; devices = next.devices; made = next.made }) s) (sym server_is)
+    (subst (λ (f : Bytes → Rows). Holds secret (record { server = server; devices = f; made = next.made }) s) (sym devices_are)
+    (subst (λ (x : List Made). Holds secret (record { server = server; devices = devices; made = x }) s) (sym made_is) h))
+
+-- ---- a commit of the server
+
+-- the account of this number is there, with its identifier and its sets
+abbrev pub StillAt : List Account → ℕ → Account → Type 0
+StillAt accounts n a = (b : Account) × (account_at n accounts ≡ Some b) × (b.identifier ≡ a.identifier) × (b.sets ≡ a.sets)
+
+pub record ServerFrame (secret : Bytes) (w : World) (server : Rows) (s later : Ideal) : Type 0 where
+  pub reached : Reached later
+  pub few : AreFew later.accounts
+  pub keeps_secret : (store : StoreRow) → HasStore server store → store.secret ≡ secret
+  pub shows : ShowsServer server later.accounts
+  pub sound : (store : StoreRow) → HasStore server store → IsSoundServer server
+  pub devices : later.devices ≡ s.devices
+  pub shown : (rows : Rows) (name : Bytes) → ShowsDevice rows s name → ShowsDevice rows later name
+  pub numbers : (rows : Rows) (name : Bytes) → ShowsDevice rows s name → NumbersOf s name → NumbersOf later name
+  pub accounts : (n : ℕ) (a : Account) → account_at n s.accounts ≡ Some a → StillAt later.accounts n a
+  pub last : greatest 0 (stamps_in s.accounts) ≤ greatest 0 (stamps_in later.accounts)
+  pub session : (name token : Bytes) (n : ℕ) → HasToken secret s.accounts (device_named s name) token → IsSession server token n → IsSession w.server token n
+  pub live : (rows : Rows) (n : ℕ) (i : Item) → KnownBelow (greatest 0 (stamps_in s.accounts)) i → LiveItem (w.server (key.Item i.uuid)) rows n i
+      → LiveItem (server (key.Item i.uuid)) rows n i
+
+below_later : (found : Option Bytes) (last later : ℕ) → last ≤ later → IsTokenBelow found last → IsTokenBelow found later
+below_later None last later up h = tt
+below_later (Some text) last later up h = let low : h.0 ≤ last = h.2 in (h.0, h.1, omega arith)
+
+tokens_later : (device : Rows) (last later : ℕ) → last ≤ later → TokensBelow device last → TokensBelow device later
+tokens_later device last later up h owner has = let x = h owner has in (below_later (token_of owner.sync_token) last later up x.0, x.1)
+
+pub known_still : (last later : ℕ) (items : List Item) → last ≤ later → Each (KnownBelow last) items → Each (KnownBelow later) items
+known_still last later [] up h = tt
+known_still last later (i ∷ items) up h =
+    (λ text stamp e spelled. let low : stamp ≤ last = h.0 text stamp e spelled in omega arith, known_still last later items up h.1)
+
+pub live_still : (server later rows : Rows) (n last : ℕ) (items : List Item)
+    → ((i : Item) → KnownBelow last i → LiveItem (server (key.Item i.uuid)) rows n i → LiveItem (later (key.Item i.uuid)) rows n i)
+    → Each (KnownBelow last) items → LiveItems server rows n items → LiveItems later rows n items
+live_still server later rows n last [] f known h = tt
+live_still server later rows n last (i ∷ items) f known h = (f i known.0 h.0, live_still server later rows n last items f known.1 h.1)
+
+pub token_still : (secret : Bytes) (accounts now : List Account) (found : Option Device) (token : Bytes)
+    → ((n : ℕ) (a : Account) → account_at n accounts ≡ Some a → StillAt now n a) → HasToken secret accounts found token → HasToken secret now found token
+token_still secret accounts now found token still x =
+    let b = still x.number x.account x.at in
+    record {
+      number = x.number;
+      account = b.0;
+      at = b.1;
+      device = x.device;
+      named = x.named;
+      own = b.2 ∙ x.own;
+      generation = x.generation;
+      held = x.held;
+      is = x.is;
+    }
+
+module _ (secret : Bytes) (w : World) (server : Rows) (s later : Ideal) (h : Holds secret w s) (f : ServerFrame secret w server s later) where
+  same_device : (name : Bytes) → device_named later name ≡ device_named s name
+  same_device name = ap (find (is_device name)) f.devices
+
+  own_token : (name : Bytes) (d : Device) → device_named later name ≡ Some d → DeviceToken secret (w.devices name) later.accounts d
+  own_token name d named =
+      let x = h.own_tokens name d (sym (same_device name) ∙ named) in
+      let b = f.accounts x.number x.account x.at in
+      record { owner = x.owner; has = x.has; number = x.number; account = b.0; at = b.1; own = b.2 ∙ x.own; uuid_is = x.uuid_is; is = x.is }
+
+  sync_still : (m : Made) (token : Bytes) (items : List Item) → IsMade w m → IsSync m token items
+      → HoldsSync secret server (w.devices m.device) later m.device token items
+  sync_still m token items made is =
+      let x = h.syncs m token items made is in
+      record {
+        of_device = subst (λ (o : Option Device). HasToken secret later.accounts o token) (sym (same_device m.device))
+            (token_still secret s.accounts later.accounts (device_named s m.device) token f.accounts x.of_device);
+        known = known_still (greatest 0 (stamps_in s.accounts)) (greatest 0 (stamps_in later.accounts)) items f.last x.known;
+        live = λ n session.
+            live_still w.server server (w.devices m.device) n (greatest 0 (stamps_in s.accounts)) items (f.live (w.devices m.device) n) x.known
+            (x.live n (f.session m.device token n x.of_device session));
+      }
+
+  pub server_kept : Holds secret (record { server = server; devices = w.devices; made = w.made }) later
+  server_kept = record {
+    reached = f.reached;
+    few = f.few;
+    keeps_secret = f.keeps_secret;
+    server = f.shows;
+    server_sound = f.sound;
+    devices = λ name. f.shown (w.devices name) name (h.devices name);
+    sound = h.sound;
+    unstale = h.unstale;
+    numbers = λ name. f.numbers (w.devices name) name (h.devices name) (h.numbers name);
+    own_tokens = own_token;
+    sync_tokens = λ name. tokens_later (w.devices name) (greatest 0 (stamps_in s.accounts)) (greatest 0 (stamps_in later.accounts)) f.last (h.sync_tokens name);
+    syncs = sync_still;
+    no_change = h.no_change;
+    registers = h.registers;
+  }
+
+-- ---- a commit of a device
+
+pub record DeviceFrame (secret : Bytes) (w : World) (rows : Rows) (s later : Ideal) (name : Bytes) : Type 0 where
+  pub reached : Reached later
+  pub accounts : later.accounts ≡ s.accounts
+  pub others : (other : Bytes) → other ≢ name → device_named later other ≡ device_named s other
+  pub shows : ShowsDevice rows later name
+  pub shows_others : (at : Rows) (other : Bytes) → other ≢ name → ShowsDevice at s other → ShowsDevice at later other
+  pub sound : IsSound rows
+  pub unstale : NoneStale rows
+  pub numbers : (other : Bytes) → NumbersOf later other
+  pub sync_tokens : TokensBelow rows (greatest 0 (stamps_in s.accounts))
+  pub own_token : (d : Device) → device_named later name ≡ Some d → DeviceToken secret rows s.accounts d
+  pub tokens : (token : Bytes) → HasToken secret s.accounts (device_named s name) token → HasToken secret s.accounts (device_named later name) token
+  pub live : (token : Bytes) (n : ℕ) → HasToken secret s.accounts (device_named s name) token → IsSession w.server token n → (i : Item)
+      → LiveItem (w.server (key.Item i.uuid)) (w.devices name) n i → LiveItem (w.server (key.Item i.uuid)) rows n i
+
+live_all : (server rows now : Rows) (n : ℕ) (items : List Item) → ((i : Item) → LiveItem (server (key.Item i.uuid)) rows n i → LiveItem (server (key.Item i.uuid)) now n i)
+    → LiveItems server rows n items → LiveItems server now n items
+live_all server rows now n [] f h = tt
+live_all server rows now n (i ∷ items) f h = (f i h.0, live_all server rows now n items f h.1)
+
+module _ (secret : Bytes) (w next : World) (s later : Ideal) (name : Bytes) (changes : List Change) (h : Holds secret w s)
+    (on : OnDevice w next name changes) (f : DeviceFrame secret w (rows_after (w.devices name) changes) s later name) where
+  abbrev rows : Rows
+  rows = rows_after (w.devices name) changes
+
+  -- what holds of the device's rows now, and of those of each other device, holds of each device
+  of_each : (P : Bytes → Rows → Type 0) → P name rows → ((other : Bytes) → other ≢ name → P other (w.devices other)) → (other : Bytes) → P other (next.devices other)
+  of_each P own others other = by (bytes_eq other name) refl
+    where
+      by : (b : Bool) → bytes_eq other name ≡ b → P other (next.devices other)
+      by true same =
+          subst (λ (o : Bytes). P o (next.devices o)) (sym (same_text other name same)) (subst (λ (r : Rows). P name r) (sym on.own) own)
+      by false off =
+          let apart : other ≢ name = λ e. clash (bytes_eq other name) (text_same other name e) off in
+          subst (λ (r : Rows). P other r) (sym (on.others other apart)) (others other apart)
+
+  -- what is said of the accounts before is said of those after
+  of_accounts : (P : List Account → Type 0) → P s.accounts → P later.accounts
+  of_accounts P p = subst P (sym f.accounts) p
+
+  own_tokens : (other : Bytes) (d : Device) → device_named later other ≡ Some d → DeviceToken secret (next.devices other) later.accounts d
+  own_tokens other d named =
+      of_accounts (λ accounts. DeviceToken secret (next.devices other) accounts d)
+      (of_each (λ o r. (e : Device) → device_named later o ≡ Some e → DeviceToken secret r s.accounts e) f.own_token
+      (λ o apart e at. h.own_tokens o e (sym (f.others o apart) ∙ at)) other d named)
+
+  sync_after : (token : Bytes) (items : List Item) (m : Made) → IsMade w m → IsSync m token items
+      → HoldsSync secret w.server (next.devices m.device) later m.device token items
+  sync_after token items m made is = record {
+    of_device = of_accounts (λ accounts. HasToken secret accounts (device_named later m.device) token) token_after;
+    known = of_accounts (λ accounts. Each (KnownBelow (greatest 0 (stamps_in accounts))) items) x.known;
+    live = λ n session. items_after n session (x.live n session);
+  }
+    where
+      x : HoldsSync secret w.server (w.devices m.device) s m.device token items
+      x = h.syncs m token items made is
+
+      token_after : HasToken secret s.accounts (device_named later m.device) token
+      token_after =
+          of_each (λ o r. HasToken secret s.accounts (device_named s o) token → HasToken secret s.accounts (device_named later o) token) (f.tokens token)
+          (λ o apart k. subst (λ (found : Option Device). HasToken secret s.accounts found token) (sym (f.others o apart)) k) m.device x.of_device
+
+      items_after : (n : ℕ) → IsSession w.server token n → LiveItems w.server (w.devices m.device) n items → LiveItems w.server (next.devices m.device) n items
+      items_after n session =
+          of_each (λ o r. HasToken secret s.accounts (device_named s o) token → LiveItems w.server (w.devices o) n items → LiveItems w.server r n items)
+          (λ t. live_all w.server (w.devices name) rows n items (f.live token n t session)) (λ o apart t k. k) m.device x.of_device
+
+  pub device_kept : Holds secret next later
+  device_kept =
+      same_world secret next later w.server next.devices w.made on.server refl on.made
+      (record {
+        reached = f.reached;
+        few = of_accounts AreFew h.few;
+        keeps_secret = h.keeps_secret;
+        server = of_accounts (λ accounts. ShowsServer w.server accounts) h.server;
+        server_sound = h.server_sound;
+        devices = of_each (λ o r. ShowsDevice r later o) f.shows (λ o apart. f.shows_others (w.devices o) o apart (h.devices o));
+        sound = of_each (λ o r. IsSound r) f.sound (λ o apart. h.sound o);
+        unstale = of_each (λ o r. NoneStale r) f.unstale (λ o apart. h.unstale o);
+        numbers = f.numbers;
+        own_tokens = own_tokens;
+        sync_tokens = λ other.
+            of_accounts (λ accounts. TokensBelow (next.devices other) (greatest 0 (stamps_in accounts)))
+            (of_each (λ o r. TokensBelow r (greatest 0 (stamps_in s.accounts))) f.sync_tokens (λ o apart. h.sync_tokens o) other);
+        syncs = λ m token items made is. sync_after token items m made is;
+        no_change = h.no_change;
+        registers = h.registers;
+      })
+
+-- ---- what was posted stays live
+
+-- each row of which something was posted is there, with what is sent of it
+abbrev pub SentAlike : LocalItem → LocalItem → Type 0
+SentAlike local now = (now.uuid ≡ local.uuid) × (now.kind ≡ local.kind) × (now.base ≡ local.base) × (now.posted ≡ local.posted)
+
+abbrev pub KeepsPosted : Rows → Rows → Type 0
+KeepsPosted rows now = (number : ℕ) (local : LocalItem) → HasLocal rows number local → local.posted ≢ None → (l : LocalItem) × HasLocal now number l × SentAlike local l
+
+pub live_kept : (rows now : Rows) → KeepsPosted rows now → (found : Option Value) (n : ℕ) (i : Item) → LiveItem found rows n i → LiveItem found now n i
+live_kept rows now keeps found n i (inl x) = inl x
+live_kept rows now keeps found n i (inr (inl x)) = inr (inl x)
+live_kept rows now keeps found n i (inr (inr (inl x))) = inr (inr (inl x))
+live_kept rows now keeps found n i (inr (inr (inr x))) =
+    let some : x.local.posted ≢ None = λ none. let is : x.local.posted ≡ Some x.posted = x.posted_is in cc in
+    let l = keeps x.number x.local x.stands some in
+    inr (inr (inr (record {
+      number = x.number;
+      local = l.0;
+      stands = l.1;
+      uuid_is = l.2.0 ∙ x.uuid_is;
+      kind_is = l.2.1 ∙ x.kind_is;
+      base = subst (λ (b : Option ℕ). SaysBase b i.updated_at) (sym l.2.2) x.base;
+      posted = x.posted;
+      posted_is = l.2.3 ∙ x.posted_is;
+      body_is = x.body_is;
+    })))

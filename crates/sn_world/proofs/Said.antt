@@ -1,0 +1,58 @@
+-- Each step says some moves.
+use Rattle.std.proofs.Common.{◌≡◌, ℕ, List, [], ◌∷◌, Some, true, false, refl, sym, subst}
+use Rattle.std.specs.List.{AllZip}
+use Rattle.rand_chacha.specs.ChaCha.{ChaCha}
+use Rattle.sn_laws.specs.Lookups.{Bytes, account_named}
+use Rattle.sn_laws.specs.declared.ideal.Ideal.{Ideal}
+use Rattle.sn_laws.specs.declared.moves.Move.{Move}
+use Rattle.sn_rows.specs.Table.{Rows}
+use Rattle.sn_rows.specs.declared.change.Change.{Change}
+use Rattle.sn_shows.specs.Laws.{AccountsApart}
+use Rattle.sn_string.specs.declared.params.KeySet.{KeySet}
+use Rattle.sn_world.proofs.Begun.{at_named}
+use Rattle.sn_world.proofs.Tokens.{apart_of}
+use Rattle.sn_world.specs.Committing.{IsPostOf, MayBegin, MayCommit, SaysCommit, SaysJoin}
+use Rattle.sn_world.specs.Happens.{commits, makes, serves, starts}
+use Rattle.sn_world.specs.Holds.{Holds}
+use Rattle.sn_world.specs.Laws.{SaysSome}
+use Rattle.sn_client.specs.Sending.{PostsAll}
+use Rattle.sn_client.specs.Steps.{Step, What, adopts, applies, asks, begins, deletes, edits, forgets, posts, puts, renews}
+use Rattle.sn_world.specs.World.{World}
+
+pub posts_say : (rows : Rows) (name : Bytes) (numbers : List ℕ) (changes : List Change) → PostsAll rows numbers changes
+    → (moves : List Move) × AllZip (IsPostOf rows name) numbers moves
+posts_say rows name [] changes all = ([], tt)
+posts_say rows name (n ∷ ns) [] all = absurd all
+posts_say rows name (n ∷ ns) (c ∷ cs) (one, rest) =
+    let behind = posts_say rows name ns cs rest in
+    (_ ∷ behind.0, ((one.local, one.stands, refl), behind.1))
+
+join_said : AccountsApart → (secret : Bytes) (w : World) (s : Ideal) → Holds secret w s → (name : Bytes) (set : KeySet) (uuid token : Bytes)
+    → MayBegin secret s set uuid token → (moves : List Move) × SaysJoin s name set.params.identifier moves
+join_said apart secret w s h name set uuid token may =
+    let own = ((h.server.all.each may.number may.account may.at).generations _ set may.last).identifier in
+    let named : account_named s set.params.identifier ≡ Some may.account =
+    subst (λ (t : Bytes). account_named s t ≡ Some may.account) (sym own) (at_named s may.number may.account (apart_of apart s h.reached) may.at) in
+    (_, (may.account, named, refl))
+
+commit_said : AccountsApart → (secret : Bytes) (w : World) (s : Ideal) → Holds secret w s → (name : Bytes) (what : What) (words left : ChaCha) (changes : List Change)
+    → Step (w.devices name) words what changes left → MayCommit secret w.server (w.devices name) s name what changes
+    → (moves : List Move) × SaysCommit (w.devices name) s name what changes moves
+commit_said apart secret w s h name (begins set uuid token) words left changes step may = join_said apart secret w s h name set uuid token may
+commit_said apart secret w s h name (renews token) words left changes step may = ([], refl)
+commit_said apart secret w s h name (puts uuid kind text) words left changes step may = (_, refl)
+commit_said apart secret w s h name (edits uuid text) words left changes step may = (_, (step.number, step.local, step.stands, refl))
+commit_said apart secret w s h name (deletes uuid) words left changes step may = (_, (step.0.number, step.0.local, step.0.stands, refl))
+commit_said apart secret w s h name (posts numbers) words left changes step may = posts_say (w.devices name) name numbers changes step.0
+commit_said apart secret w s h name (applies request given) words left changes step may = may.1
+commit_said apart secret w s h name (asks set) words left changes step may = absurd may
+commit_said apart secret w s h name (adopts set token) words left changes step may = absurd may
+commit_said apart secret w s h name forgets words left changes step may = absurd may
+
+pub says_some : AccountsApart → SaysSome
+says_some apart secret w next s (starts changes stands) h does = ([], refl)
+says_some apart secret w next s (makes m) h does = ([], refl)
+says_some apart secret w next s (serves m now changes given true) h does = (_, refl)
+says_some apart secret w next s (serves m now changes given false) h does = ([], refl)
+says_some apart secret w next s (commits name what changes true) h (x, may) = commit_said apart secret w s h name what x.words x.left changes x.step may
+says_some apart secret w next s (commits name what changes false) h does = ([], refl)

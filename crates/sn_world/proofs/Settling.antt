@@ -1,0 +1,226 @@
+-- A version that has the content of the row's draft: the draft may be settled, and the rows show the state after it.
+use Rattle.std.proofs.Common.{◌≡◌, ℕ, List, [], ◌∷◌, Option, Some, None, true, refl, sym, ap, ◌∙◌, subst, inl, inr}
+use Rattle.std.specs.Prelude.{IsTrue}
+use Rattle.sn_account.specs.Stored.{IsGiven}
+use Rattle.sn_conflict.specs.Meetings.{HasContentOf, SameStrings}
+use Rattle.sn_items.specs.ItemLaws.{OneContent}
+use Rattle.sn_items.specs.Items.{OpensItem}
+use Rattle.sn_items.specs.declared.sealed.Sealed.{Sealed}
+use Rattle.sn_laws.proofs.Facts.{allowed_to, one_there}
+use Rattle.sn_laws.specs.Lookups.{Bytes, draft_at, greatest, last_of}
+use Rattle.sn_laws.specs.Moves.{after, allows}
+use Rattle.sn_laws.specs.Relation.{IsContentOf, IsLive}
+use Rattle.sn_laws.specs.declared.ideal.Account.{Account}
+use Rattle.sn_laws.specs.declared.ideal.Body.{Body}
+use Rattle.sn_laws.specs.declared.ideal.Body.TheVariants.{Gone}
+use Rattle.sn_laws.specs.declared.ideal.Content.{Content}
+use Rattle.sn_laws.specs.declared.ideal.Content.TheVariants as content
+use Rattle.sn_laws.specs.declared.ideal.Device.{Device}
+use Rattle.sn_laws.specs.declared.ideal.Draft.{Draft}
+use Rattle.sn_laws.specs.declared.ideal.Ideal.{Ideal}
+use Rattle.sn_laws.specs.declared.ideal.Version.{Version}
+use Rattle.sn_laws.specs.declared.moves.Move.TheVariants.{Settle}
+use Rattle.sn_rows.specs.Facts.{put_here}
+use Rattle.sn_rows.specs.Table.{Rows, rows_after}
+use Rattle.sn_rows.specs.declared.body.RowBody.{RowBody}
+use Rattle.sn_rows.specs.declared.body.RowBody.TheVariants as row_body
+use Rattle.sn_rows.specs.declared.change.Change.{Change}
+use Rattle.sn_rows.specs.declared.device_rows.LocalItem.{LocalItem}
+use Rattle.sn_rows.specs.declared.device_rows.SetRow.{SetRow}
+use Rattle.sn_rows.specs.declared.key.Key.TheVariants as key
+use Rattle.sn_rows.specs.declared.key.Slot.TheVariants.{Older}
+use Rattle.sn_rows.specs.declared.server_rows.ItemRow.{ItemRow}
+use Rattle.sn_rows.specs.declared.value.Value.{Value}
+use Rattle.sn_rows.specs.declared.value.Value.TheVariants as value
+use Rattle.sn_sets.specs.Sets.{OpensHeld, sealed_of}
+use Rattle.sn_shows.proofs.Facts.{holder_of}
+use Rattle.sn_shows.specs.Devices.{IsSetRow, ShowsContent, ShowsDevice, ShowsDrafted, ShowsHolder, ShowsOlder}
+use Rattle.sn_shows.specs.Laws.{PutsSettled, SettledShows}
+use Rattle.sn_shows.specs.Servers.{ShowsStrings}
+use Rattle.sn_shows.specs.Sets.{OpensUnder, set_at}
+use Rattle.sn_string.specs.declared.params.KeySet.{KeySet}
+use Rattle.sn_sync.specs.Laws.{HasOneStamp}
+use Rattle.sn_sync.specs.declared.item.Body.{Body as Sent}
+use Rattle.sn_sync.specs.declared.item.Body.TheVariants as body
+use Rattle.sn_sync.specs.declared.item.Item.{Item}
+use Rattle.sn_world.proofs.Based.{Based, based_on, given_gone, given_strings, gone_version, live_version, sealed_same}
+use Rattle.sn_world.proofs.DeviceSets.{account_is, identifier_of, one_set_row, present_at, set_of_row}
+use Rattle.sn_world.proofs.Removing.{no_row, removed_shows}
+use Rattle.sn_world.proofs.Standing.{its_last}
+use Rattle.sn_world.specs.Settling.{HasNoBase, MeetsOwnLast, OneSet, PulledAt, SettlesGone, SettlesOwn, TakesLast}
+use Rattle.sn_client.specs.States.{Columns, IsInSlot}
+
+-- under whatever sets of the account strings open, they open to one text
+one_open : (sets : List KeySet) (uuid : Bytes) (sealed : Sealed) (k m : ℕ) (a b : Bytes) → OneContent → OneSet sets → OpensUnder sets k uuid sealed a
+    → OpensUnder sets m uuid sealed b → a ≡ b
+one_open sets uuid sealed k m a b one_text one_set h r =
+    let number : k ≡ m = one_set sealed uuid k m a b h r in
+    let same : h.set ≡ r.set = one_there h.set r.set (set_at k sets) h.at (subst (λ (j : ℕ). set_at j sets ≡ Some r.set) (sym number) r.at) in
+    one_text sealed uuid r.set a b (subst (λ (s : KeySet). OpensItem sealed uuid s a) same h.opens) r.opens
+
+-- the older set is one of the account's
+older_at : (a : Account) (found : Option Value) (held : List ℕ) (keys : SetRow) → ShowsOlder a found held → found ≡ Some (value.Set keys)
+    → (k : ℕ) × IsSetRow a k keys
+older_at a found (older ∷ present ∷ []) keys h e =
+    (older, subst (λ (r : SetRow). IsSetRow a older r) (one_set_row h.0 keys found h.1 e) h.2)
+older_at a found held keys h e = absurd (cc)
+
+older_slot : (rows : Rows) (identifier : Bytes) (found : Option KeySet) (set : KeySet) → found ≡ Some set → IsInSlot rows identifier Older found
+    → IsInSlot rows identifier Older (Some set)
+older_slot rows identifier found set e h = subst (λ (o : Option KeySet). IsInSlot rows identifier Older o) e h
+
+module _ (server device : Rows) (s : Ideal) (name : Bytes) (n number : ℕ) (a : Account) (d : Device) (local : LocalItem) (i : Item)
+    (one_stamp : HasOneStamp) (one_text : OneContent) (x : MeetsOwnLast server device s name n number a d local i) where
+  abbrev g : ℕ
+  g = greatest 0 d.held
+
+  abbrev row : ItemRow
+  row = x.stored.0
+
+  abbrev gives : IsGiven i.uuid row i
+  gives = x.stored.3
+
+  holder : ShowsHolder device s name d a
+  holder = holder_of device s name d a x.shows x.has
+
+  present : set_at g a.sets ≡ Some x.sets.present
+  present = present_at device s name d a x.owner x.sets holder x.holds
+
+  -- what opens under a set that is held opens under one of the account's
+  held_under : (uuid : Bytes) (sealed : Sealed) (text : Bytes) → OpensHeld x.sets uuid sealed text → (k : ℕ) × OpensUnder a.sets k uuid sealed text
+  held_under uuid sealed text (inl opens) = (g, record { set = x.sets.present; at = present; opens = opens })
+  held_under uuid sealed text (inr older) =
+      let slot = older_slot device x.owner.identifier x.sets.older older.set older.held x.holds.before in
+      let at = older_at a (device (key.Set Older)) d.held slot.0 holder.older slot.1 in (
+        at.0,
+        record {
+          set = older.set;
+          at = set_of_row a at.0 slot.0 x.owner.identifier older.set (identifier_of device s name d a x.owner holder x.holds.owned) at.1 slot.2;
+          opens = older.opens;
+        },
+      )
+
+  version : (v : Version) × (last_of i.uuid a.versions ≡ Some v) × ShowsStrings a.sets i.uuid row v.body × (row.updated ≡ v.stamp) × (row.kind ≡ v.kind)
+  version = its_last server s.accounts n a i.uuid row x.accounts x.at x.stored.1 x.stored.2
+
+  drafted : (draft : Draft) × (draft_at s name i.uuid ≡ Some draft) × (local.kind ≡ draft.kind) × ShowsContent a.sets g i.uuid x.latest draft.latest
+  drafted =
+      subst (λ (u : Bytes). (draft : Draft) × (draft_at s name u ≡ Some draft) × (local.kind ≡ draft.kind) × ShowsContent a.sets g u x.latest draft.latest) x.stands.1
+      (of (draft_at s name local.uuid) refl (holder.locals number local x.stands.0).draft)
+    where
+      of : (found : Option Draft) → draft_at s name local.uuid ≡ found → ShowsDrafted a.sets g local found
+          → (draft : Draft) × (draft_at s name local.uuid ≡ Some draft) × (local.kind ≡ draft.kind) × ShowsContent a.sets g local.uuid x.latest draft.latest
+      of None e h = let none : local.latest ≡ None = h.0 in let some : local.latest ≡ Some x.latest = x.latest_is in absurd (cc)
+      of (Some draft) e h =
+          let same : h.latest ≡ x.latest = one_there h.latest x.latest local.latest h.latest_is x.latest_is in
+          (draft, e, h.kind, subst (λ (b : RowBody). ShowsContent a.sets g local.uuid b draft.latest) same h.content)
+
+  texts : (sealed other : Sealed) (text told : Bytes) (k : ℕ) → OpensUnder a.sets g i.uuid sealed text → OpensUnder a.sets k i.uuid other told
+      → SameStrings x.sets i.uuid sealed i.uuid other → text ≡ told
+  texts sealed other text told k ours theirs (inl is) =
+      one_open a.sets i.uuid sealed g k text told one_text x.one_set ours (subst (λ (z : Sealed). OpensUnder a.sets k i.uuid z told) (sym is) theirs)
+  texts sealed other text told k ours theirs (inr (t, first, second)) =
+      let our = held_under i.uuid sealed t first in
+      let their = held_under i.uuid other t second in
+      one_open a.sets i.uuid sealed g our.0 text t one_text x.one_set ours our.1 ∙ one_open a.sets i.uuid other their.0 k t told one_text x.one_set their.1 theirs
+
+  -- the draft's content is the version's
+  content_is : (b : RowBody) (c : Content) (given : Sent) → i.body ≡ given → ShowsContent a.sets g i.uuid b c → HasContentOf x.sets local b i given
+      → IsContentOf local.kind c version.0.kind version.0.body
+  content_is row_body.Deleted (content.Plain text) given e h k = absurd h
+  content_is (row_body.Sealed strings) content.Deleted given e h k = absurd h
+  content_is row_body.Deleted content.Deleted (body.Strings c enc) e h k = absurd k
+  content_is (row_body.Sealed strings) (content.Plain text) body.Deleted e h k = absurd k
+  content_is row_body.Deleted content.Deleted body.Deleted e h k =
+      let gone : row.deleted ≡ true = given_gone row row.deleted (sym gives.body ∙ e) in
+      subst (λ (z : Body). IsContentOf local.kind content.Deleted version.0.kind z) (sym (gone_version a.sets i.uuid row version.0.body version.2 gone)) tt
+  content_is (row_body.Sealed strings) (content.Plain text) (body.Strings c enc) e h (kind, same) =
+      let parts = given_strings row row.deleted c enc (sym gives.body ∙ e) in
+      let live = live_version a.sets i.uuid row version.0.body version.2 parts.0 in
+      let theirs : OpensUnder a.sets live.1 i.uuid (record { content = c; enc = enc }) live.0 =
+      subst (λ (z : Sealed). OpensUnder a.sets live.1 i.uuid z live.0) (sealed_same row.content row.enc c enc parts.1 parts.2) live.3 in
+      let alike : SameStrings x.sets i.uuid (sealed_of strings) i.uuid (record { content = c; enc = enc }) =
+      subst (λ (u : Bytes). SameStrings x.sets u (sealed_of strings) i.uuid (record { content = c; enc = enc })) x.stands.1 same in
+      subst (λ (z : Body). IsContentOf local.kind (content.Plain text) version.0.kind z) (sym live.2)
+      (kind ∙ gives.kind ∙ version.4, texts (sealed_of strings) (record { content = c; enc = enc }) text live.0 live.1 h theirs alike)
+
+  pub legal : IsTrue (allows s (Settle name i.uuid))
+  legal =
+      allowed_to s (Settle name i.uuid)
+      (record {
+        account = a;
+        draft = drafted.0;
+        is = record { has = account_is s name d a x.has; at = drafted.1 };
+        version = version.0;
+        last = version.1;
+        content = subst (λ (k : Bytes). IsContentOf k drafted.0.latest version.0.kind version.0.body) drafted.2
+            (content_is x.latest drafted.0.latest i.body refl drafted.3 x.same);
+      })
+
+  module _ (change : Change) (p : TakesLast change number i) where
+    abbrev new : LocalItem
+    new = p.puts.local
+
+    based : Based a change number i p version.0
+    unfolding version
+    based = based_on one_stamp server s.accounts n a i x.accounts x.at x.stored change number p
+
+    -- the row that is put has the version as its base
+    puts_settled : PutsSettled change number a local.uuid p.stands_on.stamp
+    puts_settled =
+        record {
+          item = new;
+          puts = p.puts.puts;
+          uuid_is = based.uuid_is ∙ sym x.stands.1;
+          base = based.base_is;
+          on = based.on;
+          latest = ap (λ (c : Columns). c.latest) p.puts.columns_are ∙ p.stands_on.latest_is;
+          posted = ap (λ (c : Columns). c.posted) p.puts.columns_are ∙ p.stands_on.posted_is;
+        }
+
+    pub shown : SettledShows → ShowsDevice (rows_after device (change ∷ [])) (after s (Settle name i.uuid)) name
+    shown law =
+        subst (λ (u : Bytes). ShowsDevice (rows_after device (change ∷ [])) (after s (Settle name u)) name) x.stands.1
+        (law device s name number local p.stands_on.stamp d a change x.shows x.has x.stands.0 puts_settled)
+
+    -- and up to any stamp this row is the last version
+    pub pulled : (upto : ℕ) → PulledAt (rows_after device (change ∷ [])) a upto i.uuid
+    pulled upto = record {
+      live = λ v last within is. (
+        number,
+        new,
+        (put_here device change (key.Local number) (value.Local new) p.puts.puts, based.uuid_is),
+        based.base_is ∙ ap Some (sym based.stamp_is ∙ ap (λ (w : Version). w.stamp) (one_there version.0 v (last_of i.uuid a.versions) version.1 last)),
+      );
+      gone = λ v last within not_live.
+          absurd (not_live (subst (λ (w : Version). IsLive w.body) (one_there version.0 v (last_of i.uuid a.versions) version.1 last)
+          (subst (λ (b : Body). IsLive b) (sym based.live.2) tt)));
+    }
+
+  -- of a deletion the row goes
+  pub gone_pulled : i.body ≡ body.Deleted → (rows : Rows) → HasNoBase rows i.uuid → (upto : ℕ) → PulledAt rows a upto i.uuid
+  gone_pulled deleted rows none upto =
+      let gone : row.deleted ≡ true = given_gone row row.deleted (sym gives.body ∙ deleted) in
+      let is : version.0.body ≡ Gone = gone_version a.sets i.uuid row version.0.body version.2 gone in
+      record {
+        live = λ v last within alive.
+            absurd (subst (λ (b : Body). IsLive b) is
+            (subst (λ (w : Version). IsLive w.body) (sym (one_there version.0 v (last_of i.uuid a.versions) version.1 last)) alive));
+        gone = λ v last within dead. none;
+      }
+
+pub settles_own : HasOneStamp → OneContent → SettledShows → SettlesOwn
+settles_own one_stamp one_text law server device s name n number a d local i change x p = (
+  legal server device s name n number a d local i one_stamp one_text x,
+  shown server device s name n number a d local i one_stamp one_text x change p law,
+  pulled server device s name n number a d local i one_stamp one_text x change p,
+)
+
+pub settles_gone : HasOneStamp → OneContent → SettlesGone
+settles_gone one_stamp one_text server device s name n number a d local i change x deleted gone = (
+  legal server device s name n number a d local i one_stamp one_text x,
+  subst (λ (u : Bytes). ShowsDevice (rows_after device (change ∷ [])) (after s (Settle name u)) name) x.stands.1
+      (removed_shows device s name number local d a change x.shows x.has x.stands.0 gone),
+  gone_pulled server device s name n number a d local i one_stamp one_text x deleted (rows_after device (change ∷ []))
+      (subst (λ (u : Bytes). HasNoBase (rows_after device (change ∷ [])) u) x.stands.1 (no_row device s name number local d a change x.shows x.has x.stands.0 gone)),
+)

@@ -1,0 +1,5 @@
+use Rattle.sn_world.proofs.Making.{makes_live}
+use Rattle.sn_world.proofs.laws.makes_live.Goals as goal
+
+pub returns : goal.returns
+returns c = makes_live c.one_stamp.ensures

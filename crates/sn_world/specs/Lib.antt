@@ -1,0 +1,12 @@
+pub mod Applying
+pub mod Committing
+pub mod First
+pub mod Happens
+pub mod Holds
+pub mod Laws
+pub mod Live
+pub mod Making
+pub mod Rounds
+pub mod Serving
+pub mod Settling
+pub mod World

@@ -1,0 +1,65 @@
+-- A request that a device makes of its rows.
+use Rattle.std.specs.Prelude.{◌≡◌, ◌≢◌, ℕ, List, ◌∷◌, Option, Some, None}
+use Rattle.sn_laws.specs.Each.{Each}
+use Rattle.sn_laws.specs.Lookups.{Bytes, greatest}
+use Rattle.sn_laws.specs.declared.ideal.Account.{Account}
+use Rattle.sn_laws.specs.declared.ideal.Device.{Device}
+use Rattle.sn_laws.specs.declared.ideal.Ideal.{Ideal}
+use Rattle.sn_rows.specs.Table.{Rows}
+use Rattle.sn_rows.specs.declared.device_rows.LocalItem.{LocalItem}
+use Rattle.sn_rows.specs.declared.device_rows.OwnerRow.{OwnerRow}
+use Rattle.sn_rows.specs.declared.key.Key.TheVariants as key
+use Rattle.sn_shows.specs.Devices.{ShowsDevice}
+use Rattle.sn_shows.specs.Laws.{HasAccount}
+use Rattle.sn_shows.specs.Servers.{account_at, stamps_in}
+use Rattle.sn_string.specs.declared.params.KeySet.{KeySet}
+use Rattle.sn_sync.specs.declared.item.Item.{Item}
+use Rattle.sn_sync.specs.declared.request.Request.{Request}
+use Rattle.sn_sync.specs.declared.request.Request.TheVariants as request
+use Rattle.sn_world.specs.Live.{KnownBelow, LiveItem}
+use Rattle.sn_client.specs.Sending.{IsSentAs}
+use Rattle.sn_client.specs.States.{HasLocal, HasOwner}
+use Rattle.sn_world.specs.World.{Made, World}
+
+-- the item is sent of a row, as what was posted of it
+abbrev pub SendsPosted : LocalItem → Item → Type 0
+SendsPosted local i = IsSentAs local i × (local.posted ≢ None)
+
+-- of some row of the device
+abbrev pub IsPostedOf : Rows → Item → Type 0
+IsPostedOf device i = (number : ℕ) × (local : LocalItem) × HasLocal device number local × SendsPosted local i
+
+-- a sync is of the device's rows, each posted, under its own token
+pub record MakesSync (device : Rows) (token : Bytes) (items : List Item) : Type 0 where
+  pub owner : OwnerRow
+  pub has : HasOwner device owner
+  pub token_is : token ≡ owner.token
+  pub from : Each (IsPostedOf device) items
+
+-- a registration asks for the set that it would begin
+pub record MakesRegister (begins : Option KeySet) (r : Request) : Type 0 where
+  pub set : KeySet
+  pub is : begins ≡ Some set
+  pub request_is : r ≡ request.Register set.params set.pw
+
+-- the request is one that the device's rows give, or its user's password; a change of password is none of these yet
+abbrev pub MakesOf : Rows → Option KeySet → Request → Type 0
+MakesOf device begins (request.Register params pw) = MakesRegister begins (request.Register params pw)
+MakesOf device begins (request.Params identifier) = Unit {0}
+MakesOf device begins (request.SignIn identifier pw) = Unit {0}
+MakesOf device begins (request.ChangePw token current pw cost nonce) = ⊥
+MakesOf device begins (request.Sync token items limit sync_token cursor_token) = MakesSync device token items
+
+-- it joins those that were made, delivered or not
+pub record Makes (w next : World) (m : Made) : Type 0 where
+  pub of : MakesOf (w.devices m.device) m.begins m.request
+  pub server : next.server ≡ w.server
+  pub devices : next.devices ≡ w.devices
+  pub made : next.made ≡ m ∷ w.made
+
+-- what is sent so is live, and names no version to come
+abbrev pub MakesLive : Type 0
+MakesLive = (server device : Rows) (s : Ideal) (name : Bytes) (n number : ℕ) (a : Account) (d : Device) (local : LocalItem) (i : Item)
+    → account_at n s.accounts ≡ Some a → HasAccount s name d a → ShowsDevice device s name
+    → HasLocal device number local → SendsPosted local i
+    → LiveItem (server (key.Item i.uuid)) device n i × KnownBelow (greatest 0 (stamps_in s.accounts)) i

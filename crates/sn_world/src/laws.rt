@@ -1,0 +1,157 @@
+//! What each step of the world keeps, by the definitions alone. The functions call the laws below them
+//! and do nothing else; their contracts are the laws.
+
+ghost use Rattle.sn_world.specs.Laws.{HoldsFirst, Keeps, KeepsCommitting, KeepsMaking, KeepsServing, KeepsStarting, RegisteredBegins, SaysSome, SendsArePosted, ServedTells, SignedInBegins, SignedInRenews, TraceKeeps};
+ghost use Rattle.sn_world.specs.Making.{MakesLive};
+ghost use Rattle.sn_world.specs.Rounds.{RoundsGo};
+
+use crate::settling_laws::{applies_live, settles_gone, settles_own};
+use sn_account::answer_laws::syncs_tell;
+use sn_account::rule_laws::stays_sound;
+use sn_client::{fresh_is_sound, stay_standing, steps_stay_sound};
+use sn_shows::device_laws::{
+    edit_keeps, edited_shows, join_keeps, joined_shows, post_keeps, posted_shows, settle_keeps,
+    tokens_show,
+};
+use sn_shows::server_laws::{
+    accept_keeps, accepted_last, accepted_shows, accounts_apart, register_keeps, registered_shows,
+    store_shows,
+};
+use sn_sync::laws::one_stamp;
+
+/// The invariant holds before anything happened.
+pub fn holds_first()
+    ensures { HoldsFirst }
+{
+    fresh_is_sound();
+}
+
+/// The server's first commit keeps it.
+pub fn keeps_starting()
+    ensures { KeepsStarting }
+{
+    store_shows();
+}
+
+/// What a device sends of its rows, each posted, may be accepted or changes nothing.
+pub fn makes_live()
+    ensures { MakesLive }
+{
+    one_stamp();
+}
+
+/// A request that a device makes keeps the invariant, whether it is delivered or not.
+pub fn keeps_making()
+    ensures { KeepsMaking }
+{
+    accounts_apart();
+    makes_live();
+}
+
+/// Any request that was made is served, at any time and as often as may be: the moves that its batch
+/// says are legal, and the invariant holds after them.
+pub fn keeps_serving()
+    ensures { KeepsServing }
+{
+    accepted_shows();
+    accepted_last();
+    accept_keeps();
+    accounts_apart();
+    store_shows();
+    one_stamp();
+    registered_shows();
+    register_keeps();
+    stays_sound();
+}
+
+/// What a registration is answered with is what a device may begin with.
+pub fn registered_begins()
+    ensures { RegisteredBegins }
+{}
+
+/// What a sign-in is answered with is what a device may begin with.
+pub fn signed_in_begins()
+    ensures { SignedInBegins }
+{}
+
+/// And what a device of the account may renew its session token with.
+pub fn signed_in_renews()
+    ensures { SignedInRenews }
+{
+    accounts_apart();
+}
+
+/// What a round of a device's sync posts and sends may be committed and made, and its answer applied.
+pub fn sends_are_posted()
+    ensures { SendsArePosted }
+{}
+
+/// The answer to a sync is what its device may apply, before another request is served.
+pub fn served_tells()
+    ensures { ServedTells }
+{
+    accounts_apart();
+    syncs_tell();
+    keeps_serving();
+}
+
+/// A device commits its first rows, a renewed session token, a new item, an edit, a deletion, drafts that
+/// it posts, or an answer where no draft meets another's version: the moves are legal, and the invariant
+/// holds after them.
+pub fn keeps_committing()
+    ensures { KeepsCommitting }
+{
+    accounts_apart();
+    joined_shows();
+    join_keeps();
+    tokens_show();
+    edited_shows();
+    edit_keeps();
+    posted_shows();
+    post_keeps();
+    steps_stay_sound();
+    stay_standing();
+    one_stamp();
+    settles_own();
+    settles_gone();
+    applies_live();
+    settle_keeps();
+}
+
+/// Each step of the world keeps the invariant, and its moves are legal.
+pub fn keeps()
+    ensures { Keeps }
+{
+    keeps_starting();
+    keeps_making();
+    keeps_serving();
+    keeps_committing();
+}
+
+/// Each step says some moves.
+pub fn says_some()
+    ensures { SaysSome }
+{
+    accounts_apart();
+}
+
+/// Whatever steps are made from the beginning on, and however requests of several devices are delivered:
+/// their moves are legal, and both ends show the state to which these lead.
+pub fn trace_keeps()
+    ensures { TraceKeeps }
+{
+    holds_first();
+    keeps();
+}
+
+/// A round of a device's sync, over a server that answers by its rule, is such steps, where in its answer
+/// no draft meets another's version.
+pub fn rounds_go()
+    ensures { RoundsGo }
+{
+    keeps_committing();
+    keeps_making();
+    keeps_serving();
+    served_tells();
+    sends_are_posted();
+}

@@ -1,0 +1,12 @@
+//! Both ends as one world, the invariant that they keep, and the laws that each step keeps it.
+#![tactic(auto)]
+
+mod laws;
+mod settling_laws;
+
+pub use laws::{
+    holds_first, keeps, keeps_committing, keeps_making, keeps_serving, keeps_starting, makes_live,
+    registered_begins, rounds_go, says_some, sends_are_posted, served_tells, signed_in_begins,
+    signed_in_renews, trace_keeps,
+};
+pub use settling_laws::{applies_live, keeps_settling, settles_gone, settles_own};
