@@ -1,0 +1,30 @@
+# Completion of `sn` for fish: put this file into ~/.config/fish/completions.
+
+complete -c sn -f
+complete -c sn -n __fish_use_subcommand -s h -l help -d 'Print help'
+complete -c sn -n __fish_use_subcommand -s V -l version -d 'Print version'
+
+complete -c sn -n __fish_use_subcommand -a seal -d 'Seal standard input as one 003 string'
+complete -c sn -n __fish_use_subcommand -a open -d 'Open one 003 string'
+complete -c sn -n __fish_use_subcommand -a show -d 'Show the parts of one 003 string'
+complete -c sn -n __fish_use_subcommand -a replay -d 'Carry out a script of several devices and a server'
+complete -c sn -n __fish_use_subcommand -a serve -d 'Serve the accounts of a store'
+complete -c sn -n __fish_use_subcommand -a register -d 'Begin an account, and a device of it'
+complete -c sn -n __fish_use_subcommand -a signin -d 'Begin another device of an account'
+complete -c sn -n __fish_use_subcommand -a put -d 'Put a new note'
+complete -c sn -n __fish_use_subcommand -a edit -d 'Change a note'
+complete -c sn -n __fish_use_subcommand -a del -d 'Delete a note'
+complete -c sn -n __fish_use_subcommand -a list -d 'List the notes, or write one'
+complete -c sn -n __fish_use_subcommand -a sync -d 'Bring the device and its server together'
+
+complete -c sn -n '__fish_seen_subcommand_from seal open show replay serve register signin put edit del list sync' -s h -l help -d 'Print help'
+complete -c sn -n '__fish_seen_subcommand_from serve register signin put edit del list sync' -l store -r -F -d 'The file of the store'
+complete -c sn -n '__fish_seen_subcommand_from register signin sync' -l server -x -d 'The server, HOST:PORT'
+complete -c sn -n '__fish_seen_subcommand_from seal register signin' -l identifier -x -d 'The account'
+complete -c sn -n '__fish_seen_subcommand_from seal register' -l cost -x -d 'Iterations of PBKDF2'
+complete -c sn -n '__fish_seen_subcommand_from seal open edit del list' -l uuid -x -d 'The note'
+complete -c sn -n '__fish_seen_subcommand_from seal open' -l key -x -d '128 hex digits'
+complete -c sn -n '__fish_seen_subcommand_from seal' -l nonce -x -d 'The nonce of the account'
+complete -c sn -n '__fish_seen_subcommand_from put' -l title -x -d 'A title, with the text of the note as input'
+complete -c sn -n '__fish_seen_subcommand_from serve' -l port -x -d 'The port, or 0'
+complete -c sn -n '__fish_seen_subcommand_from serve' -l requests -x -d 'How many requests to answer'
