@@ -6,6 +6,7 @@ import hmac
 import http.client
 import json
 import os
+import resource
 import shutil
 import signal
 import subprocess
@@ -18,12 +19,13 @@ MOST_REQUESTS = 1_000_000
 
 
 class Served:
-    """A server over one store, in a process of its own. The system chooses the port."""
+    """A server over one store, in a process of its own, which gets no more memory than is said. The system chooses the port."""
 
-    def __init__(self, store, requests=MOST_REQUESTS, port=0):
+    def __init__(self, store, requests=MOST_REQUESTS, port=0, memory=None):
         words = ["serve", "--store", store, "--port", str(port), "--requests", str(requests)]
         pipes = dict(stdin=subprocess.DEVNULL, stdout=subprocess.PIPE, stderr=subprocess.PIPE)
-        self.process = subprocess.Popen([program.SN] + words, **pipes)
+        limits = None if memory is None else lambda: resource.setrlimit(resource.RLIMIT_AS, (memory, memory))
+        self.process = subprocess.Popen([program.SN] + words, preexec_fn=limits, **pipes)
         line = self.process.stdout.readline()
         self.port = int(line.split()[1]) if line.startswith(b"listening ") else None
 

@@ -1,8 +1,10 @@
 """The script `sn` from the state of a fresh clone: one build at a time, and no half program, whatever is cut off."""
 
 import os
+import pty
 import shutil
 import signal
+import subprocess
 import unittest
 
 import scratch
@@ -136,6 +138,43 @@ class Builds(unittest.TestCase):
     def test_without_the_toolchain(self):
         self.clone.remove("bin/rt")
         self.assertEqual(self.clone.run("word"), (1, b"", "sn: the toolchain's command rt is not on the path\n"))
+
+
+USAGE = r"""#!/usr/bin/env bash
+if [ "$1" = --version ]; then exit 0; fi
+echo "sn: usage" >&2
+exit "${2-2}"
+"""
+
+
+class AtATerminal(unittest.TestCase):
+    """A faulty command line gets a hint, at a terminal alone."""
+
+    def setUp(self):
+        self.clone = scratch.Clone()
+        self.addCleanup(self.clone.close)
+        self.clone.write("program", USAGE)
+        self.assertEqual(self.clone.run("frob")[0], 2)
+
+    def told(self, *words):
+        """Status, and what comes to a terminal as standard error."""
+        terminal, inside = pty.openpty()
+        try:
+            done = subprocess.run(["./sn", *words], cwd=self.clone.top, env=self.clone.environment, stdin=subprocess.DEVNULL, stderr=inside)
+            return done.returncode, os.read(terminal, 65536).decode().replace("\r\n", "\n")
+        finally:
+            os.close(terminal)
+            os.close(inside)
+
+    def test_a_hint(self):
+        status, text = self.told("frob")
+        self.assertEqual((status, text.splitlines()[0], len(text.splitlines())), (2, "sn: usage", 2))
+        self.assertIn("./sn --help", text)
+
+    def test_none(self):
+        self.assertEqual(self.clone.run("frob")[2], "sn: usage\n")
+        self.assertEqual(self.told("frob", "3"), (3, "sn: usage\n"))
+        self.assertEqual(self.told("serve"), (2, "sn: usage\n"))
 
 
 class WithoutFlock(Builds):

@@ -1,6 +1,7 @@
 """The commands as a user runs them: sizes, refusals, statuses and the line of each."""
 
 import json
+import re
 import unittest
 
 import program
@@ -133,6 +134,21 @@ class Show(unittest.TestCase):
 
 
 class Help(unittest.TestCase):
+    OPTIONS = {
+        "seal": "uuid key identifier cost nonce",
+        "open": "uuid key",
+        "show": "",
+        "replay": "",
+        "serve": "store port requests",
+        "register": "store server identifier cost",
+        "signin": "store server identifier",
+        "put": "store title",
+        "edit": "store uuid",
+        "del": "store uuid",
+        "list": "store uuid",
+        "sync": "store server",
+    }
+
     def answer(self, words):
         status, out, err = program.run(words, b"not read")
         self.assertEqual((status, err), (0, b""), words)
@@ -144,19 +160,22 @@ class Help(unittest.TestCase):
     def test_each_command_is_named(self):
         for words in (["--help"], ["-h"]):
             text = self.answer(words)
-            for word in ("seal", "open", "show", "replay", "--help", "--version"):
+            for word in (*self.OPTIONS, "--help", "--version"):
                 self.assertIn(word, text)
 
     def test_the_usage_names_the_program(self):
         self.assertIn("Usage: sn <COMMAND>", self.answer(["--help"]))
-        for command in ("seal", "open", "show", "replay"):
+        for command in self.OPTIONS:
             self.assertIn("Usage: sn %s" % command, self.answer([command, "--help"]))
 
     def test_each_option_is_told(self):
-        for command, options in (("seal", "uuid key identifier cost nonce"), ("open", "uuid key"), ("show", ""), ("replay", "")):
-            text = self.answer([command, "--help"])
-            for option in options.split():
-                self.assertIn("--" + option, text)
+        for command, options in self.OPTIONS.items():
+            lines = re.findall(r"^ +(?:-\w, )?--(\w+)", self.answer([command, "--help"]), re.M)
+            self.assertEqual(lines, [*options.split(), "help"])
+
+    def test_none_asks_for_a_password(self):
+        for command in ["", *self.OPTIONS]:
+            self.assertNotIn("--password", self.answer([command, "--help"] if command else ["--help"]))
 
 
 if __name__ == "__main__":

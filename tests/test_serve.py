@@ -256,6 +256,33 @@ class Silent(unittest.TestCase):
             self.assertEqual(server.ended(), (0, b""))
 
 
+class Memory(unittest.TestCase):
+    """Where memory is wanting for a request it is refused, nothing of it is kept, and the next one is served."""
+
+    LIMIT = 16 << 20
+
+    def test_an_item_that_is_too_much(self):
+        other = "00000000-0000-4000-8000-000000000002"
+        with serving.Store() as store:
+            with serving.Served(store, memory=self.LIMIT) as server:
+                client = serving.Client(server.port)
+                self.assertEqual(client.register("alice", PW)[0], 200)
+                self.assertEqual(client.sync([serving.item_of(ITEM, b"small")])[0], 200)
+                before = rows_of(store)
+                large = serving.item_of(other, b"x" * 500_000)
+                for _ in range(3):
+                    self.assertEqual(client.sync([large]), (503, {"error": {"tag": "memory"}}))
+                self.assertEqual(rows_of(store), before)
+                status, given = client.sync()
+                self.assertEqual((status, [item["uuid"] for item in given["retrieved_items"]]), (200, [ITEM]))
+            # The same item is taken where memory suffices.
+            with serving.Served(store) as server:
+                client = serving.Client(server.port)
+                client.sign_in("alice", PW)
+                status, given = client.sync([large])
+                self.assertEqual((status, [item["uuid"] for item in given["saved_items"]]), (200, [other]))
+
+
 class Killed(unittest.TestCase):
     """Stopped at any moment, it has every item that it acknowledged, and nothing half."""
 
