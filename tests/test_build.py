@@ -49,6 +49,27 @@ class Builds(unittest.TestCase):
         self.assertEqual(self.clone.run(shell="echo x | ./sn a | ./sn b")[:2], (0, b"program b\nprogram a\nx\n"))
         self.assertEqual(self.clone.builds(), 1)
 
+    def test_a_program_that_the_gate_proved(self):
+        proved = os.path.join(self.clone.scratch, "program")
+        self.clone.environment["SN_PROVED"] = proved
+        self.answers(self.clone.run("word", given=b"text"), b"word", b"text")
+        self.assertEqual(self.clone.builds(), 0)
+        first = self.one_program()
+        del self.clone.environment["SN_PROVED"]
+        self.answers(self.clone.run("word"), b"word", b"")
+        self.assertEqual((self.clone.builds(), self.one_program()), (0, first))
+        self.clone.write("clone/crates/sn_low/src/lib.rt", "// changed\n")
+        self.answers(self.clone.run("word"), b"word", b"")
+        self.assertEqual(self.clone.builds(), 1)
+        self.assertNotEqual(self.one_program(), first)
+
+    def test_a_program_that_is_not_there(self):
+        self.clone.environment["SN_PROVED"] = os.path.join(self.clone.scratch, "nothing")
+        status, out, err = self.clone.run("word")
+        self.assertEqual((status, out, self.clone.builds()), (1, b"", 0))
+        self.assertIn("sn: the program can't be written to .built\n", err)
+        self.assertEqual(self.clone.kept(), [])
+
     def test_how_far_it_is(self):
         status, out, err = self.clone.run("word")
         self.assertEqual((status, out), (0, b"program word\n"))
@@ -204,6 +225,27 @@ class WithoutFlock(Builds):
         os.makedirs(os.path.join(self.clone.top, ".built", "building"))
         self.left_lock()
         self.answers(self.clone.run("word"), b"word", b"")
+
+    def test_a_program_that_the_gate_proved(self):
+        proved = os.path.join(self.clone.scratch, "program")
+        self.clone.environment["SN_PROVED"] = proved
+        self.answers(self.clone.run("word", given=b"text"), b"word", b"text")
+        self.assertEqual(self.clone.builds(), 0)
+        first = self.one_program()
+        del self.clone.environment["SN_PROVED"]
+        self.answers(self.clone.run("word"), b"word", b"")
+        self.assertEqual((self.clone.builds(), self.one_program()), (0, first))
+        self.clone.write("clone/crates/sn_low/src/lib.rt", "// changed\n")
+        self.answers(self.clone.run("word"), b"word", b"")
+        self.assertEqual(self.clone.builds(), 1)
+        self.assertNotEqual(self.one_program(), first)
+
+    def test_a_program_that_is_not_there(self):
+        self.clone.environment["SN_PROVED"] = os.path.join(self.clone.scratch, "nothing")
+        status, out, err = self.clone.run("word")
+        self.assertEqual((status, out, self.clone.builds()), (1, b"", 0))
+        self.assertIn("sn: the program can't be written to .built\n", err)
+        self.assertEqual(self.clone.kept(), [])
 
     def test_how_far_it_is(self):
         self.assertIn("sn: flock is not installed", self.clone.run("word")[2])
