@@ -1,80 +1,62 @@
 -- Versions stay.
 use Rattle.std.proofs.Common.{◌≡◌, ℕ, List, [], ◌∷◌, ◌++◌, length, Option, Some, None, Bool, true, false, refl, sym, ap, ◌∙◌, subst, append_assoc}
-use Rattle.std.specs.Prelude.{cond, if◌then◌else◌, find}
-use Rattle.std.specs.Str.{bytes_eq}
+use Rattle.std.proofs.lemmas.List.{append-nil}
+use Rattle.std.specs.Prelude.{if◌then◌else◌, find}
 use Rattle.sn_laws.specs.declared.ideal.Version.{Version}
 use Rattle.sn_laws.specs.declared.ideal.Account.{Account}
 use Rattle.sn_laws.specs.declared.ideal.Draft.{Draft}
 use Rattle.sn_laws.specs.declared.ideal.Ideal.{Ideal}
 use Rattle.sn_laws.specs.declared.moves.Move.{Move}
-use Rattle.sn_laws.specs.declared.moves.Move.TheVariants.{Register, Join, Edit, Post, Accept, Settle}
+use Rattle.sn_laws.specs.declared.moves.Move.TheVariants.{Register, Accept, Rewrap, Change}
 use Rattle.sn_laws.specs.Laws.{Keeps}
-use Rattle.sn_laws.specs.Lookups.{Bytes, account_named, account_of, draft_at, empty, is_account}
-use Rattle.sn_laws.specs.Moves.{accepted, after, changed_where, version_of}
+use Rattle.sn_laws.specs.Lookups.{Bytes, account_named, account_of, account_with, draft_at, empty, is_account, last_of}
+use Rattle.sn_laws.specs.Moves.{accepted, after, again, changed_where, rewrapped, version_of}
 use Rattle.sn_laws.specs.Runs.{end_from}
+use Rattle.sn_laws.proofs.ChangedLemmas.{find_changed}
+use Rattle.sn_laws.proofs.FindLemmas.{find_before}
 use Rattle.sn_laws.proofs.RunLemmas.{end_from-append}
 
-append_none : (vs : List Version) → vs ≡ vs ++ []
-append_none [] = refl
-append_none (v ∷ vs) = ap (λ rest. v ∷ rest) (append_none vs)
-
 same : (a : Account) (found : Option Account) → found ≡ Some a → Keeps a found
-same a found e = record { now_is = a; found_is = e; later = []; versions = append_none a.versions }
+same a found e = record { now_is = a; found_is = e; later = []; versions = sym (append-nil a.versions) }
 
-pub find_before : (p : Account → Bool) (xs ys : List Account) (a : Account) → find p xs ≡ Some a → find p (xs ++ ys) ≡ Some a
-find_before p [] ys a h = absurd (cc)
-find_before p (x ∷ xs) ys a h = at (λ e. find_before p xs ys a e) (p x) h
+-- a change of some accounts leaves identifiers, and adds versions at the end
+keeps_changed : (q : Account → Bool) (f : Account → Account) (later : List Version) → ((x : Account) → (f x).identifier ≡ x.identifier)
+    → ((x : Account) → (f x).versions ≡ x.versions ++ later) → (identifier : Bytes) (xs : List Account) (a : Account)
+    → find (is_account identifier) xs ≡ Some a → Keeps a (find (is_account identifier) (changed_where q f xs))
+keeps_changed q f later named grown identifier xs a h =
+    at (q a) (find_changed (is_account identifier) q f (λ x. ap (λ n. is_account identifier (record x { identifier = n })) (named x)) xs a h)
   where
-    at : (find p xs ≡ Some a → find p (xs ++ ys) ≡ Some a) → (b : Bool) → cond b (Some x) (find p xs) ≡ Some a → cond b (Some x) (find p (xs ++ ys)) ≡ Some a
-    at rest true e = e
-    at rest false e = rest e
+    at : (b : Bool) → find (is_account identifier) (changed_where q f xs) ≡ Some (if b then f a else a)
+        → Keeps a (find (is_account identifier) (changed_where q f xs))
+    at true e = record { now_is = f a; found_is = e; later = later; versions = grown a }
+    at false e = same a (find (is_account identifier) (changed_where q f xs)) e
 
--- an account with one version more
-abbrev more : Version → Account → Account
-more w b = record b { versions = b.versions ++ w ∷ [] }
-
-named : (w : Version) (identifier : Bytes) (q : Bool) (x : Account) → is_account identifier (if q then more w x else x) ≡ is_account identifier x
-named w identifier true x = refl
-named w identifier false x = refl
-
-kept : (w : Version) (x a : Account) → Some x ≡ Some a → Keeps a (Some (more w x))
-kept w x a e =
-    let same : x ≡ a = cc in
-    record { now_is = more w x; found_is = refl; later = w ∷ []; versions = ap (λ (b : Account). b.versions ++ w ∷ []) same }
-
-find_changed : (w : Version) (identifier other : Bytes) (xs : List Account) (a : Account) → find (is_account identifier) xs ≡ Some a
-    → Keeps a (find (is_account identifier) (changed_where (is_account other) (more w) xs))
-find_changed w identifier other [] a h = absurd (cc)
-find_changed w identifier other (x ∷ xs) a h =
-    subst (λ p. Keeps a (cond p (Some (if is_account other x then more w x else x)) (find (is_account identifier) (changed_where (is_account other) (more w) xs))))
-    (sym (named w identifier (is_account other x) x))
-    (at (λ e. find_changed w identifier other xs a e) (is_account other x) (is_account identifier x) h)
-  where
-    at : (find (is_account identifier) xs ≡ Some a → Keeps a (find (is_account identifier) (changed_where (is_account other) (more w) xs)))
-        → (q p : Bool) → cond p (Some x) (find (is_account identifier) xs) ≡ Some a
-        → Keeps a (cond p (Some (if q then more w x else x)) (find (is_account identifier) (changed_where (is_account other) (more w) xs)))
-    at rest true true e = kept w x a e
-    at rest false true e = same a (Some x) e
-    at rest true false e = rest e
-    at rest false false e = rest e
-
-find_accepted : (identifier : Bytes) (xs : List Account) (b : Option Account) (d : Option Draft) (stamp : ℕ) (a : Account)
+keeps_accepted : (identifier : Bytes) (xs : List Account) (b : Option Account) (d : Option Draft) (stamp : ℕ) (a : Account)
     → find (is_account identifier) xs ≡ Some a → Keeps a (find (is_account identifier) (accepted xs b d stamp))
-find_accepted identifier xs None d stamp a h = same a (find (is_account identifier) xs) h
-find_accepted identifier xs (Some b) None stamp a h = same a (find (is_account identifier) xs) h
-find_accepted identifier xs (Some b) (Some d) stamp a h = find_changed (version_of stamp (length b.sets) d) identifier b.identifier xs a h
+keeps_accepted identifier xs None d stamp a h = same a (find (is_account identifier) xs) h
+keeps_accepted identifier xs (Some b) None stamp a h = same a (find (is_account identifier) xs) h
+keeps_accepted identifier xs (Some b) (Some d) stamp a h =
+    let w : Version = version_of stamp (length b.sets) d in
+    keeps_changed (is_account b.identifier) (λ x. record x { versions = x.versions ++ w ∷ [] }) (w ∷ []) (λ x. refl) (λ x. refl) identifier xs a h
+
+keeps_rewrapped : (identifier uuid : Bytes) (xs : List Account) (b : Option Account) (stamp : ℕ) (a : Account)
+    → find (is_account identifier) xs ≡ Some a → Keeps a (find (is_account identifier) (rewrapped xs b uuid stamp))
+keeps_rewrapped identifier uuid xs None stamp a h = same a (find (is_account identifier) xs) h
+keeps_rewrapped identifier uuid xs (Some b) stamp a h =
+    let ws : List Version = again stamp (length b.sets) (last_of uuid b.versions) in
+    keeps_changed (is_account b.identifier) (λ x. record x { versions = x.versions ++ ws }) ws (λ x. refl) (λ x. refl) identifier xs a h
 
 pub keeps_step : (s : Ideal) (m : Move) (identifier : Bytes) (a : Account) → account_named s identifier ≡ Some a
     → Keeps a (account_named (after s m) identifier)
 keeps_step s (Register other set) identifier a h =
     same a (account_named (after s (Register other set)) identifier)
     (find_before (is_account identifier) s.accounts (record { identifier = other; sets = set ∷ []; versions = [] } ∷ []) a h)
-keeps_step s (Join device other number) identifier a h = same a (account_named s identifier) h
-keeps_step s (Edit device uuid kind base latest) identifier a h = same a (account_named s identifier) h
-keeps_step s (Post device uuid) identifier a h = same a (account_named s identifier) h
 keeps_step s (Accept device uuid stamp under) identifier a h =
-    find_accepted identifier s.accounts (account_of s device) (draft_at s device uuid) stamp a h
-keeps_step s (Settle device uuid) identifier a h = same a (account_named s identifier) h
+    keeps_accepted identifier s.accounts (account_of s device) (draft_at s device uuid) stamp a h
+keeps_step s (Rewrap uuid stamp under) identifier a h = keeps_rewrapped identifier uuid s.accounts (account_with s.accounts uuid) stamp a h
+keeps_step s (Change other number set) identifier a h =
+    keeps_changed (is_account other) (λ x. record x { sets = x.sets ++ set ∷ [] }) [] (λ x. refl) (λ x. sym (append-nil x.versions)) identifier s.accounts a h
+keeps_step s m identifier a h = same a (account_named s identifier) h
 
 further : (a b : Account) (found : Option Account) (later : List Version) → b.versions ≡ a.versions ++ later → Keeps b found → Keeps a found
 further a b found later e k =

@@ -1,14 +1,12 @@
 -- The tests of the code are the relation.
 use Rattle.std.proofs.Common.{◌≡◌, ◌≢◌, ◌⊎◌, ◌<◌, ◌≤◌, ℕ, List, [], ◌∷◌, length, Option, Some, None, Bool, true, false, refl, sym, ap, ◌∙◌, subst, inl, inr, ⊎_elim}
-use Rattle.std.specs.Prelude.{IsTrue, ◌&&◌, ◌||◌, ◌==◌, ◌↔◌, not, is_some, is_none, nat_lt, nat_le, if◌then◌else◌}
+use Rattle.std.specs.Prelude.{IsTrue, ◌&&◌, ◌||◌, ◌==◌, ◌↔◌, not, is_some, nat_lt, nat_le, if◌then◌else◌}
 use Rattle.std.specs.List.{list_all, list_any}
 use Rattle.std.specs.Str.{bytes_eq}
 use Rattle.std.proofs.lemmas.Bool.{and_parts}
 use Rattle.sn_items.specs.Objects.{is_object}
 use Rattle.sn_laws.specs.declared.ideal.Content.{Content}
 use Rattle.sn_laws.specs.declared.ideal.Content.TheVariants.{Plain, Deleted}
-use Rattle.sn_laws.specs.declared.ideal.Body.{Body}
-use Rattle.sn_laws.specs.declared.ideal.Body.TheVariants.{Under, Gone}
 use Rattle.sn_laws.specs.declared.ideal.Version.{Version}
 use Rattle.sn_laws.specs.declared.ideal.Account.{Account}
 use Rattle.sn_laws.specs.declared.ideal.Posted.{Posted}
@@ -16,34 +14,18 @@ use Rattle.sn_laws.specs.declared.ideal.Draft.{Draft}
 use Rattle.sn_laws.specs.declared.ideal.Device.{Device}
 use Rattle.sn_laws.specs.declared.ideal.Ideal.{Ideal}
 use Rattle.sn_laws.specs.declared.moves.Move.{Move}
-use Rattle.sn_laws.specs.declared.moves.Move.TheVariants.{Register, Join, Edit, Post, Accept, Settle}
-use Rattle.sn_laws.specs.Each.{Each, One}
+use Rattle.sn_laws.specs.declared.moves.Move.TheVariants.{Register, Join, Edit, Drop, Post, Unpost, Accept, Rewrap, Settle, SettlePosted, Fork, Rename, GiveWay, Change, Retire}
+use Rattle.sn_laws.specs.Each.{Each}
 use Rattle.sn_laws.specs.Lookups.{Bytes, account_named, account_of, device_named, draft_at, has_item, is_account, is_of, last_of}
-use Rattle.sn_laws.specs.Moves.{after, all_below, allows, has_live, is_as, is_content_of, is_last, is_live, is_live_at, is_new_stamp, is_on_last, is_plain, is_said, is_sent_under, is_unsent, is_writable, may_accept, may_delete, may_edit, may_join, may_post, may_settle, may_stand, may_write, number_is, same_base, sent_content}
-use Rattle.sn_string.specs.Bounds.{longest_content, last_stamp}
-use Rattle.sn_laws.specs.Relation.{HasDraft, HasLive, HeldBefore, IsAllowed, IsContentOf, IsLive, IsLiveAt, IsNewStamp, IsOnLast, IsPlain, IsSaid, MayAccept, MayDelete, MayEdit, MayJoin, MayPost, MayRegister, MaySettle, MayWrite, Moves}
+use Rattle.sn_laws.specs.Moves.{after, allows, is_as, is_last, is_live, is_live_at, is_new_stamp, is_on_last, is_plain, is_said, is_sent_under, is_unsent, is_writable, may_accept, may_delete, may_edit, may_join, may_post, may_settle, may_stand, may_write, same_base, sent_content}
+use Rattle.sn_string.specs.Bounds.{longest_content}
+use Rattle.sn_laws.specs.Relation.{HasLive, HeldBefore, IsAllowed, IsLiveAt, IsOnLast, IsPlain, IsSaid, MayAccept, MayDelete, MayEdit, MayJoin, MayPost, MayRegister, MaySettle, MayWrite, Moves}
 use Rattle.sn_laws.specs.Runs.{step_of}
-use Rattle.sn_laws.proofs.EachLemmas.{and_both, at_most, below, clash, each_from, each_to, is_at_most, is_below, none_from, none_to, not_false, not_true, number_same, one_from, one_to, or_cases, or_left, or_right, same_number, same_text, text_same}
-
--- four tests in a row
-four : (a b c d : Bool) → (a && b && c && d) ≡ true → (a ≡ true) × (b ≡ true) × (c ≡ true) × (d ≡ true)
-four true b c d h =
-    let last = and_parts (b && c) d h in
-    let first = and_parts b c last.0 in
-    (refl, first.0, first.1, last.1)
-four false b c d h = absurd (cc)
-
-all_four : (a b c d : Bool) → a ≡ true → b ≡ true → c ≡ true → d ≡ true → (a && b && c && d) ≡ true
-all_four a b c d ha hb hc hd = and_both (a && b && c) d (and_both (a && b) c (and_both a b ha hb) hc) hd
-
-three : (a b c : Bool) → (a && b && c) ≡ true → (a ≡ true) × (b ≡ true) × (c ≡ true)
-three a b c h =
-    let last = and_parts (a && b) c h in
-    let first = and_parts a b last.0 in
-    (first.0, first.1, last.1)
-
-all_three : (a b c : Bool) → a ≡ true → b ≡ true → c ≡ true → (a && b && c) ≡ true
-all_three a b c ha hb hc = and_both (a && b) c (and_both a b ha hb) hc
+use Rattle.sn_laws.proofs.EachLemmas.{and_both, at_most, below, each_from, each_to, is_at_most, is_below, none_from, none_to, not_false, not_true, number_same, one_from, one_to, or_cases, or_left, or_right, same_number, same_text, text_same}
+pub use Rattle.sn_laws.proofs.RelatedParts.{one_there}
+use Rattle.sn_laws.proofs.RelatedParts.{all_four, all_three, content_from, content_to, draft_found, draft_passes, four, is_nothing, live_from, live_to, missing, new_from, new_to, none_is, number_from, number_to, plain_from, plain_to, some_found, some_from, some_passes, some_to, three}
+use Rattle.sn_laws.proofs.RelatedMeetings.{drop_from, drop_to, fork_from, fork_to, give_way_from, give_way_to, rename_from, rename_to, settle_posted_from, settle_posted_to}
+use Rattle.sn_laws.proofs.RelatedRekeying.{change_from, change_to, retire_from, retire_to, rewrap_from, rewrap_to, unpost_from, unpost_to}
 
 -- Register
 
@@ -58,13 +40,6 @@ register_to s identifier h =
     (none_to (is_account identifier) (λ (a : Account). a.identifier ≡ identifier) (λ a e. same_text a.identifier identifier e) s.accounts h)
 
 -- Join
-
--- nothing that is there is missing
-missing : {A : Type 0} (x : A) (found : Option A) → found ≡ None → found ≡ Some x → ⊥
-missing x found e k = cc
-
-pub one_there : {A : Type 0} (x y : A) (found : Option A) → found ≡ Some x → found ≡ Some y → x ≡ y
-one_there x y found e k = cc
 
 held_from : (a : Account) (d : Device) (number : ℕ)
     → (bytes_eq d.account a.identifier && (number == length a.sets) && nat_le (length d.held) 1 && list_all (λ m. nat_lt m number) d.held) ≡ true
@@ -112,22 +87,6 @@ join_to s device identifier number (Some a) (Some d) e k h =
     (h.last ∙ ap (λ (x : Account). length x.sets) same)
 
 -- Edit
-
-live_from : (b : Body) → is_live b ≡ true → IsLive b
-live_from (Under text set) h = tt
-live_from Gone h = absurd (cc)
-
-live_to : (b : Body) → IsLive b → is_live b ≡ true
-live_to (Under text set) h = refl
-live_to Gone h = absurd h
-
-plain_from : (c : Content) → is_plain c ≡ true → IsPlain c
-plain_from (Plain text) h = tt
-plain_from Deleted h = absurd (cc)
-
-plain_to : (c : Content) → IsPlain c → is_plain c ≡ true
-plain_to (Plain text) h = refl
-plain_to Deleted h = absurd h
 
 live_at_from : (uuid kind : Bytes) (stamp : ℕ) (v : Version) → is_live_at uuid kind stamp v ≡ true → IsLiveAt uuid kind stamp v
 live_at_from uuid kind stamp v h =
@@ -215,14 +174,6 @@ write_to s device uuid kind base text a (Some d) e k h =
     (and_both (bytes_eq d.kind kind) (same_base d.base base) (text_same d.kind kind parts.0) (base_to d.base base parts.1))
     (plain_to d.latest parts.2) (writable_to text h.short h.object)
 
-some_from : {A : Type 0} (x : Option A) → is_some x ≡ true → x ≢ None
-some_from None h = absurd (cc)
-some_from (Some x) h = λ e. cc
-
-some_to : {A : Type 0} (x : Option A) → x ≢ None → is_some x ≡ true
-some_to None h = absurd (h refl)
-some_to (Some x) h = refl
-
 based : (base : Option ℕ) → is_some base ≡ true → (stamp : ℕ) × (base ≡ Some stamp)
 based None h = absurd (cc)
 based (Some n) h = (n, refl)
@@ -283,14 +234,6 @@ edit_to s device uuid kind base Deleted (Some a) e h = delete_to s device uuid k
 
 -- Post
 
-none_is : (n : Option ℕ) → is_none n ≡ true → n ≡ None
-none_is None h = refl
-none_is (Some n) h = absurd (cc)
-
-is_nothing : (n : Option ℕ) → n ≡ None → is_none n ≡ true
-is_nothing None h = refl
-is_nothing (Some n) h = absurd (cc)
-
 unsent_from : (posted : Option Posted) → is_unsent posted ≡ true → (p : Posted) → posted ≡ Some p → p.set ≡ None
 unsent_from None h p e = absurd (cc)
 unsent_from (Some q) h p e =
@@ -301,30 +244,15 @@ unsent_to : (posted : Option Posted) → ((p : Posted) → posted ≡ Some p →
 unsent_to None h = refl
 unsent_to (Some q) h = is_nothing q.set (h q refl)
 
-post_from : (s : Ideal) (device uuid : Bytes) (a : Option Account) (d : Option Draft) → account_of s device ≡ a → draft_at s device uuid ≡ d
-    → may_post a d ≡ true → MayPost s device uuid
-post_from s device uuid None d e k h = absurd (cc)
-post_from s device uuid (Some a) None e k h = absurd (cc)
-post_from s device uuid (Some a) (Some d) e k h =
-    record { account = a; draft = d; is = record { has = e; at = k }; unsent = unsent_from d.posted h }
+post_from : (s : Ideal) (device uuid : Bytes) → may_post (account_of s device) (draft_at s device uuid) ≡ true → MayPost s device uuid
+post_from s device uuid h =
+    let at = draft_found s device uuid may_post (λ _. refl) (λ _. refl) h in
+    record { account = at.account; draft = at.draft; is = at.is; unsent = unsent_from at.draft.posted at.passes }
 
-post_to : (s : Ideal) (device uuid : Bytes) (a : Option Account) (d : Option Draft) → account_of s device ≡ a → draft_at s device uuid ≡ d
-    → MayPost s device uuid → may_post a d ≡ true
-post_to s device uuid None d e k h = absurd (missing h.account (account_of s device) e h.is.has)
-post_to s device uuid (Some a) None e k h = absurd (missing h.draft (draft_at s device uuid) k h.is.at)
-post_to s device uuid (Some a) (Some d) e k h =
-    let same : h.draft ≡ d = one_there h.draft d (draft_at s device uuid) h.is.at k in
-    unsent_to d.posted (subst (λ (x : Draft). (p : Posted) → x.posted ≡ Some p → p.set ≡ None) same h.unsent)
+post_to : (s : Ideal) (device uuid : Bytes) → MayPost s device uuid → may_post (account_of s device) (draft_at s device uuid) ≡ true
+post_to s device uuid h = draft_passes s device uuid may_post h.account h.draft h.is (unsent_to h.draft.posted h.unsent)
 
 -- Accept
-
-number_from : (n : ℕ) (set : Option ℕ) → number_is n set ≡ true → set ≡ Some n
-number_from n None h = absurd (cc)
-number_from n (Some m) h = ap Some (same_number m n h)
-
-number_to : (n : ℕ) (set : Option ℕ) → set ≡ Some n → number_is n set ≡ true
-number_to n None h = absurd (cc)
-number_to n (Some m) h = let same : m ≡ n = cc in number_same m n same
 
 sent_from : (n : ℕ) (posted : Option Posted) → is_sent_under n posted ≡ true → (p : Posted) × (posted ≡ Some p) × (p.set ≡ Some n)
 sent_from n None h = absurd (cc)
@@ -380,40 +308,21 @@ on_last_to s a uuid (Some stamp) (Some v) e h =
     let same : h.0 ≡ v = one_there h.0 v (last_of uuid a.versions) h.1 e in
     number_same v.stamp stamp (subst (λ (x : Version). x.stamp ≡ stamp) same h.2)
 
-below_from : (stamp : ℕ) (a : Account) → all_below stamp a ≡ true → Each (λ (v : Version). v.stamp < stamp) a.versions
-below_from stamp a h = each_from (λ (v : Version). nat_lt v.stamp stamp) (λ (v : Version). v.stamp < stamp) (λ v e. below v.stamp stamp e) a.versions h
-
-below_to : (stamp : ℕ) (a : Account) → Each (λ (v : Version). v.stamp < stamp) a.versions → all_below stamp a ≡ true
-below_to stamp a h = each_to (λ (v : Version). nat_lt v.stamp stamp) (λ (v : Version). v.stamp < stamp) (λ v e. is_below v.stamp stamp e) a.versions h
-
-pub new_from : (s : Ideal) (stamp : ℕ) → is_new_stamp s.accounts stamp ≡ true → IsNewStamp s stamp
-new_from s stamp h =
-    let both = and_parts (list_all (all_below stamp) s.accounts) (nat_le stamp last_stamp) h in
-    record {
-      above = each_from (all_below stamp) (λ (a : Account). Each (λ (v : Version). v.stamp < stamp) a.versions) (below_from stamp) s.accounts both.0;
-      bounded = at_most stamp last_stamp both.1;
-    }
-
-new_to : (s : Ideal) (stamp : ℕ) → IsNewStamp s stamp → is_new_stamp s.accounts stamp ≡ true
-new_to s stamp h =
-    and_both (list_all (all_below stamp) s.accounts) (nat_le stamp last_stamp)
-    (each_to (all_below stamp) (λ (a : Account). Each (λ (v : Version). v.stamp < stamp) a.versions) (below_to stamp) s.accounts h.above)
-    (is_at_most stamp last_stamp h.bounded)
-
-accept_from : (s : Ideal) (device uuid : Bytes) (stamp : ℕ) (under : Option ℕ) (a : Option Account) (d : Option Draft)
-    → account_of s device ≡ a → draft_at s device uuid ≡ d → may_accept s.accounts a d uuid stamp under ≡ true → MayAccept s device uuid stamp under
-accept_from s device uuid stamp under None d e k h = absurd (cc)
-accept_from s device uuid stamp under (Some a) None e k h = absurd (cc)
-accept_from s device uuid stamp under (Some a) (Some d) e k h =
+accept_from : (s : Ideal) (device uuid : Bytes) (stamp : ℕ) (under : Option ℕ)
+    → may_accept s.accounts (account_of s device) (draft_at s device uuid) uuid stamp under ≡ true → MayAccept s device uuid stamp under
+accept_from s device uuid stamp under h =
+    let at = draft_found s device uuid (λ a d. may_accept s.accounts a d uuid stamp under) (λ _. refl) (λ _. refl) h in
+    let a : Account = at.account in
+    let d : Draft = at.draft in
     let parts = four (is_sent_under (length a.sets) d.posted) (is_said (length a.sets) (sent_content d.latest d.posted) under)
-    (is_on_last s.accounts uuid d.base (last_of uuid a.versions)) (is_new_stamp s.accounts stamp) h in
+    (is_on_last s.accounts uuid d.base (last_of uuid a.versions)) (is_new_stamp s.accounts stamp) at.passes in
     let sent = sent_from (length a.sets) d.posted parts.0 in
     let said : is_said (length a.sets) sent.0.content under ≡ true =
     subst (λ p. is_said (length a.sets) (sent_content d.latest p) under ≡ true) sent.1 parts.1 in
     record {
       account = a;
       draft = d;
-      is = record { has = e; at = k };
+      is = at.is;
       posted = sent.0;
       sent = sent.1;
       last_set = sent.2;
@@ -422,73 +331,39 @@ accept_from s device uuid stamp under (Some a) (Some d) e k h =
       new = new_from s stamp parts.3;
     }
 
-accept_parts : (s : Ideal) (a : Account) (d : Draft) (uuid : Bytes) (stamp : ℕ) (under : Option ℕ) (p : Posted) → d.posted ≡ Some p
-    → p.set ≡ Some (length a.sets) → IsSaid (length a.sets) p.content under → IsOnLast s a uuid d.base → IsNewStamp s stamp
-    → may_accept s.accounts (Some a) (Some d) uuid stamp under ≡ true
-accept_parts s a d uuid stamp under p sent set said on new =
-    all_four (is_sent_under (length a.sets) d.posted) (is_said (length a.sets) (sent_content d.latest d.posted) under)
+accept_to : (s : Ideal) (device uuid : Bytes) (stamp : ℕ) (under : Option ℕ) → MayAccept s device uuid stamp under
+    → may_accept s.accounts (account_of s device) (draft_at s device uuid) uuid stamp under ≡ true
+accept_to s device uuid stamp under h =
+    let a : Account = h.account in
+    let d : Draft = h.draft in
+    draft_passes s device uuid (λ x y. may_accept s.accounts x y uuid stamp under) a d h.is
+    (all_four (is_sent_under (length a.sets) d.posted) (is_said (length a.sets) (sent_content d.latest d.posted) under)
     (is_on_last s.accounts uuid d.base (last_of uuid a.versions)) (is_new_stamp s.accounts stamp)
-    (subst (λ x. is_sent_under (length a.sets) x ≡ true) (sym sent) (number_to (length a.sets) p.set set))
-    (subst (λ x. is_said (length a.sets) (sent_content d.latest x) under ≡ true) (sym sent) (said_to (length a.sets) p.content under said))
-    (on_last_to s a uuid d.base (last_of uuid a.versions) refl on) (new_to s stamp new)
-
-accept_to : (s : Ideal) (device uuid : Bytes) (stamp : ℕ) (under : Option ℕ) (a : Option Account) (d : Option Draft)
-    → account_of s device ≡ a → draft_at s device uuid ≡ d → MayAccept s device uuid stamp under → may_accept s.accounts a d uuid stamp under ≡ true
-accept_to s device uuid stamp under None d e k h = absurd (missing h.account (account_of s device) e h.is.has)
-accept_to s device uuid stamp under (Some a) None e k h = absurd (missing h.draft (draft_at s device uuid) k h.is.at)
-accept_to s device uuid stamp under (Some a) (Some d) e k h =
-    let account_same : h.account ≡ a = one_there h.account a (account_of s device) h.is.has e in
-    let draft_same : h.draft ≡ d = one_there h.draft d (draft_at s device uuid) h.is.at k in
-    subst (λ x. may_accept s.accounts (Some x) (Some d) uuid stamp under ≡ true) account_same
-    (subst (λ x. may_accept s.accounts (Some h.account) (Some x) uuid stamp under ≡ true) draft_same
-    (accept_parts s h.account h.draft uuid stamp under h.posted h.sent h.last_set h.said h.on_last h.new))
+    (some_passes h.posted d.posted (is_sent_under (length a.sets)) h.sent (number_to (length a.sets) h.posted.set h.last_set))
+    (some_passes h.posted d.posted (λ x. is_said (length a.sets) (sent_content d.latest x) under) h.sent
+    (said_to (length a.sets) h.posted.content under h.said))
+    (on_last_to s a uuid d.base (last_of uuid a.versions) refl h.on_last) (new_to s stamp h.new))
 
 -- Settle
 
-content_from : (kind : Bytes) (c : Content) (other : Bytes) (b : Body) → is_content_of kind c other b ≡ true → IsContentOf kind c other b
-content_from kind (Plain text) other (Under same set) h =
-    let both = and_parts (bytes_eq kind other) (bytes_eq text same) h in
-    (same_text kind other both.0, same_text text same both.1)
-content_from kind (Plain text) other Gone h = absurd (cc)
-content_from kind Deleted other (Under same set) h = absurd (cc)
-content_from kind Deleted other Gone h = tt
-
-content_to : (kind : Bytes) (c : Content) (other : Bytes) (b : Body) → IsContentOf kind c other b → is_content_of kind c other b ≡ true
-content_to kind (Plain text) other (Under same set) h =
-    and_both (bytes_eq kind other) (bytes_eq text same) (text_same kind other h.0) (text_same text same h.1)
-content_to kind (Plain text) other Gone h = absurd h
-content_to kind Deleted other (Under same set) h = absurd h
-content_to kind Deleted other Gone h = refl
-
-settle_last : (s : Ideal) (device uuid : Bytes) (a : Account) (d : Draft) (last : Option Version) → account_of s device ≡ Some a
-    → draft_at s device uuid ≡ Some d → last_of uuid a.versions ≡ last → is_last d last ≡ true → MaySettle s device uuid
-settle_last s device uuid a d None e k l h = absurd (cc)
-settle_last s device uuid a d (Some v) e k l h =
+settle_from : (s : Ideal) (device uuid : Bytes) → may_settle (account_of s device) (draft_at s device uuid) uuid ≡ true → MaySettle s device uuid
+settle_from s device uuid h =
+    let at = draft_found s device uuid (λ a d. may_settle a d uuid) (λ _. refl) (λ _. refl) h in
+    let last = some_found (last_of uuid at.account.versions) (is_last at.draft) refl at.passes in
     record {
-      account = a;
-      draft = d;
-      is = record { has = e; at = k };
-      version = v;
-      last = l;
-      content = content_from d.kind d.latest v.kind v.body h;
+      account = at.account;
+      draft = at.draft;
+      is = at.is;
+      version = last.0;
+      last = last.1;
+      content = content_from at.draft.kind at.draft.latest last.0.kind last.0.body last.2;
     }
 
-pub settle_from : (s : Ideal) (device uuid : Bytes) (a : Option Account) (d : Option Draft) → account_of s device ≡ a → draft_at s device uuid ≡ d
-    → may_settle a d uuid ≡ true → MaySettle s device uuid
-settle_from s device uuid None d e k h = absurd (cc)
-settle_from s device uuid (Some a) None e k h = absurd (cc)
-settle_from s device uuid (Some a) (Some d) e k h = settle_last s device uuid a d (last_of uuid a.versions) e k refl h
-
-settle_to : (s : Ideal) (device uuid : Bytes) (a : Option Account) (d : Option Draft) → account_of s device ≡ a → draft_at s device uuid ≡ d
-    → MaySettle s device uuid → may_settle a d uuid ≡ true
-settle_to s device uuid None d e k h = absurd (missing h.account (account_of s device) e h.is.has)
-settle_to s device uuid (Some a) None e k h = absurd (missing h.draft (draft_at s device uuid) k h.is.at)
-settle_to s device uuid (Some a) (Some d) e k h =
-    let account_same : h.account ≡ a = one_there h.account a (account_of s device) h.is.has e in
-    let draft_same : h.draft ≡ d = one_there h.draft d (draft_at s device uuid) h.is.at k in
-    subst (λ x. may_settle (Some x) (Some d) uuid ≡ true) account_same
-    (subst (λ x. may_settle (Some h.account) (Some x) uuid ≡ true) draft_same
-    (subst (λ last. is_last h.draft last ≡ true) (sym h.last) (content_to h.draft.kind h.draft.latest h.version.kind h.version.body h.content)))
+settle_to : (s : Ideal) (device uuid : Bytes) → MaySettle s device uuid → may_settle (account_of s device) (draft_at s device uuid) uuid ≡ true
+settle_to s device uuid h =
+    draft_passes s device uuid (λ a d. may_settle a d uuid) h.account h.draft h.is
+    (some_passes h.version (last_of uuid h.account.versions) (is_last h.draft) h.last
+    (content_to h.draft.kind h.draft.latest h.version.kind h.version.body h.content))
 
 -- each move
 
@@ -497,18 +372,35 @@ allowed_from s (Register identifier set) h = register_from s identifier h
 allowed_from s (Join device identifier number) h =
     join_from s device identifier number (account_named s identifier) (device_named s device) refl refl h
 allowed_from s (Edit device uuid kind base latest) h = edit_from s device uuid kind base latest (account_of s device) refl h
-allowed_from s (Post device uuid) h = post_from s device uuid (account_of s device) (draft_at s device uuid) refl refl h
-allowed_from s (Accept device uuid stamp under) h =
-    accept_from s device uuid stamp under (account_of s device) (draft_at s device uuid) refl refl h
-allowed_from s (Settle device uuid) h = settle_from s device uuid (account_of s device) (draft_at s device uuid) refl refl h
+allowed_from s (Drop device uuid) h = drop_from s device uuid h
+allowed_from s (Post device uuid) h = post_from s device uuid h
+allowed_from s (Unpost device uuid) h = unpost_from s device uuid h
+allowed_from s (Accept device uuid stamp under) h = accept_from s device uuid stamp under h
+allowed_from s (Rewrap uuid stamp under) h = rewrap_from s uuid stamp under h
+allowed_from s (Settle device uuid) h = settle_from s device uuid h
+allowed_from s (SettlePosted device uuid stamp) h = settle_posted_from s device uuid stamp h
+allowed_from s (Fork device uuid other) h = fork_from s device uuid other h
+allowed_from s (Rename device uuid other) h = rename_from s device uuid other h
+allowed_from s (GiveWay device uuid) h = give_way_from s device uuid h
+allowed_from s (Change identifier number set) h = change_from s identifier number set h
+allowed_from s (Retire device number) h = retire_from s device number h
 
 pub allowed_to : (s : Ideal) (m : Move) → IsAllowed s m → IsTrue (allows s m)
 allowed_to s (Register identifier set) h = register_to s identifier h
 allowed_to s (Join device identifier number) h = join_to s device identifier number (account_named s identifier) (device_named s device) refl refl h
 allowed_to s (Edit device uuid kind base latest) h = edit_to s device uuid kind base latest (account_of s device) refl h
-allowed_to s (Post device uuid) h = post_to s device uuid (account_of s device) (draft_at s device uuid) refl refl h
-allowed_to s (Accept device uuid stamp under) h = accept_to s device uuid stamp under (account_of s device) (draft_at s device uuid) refl refl h
-allowed_to s (Settle device uuid) h = settle_to s device uuid (account_of s device) (draft_at s device uuid) refl refl h
+allowed_to s (Drop device uuid) h = drop_to s device uuid h
+allowed_to s (Post device uuid) h = post_to s device uuid h
+allowed_to s (Unpost device uuid) h = unpost_to s device uuid h
+allowed_to s (Accept device uuid stamp under) h = accept_to s device uuid stamp under h
+allowed_to s (Rewrap uuid stamp under) h = rewrap_to s uuid stamp under h
+allowed_to s (Settle device uuid) h = settle_to s device uuid h
+allowed_to s (SettlePosted device uuid stamp) h = settle_posted_to s device uuid stamp h
+allowed_to s (Fork device uuid other) h = fork_to s device uuid other h
+allowed_to s (Rename device uuid other) h = rename_to s device uuid other h
+allowed_to s (GiveWay device uuid) h = give_way_to s device uuid h
+allowed_to s (Change identifier number set) h = change_to s identifier number set h
+allowed_to s (Retire device number) h = retire_to s device number h
 
 pub steps : (s next : Ideal) (m : Move) → (step_of s m ≡ Some next) ↔ Moves s m next
 steps s next m = (there, back)

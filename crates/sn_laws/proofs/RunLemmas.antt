@@ -1,8 +1,9 @@
 -- Lists of moves: what stands before others, and the place that is refused.
-use Rattle.std.proofs.Common.{◌≡◌, ◌<◌, ℕ, zero, suc, ◌+◌, List, [], ◌∷◌, ◌++◌, length, take, Option, Some, None, Bool, true, false, refl, sym, ap, ◌∙◌, subst, arith}
+use Rattle.std.proofs.Common.{◌≡◌, ◌<◌, ℕ, zero, suc, ◌+◌, List, [], ◌∷◌, ◌++◌, length, take, Some, None, Bool, true, false, refl, sym, ap, ◌∙◌, subst, arith}
 use Rattle.std.specs.Prelude.{if◌then◌else◌, IsTrue, ◌↔◌}
 use Rattle.sn_laws.specs.declared.ideal.Ideal.{Ideal}
 use Rattle.sn_laws.specs.declared.moves.Move.{Move}
+use Rattle.sn_laws.specs.Each.{Each}
 use Rattle.sn_laws.specs.Laws.{IsFirstIllegal}
 use Rattle.sn_laws.specs.Lookups.{empty}
 use Rattle.sn_laws.specs.Moves.{allows, after}
@@ -19,6 +20,18 @@ legal_before s (x ∷ xs) ys h = (h.0, legal_before (after s x) xs ys h.1)
 pub legal_after : (s : Ideal) (xs ys : List Move) → LegalFrom s (xs ++ ys) → LegalFrom (end_from s xs) ys
 legal_after s [] ys h = h
 legal_after s (x ∷ xs) ys h = legal_after (after s x) xs ys h.1
+
+-- what each allowed move keeps holds after each legal list
+pub reached : (P : Ideal → Type 0) → ((s : Ideal) (m : Move) → IsTrue (allows s m) → P s → P (after s m))
+    → (s : Ideal) (ms : List Move) → LegalFrom s ms → P s → P (end_from s ms)
+reached P keeps s [] legal h = h
+reached P keeps s (m ∷ ms) legal h = reached P keeps (after s m) ms legal.1 (keeps s m legal.0 h)
+
+-- the same, where each move of the list is one of some that keep it
+pub reached_by : (Q : Move → Type 0) (P : Ideal → Type 0) → ((s : Ideal) (m : Move) → Q m → IsTrue (allows s m) → P s → P (after s m))
+    → (s : Ideal) (ms : List Move) → Each Q ms → LegalFrom s ms → P s → P (end_from s ms)
+reached_by Q P keeps s [] each legal h = h
+reached_by Q P keeps s (m ∷ ms) each legal h = reached_by Q P keeps (after s m) ms each.1 legal.1 (keeps s m each.0 legal.0 h)
 
 pub none_then_legal : (n : ℕ) (s : Ideal) (ms : List Move) → first_illegal_from n s ms ≡ None → LegalFrom s ms
 none_then_legal n s [] h = tt

@@ -1,16 +1,17 @@
 -- What holds of all lists of moves.
 use Rattle.std.specs.Prelude.{◌≡◌, ◌≢◌, ◌↔◌, ◌<◌, ℕ, ◌+◌, List, [], ◌∷◌, ◌++◌, length, map, take, Option, Some, None, IsTrue}
 use Rattle.sn_laws.specs.Each.{Each, One}
-use Rattle.sn_laws.specs.Lookups.{Bytes, account_named, account_of, draft_at, last_of}
+use Rattle.sn_laws.specs.Lookups.{Bytes, account_named, account_of, account_with, draft_at, last_of}
 use Rattle.sn_laws.specs.Moves.{allows}
 use Rattle.sn_laws.specs.Relation.{IsAllowed, IsContentOf, Moves}
 use Rattle.sn_laws.specs.Runs.{Legal, end, first_illegal, step_of}
 use Rattle.sn_laws.specs.declared.ideal.Version.{Version}
 use Rattle.sn_laws.specs.declared.ideal.Account.{Account}
+use Rattle.sn_laws.specs.declared.ideal.Body.TheVariants.{Under}
 use Rattle.sn_laws.specs.declared.ideal.Draft.{Draft}
 use Rattle.sn_laws.specs.declared.ideal.Ideal.{Ideal}
 use Rattle.sn_laws.specs.declared.moves.Move.{Move}
-use Rattle.sn_laws.specs.declared.moves.Move.TheVariants.{Accept, Settle}
+use Rattle.sn_laws.specs.declared.moves.Move.TheVariants.{Accept, Rewrap, Settle}
 
 -- a move is allowed, as the code tests it, exactly where the relation allows it
 abbrev pub AllowsAsRelated : Type 0
@@ -57,6 +58,7 @@ KeepsVersions = (ms more : List Move) (identifier : Bytes) (a : Account)
 abbrev pub stamps_of : List Move → List ℕ
 stamps_of [] = []
 stamps_of (Accept device uuid stamp under ∷ ms) = stamp ∷ stamps_of ms
+stamps_of (Rewrap uuid stamp under ∷ ms) = stamp ∷ stamps_of ms
 stamps_of (m ∷ ms) = stamps_of ms
 
 -- each is below all after it
@@ -85,9 +87,10 @@ FollowsLast = (ms : List Move) (device uuid : Bytes) (stamp : ℕ) (under : Opti
     → Legal (ms ++ Accept device uuid stamp under ∷ []) → account_of (end ms) device ≡ Some a → last_of uuid a.versions ≡ Some v
     → StandsOn (end ms) device uuid v.stamp
 
--- the move accepts no version of the item
+-- the move makes no version of the item
 abbrev pub AcceptsNone : Bytes → Move → Type 0
 AcceptsNone uuid (Accept device other stamp under) = other ≢ uuid
+AcceptsNone uuid (Rewrap other stamp under) = other ≢ uuid
 AcceptsNone uuid m = Unit {0}
 
 -- what was accepted is followed on its item only by an accept on its stamp: of two accepts on one item of an account, with none
@@ -114,3 +117,18 @@ pub record IsVersion (s : Ideal) (device uuid : Bytes) : Type 0 where
 -- a settled draft's content is a version
 abbrev pub SettlesVersions : Type 0
 SettlesVersions = (ms : List Move) (device uuid : Bytes) → Legal (ms ++ Settle device uuid ∷ []) → IsVersion (end ms) device uuid
+
+-- the version that a rewrap makes has the type and the text of the item's last one, under its account's last set
+pub record SealsAgain (a : Account) (v : Version) (stamp under : ℕ) (found : Option Account) : Type 0 where
+  pub text : Bytes
+  pub set : ℕ
+  pub was : v.body ≡ Under text set
+  pub now_is : Account
+  pub found_is : found ≡ Some now_is
+  pub versions : now_is.versions ≡ a.versions ++ record { uuid = v.uuid; stamp = stamp; kind = v.kind; body = Under text under } ∷ []
+  pub last_set : under ≡ length now_is.sets
+
+abbrev pub RewrapsLast : Type 0
+RewrapsLast = (ms : List Move) (uuid : Bytes) (stamp under : ℕ) (a : Account) (v : Version)
+    → Legal (ms ++ Rewrap uuid stamp under ∷ []) → account_with (end ms).accounts uuid ≡ Some a → last_of uuid a.versions ≡ Some v
+    → SealsAgain a v stamp under (account_named (end (ms ++ Rewrap uuid stamp under ∷ [])) a.identifier)

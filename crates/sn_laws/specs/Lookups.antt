@@ -1,5 +1,5 @@
 -- Who is who in an ideal state.
-use Rattle.std.specs.Prelude.{reverse, ◌≡◌, ℕ, ◌==◌, List, [], ◌∷◌, Bool, ◌&&◌, Option, Some, None, find, nat_lt, if◌then◌else◌}
+use Rattle.std.specs.Prelude.{reverse, ℕ, List, [], ◌∷◌, Bool, ◌&&◌, Option, Some, None, find, nat_lt, if◌then◌else◌}
 use Rattle.std.specs.List.{list_any}
 use Rattle.std.specs.Str.{bytes_eq}
 use Rattle.sn_laws.specs.declared.ideal.Version.{Version}
@@ -54,6 +54,10 @@ last_of uuid versions = find (is_of uuid) (reverse versions)
 -- an account has versions of the item
 abbrev pub has_item : Bytes → Account → Bool
 has_item uuid a = list_any (is_of uuid) a.versions
+
+-- the account that has versions of the item
+abbrev pub account_with : List Account → Bytes → Option Account
+account_with accounts uuid = find (has_item uuid) accounts
 
 -- the greatest of these numbers, or the first one given
 abbrev pub greatest : ℕ → List ℕ → ℕ

@@ -1,5 +1,5 @@
 -- Whole lists of moves.
-use Rattle.std.specs.Prelude.{◌≡◌, ℕ, ◌+◌, List, [], ◌∷◌, Option, Some, None, IsTrue, if◌then◌else◌}
+use Rattle.std.specs.Prelude.{ℕ, ◌+◌, List, [], ◌∷◌, Option, Some, None, IsTrue, if◌then◌else◌}
 use Rattle.sn_laws.specs.Lookups.{empty}
 use Rattle.sn_laws.specs.Moves.{allows, after}
 use Rattle.sn_laws.specs.declared.ideal.Ideal.{Ideal}

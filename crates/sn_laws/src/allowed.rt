@@ -5,13 +5,13 @@ ghost use Rattle.std.specs.Option.{option_copied};
 ghost use Rattle.std.specs.List.{list_all, list_any};
 ghost use Rattle.std.specs.Str.{bytes_eq};
 ghost use Rattle.sn_laws.specs.Lookups.{has_item, last_of};
-ghost use Rattle.sn_laws.specs.Moves.{all_below, allows, has_live, is_as, is_content_of, is_last, is_live, is_live_at, is_new_stamp, is_on_last, is_plain, is_said, is_sent_under, is_unsent, is_writable, may_accept, may_delete, may_edit, may_join, may_post, may_settle, may_stand, may_write, same_base, sent_content};
+ghost use Rattle.sn_laws.specs.Moves.{all_below, allows, has_live, is_as, is_content_of, is_live, is_live_at, is_new_stamp, is_on_last, is_plain, is_said, is_sent_under, is_unsent, is_writable, may_accept, may_delete, may_edit, may_post, may_stand, may_write, same_base, sent_content};
 
-use crate::ideal::{Account, Body, Content, Device, Draft, Ideal, Posted, Version};
-use crate::lookups::{
-    account_named, account_of, device_named, draft_at, is_held, is_taken, last_version,
-};
+use crate::ideal::{Account, Body, Content, Draft, Ideal, Posted, Version};
+use crate::lookups::{draft_of, is_held, last_version, owner};
+use crate::meeting::{is_meeting_allowed, may_drop};
 use crate::moves::Move;
+use crate::rekeying::is_rekeying_allowed;
 use sn_items::is_object;
 use sn_string::{LAST_STAMP, LONGEST_CONTENT, Text};
 use std::alloc::{AllocError, Global};
@@ -27,7 +27,8 @@ fn is_writable(alloc: Global, text: &Text) -> Result<bool, AllocError>
     }
 }
 
-fn is_plain(content: &Content) -> bool
+/// Whether it is a content, not a deletion.
+pub fn is_plain(content: &Content) -> bool
     ensures { result ≡ is_plain content.now }
 {
     match content {
@@ -36,7 +37,8 @@ fn is_plain(content: &Content) -> bool
     }
 }
 
-fn is_live(body: &Body) -> bool
+/// Whether it is a content, not a deletion.
+pub fn is_live(body: &Body) -> bool
     ensures { result ≡ is_live body.now }
 {
     match body {
@@ -45,23 +47,32 @@ fn is_live(body: &Body) -> bool
     }
 }
 
-fn same(text: &Text, other: &Text) -> bool
+/// Whether the texts are the same.
+pub fn same(text: &Text, other: &Text) -> bool
     ensures { result ≡ bytes_eq text.now other.now }
 {
     text.as_str() == other.as_str()
 }
 
-fn is_content_of(draft: &Draft, version: &Version) -> bool
-    ensures { result ≡ is_content_of draft.now.kind draft.now.latest version.now.kind version.now.body }
+/// Whether the content, as of a type, is the version's.
+pub fn is_same_content(kind: &Text, content: &Content, version: &Version) -> bool
+    ensures { result ≡ is_content_of kind.now content.now version.now.kind version.now.body }
 {
-    match (&draft.latest, &version.body) {
+    match (content, &version.body) {
         (Content::Plain(text), Body::Under(other, _)) => {
-            same(&draft.kind, &version.kind) && same(text, other)
+            same(kind, &version.kind) && same(text, other)
         }
         (Content::Plain(_), Body::Gone) => false,
         (Content::Deleted, Body::Under(_, _)) => false,
         (Content::Deleted, Body::Gone) => true,
     }
+}
+
+/// Whether the draft's content is the version's.
+pub fn is_content_of(draft: &Draft, version: &Version) -> bool
+    ensures { result ≡ is_content_of draft.now.kind draft.now.latest version.now.kind version.now.body }
+{
+    is_same_content(&draft.kind, &draft.latest, version)
 }
 
 fn is_sent_under(number: u64, posted: &Option<Posted>) -> bool
@@ -109,25 +120,11 @@ fn is_above(accounts: &[Account], stamp: u64) -> bool
     accounts.iter().all(|a| is_below(a, stamp))
 }
 
-fn is_new(accounts: &[Account], stamp: u64) -> bool
+/// Whether the stamp is above all stamps of all accounts, and none after the last.
+pub fn is_new(accounts: &[Account], stamp: u64) -> bool
     ensures { result ≡ is_new_stamp accounts.now stamp }
 {
     is_above(accounts, stamp) && stamp <= LAST_STAMP
-}
-
-fn may_join(account: Option<&Account>, device: Option<&Device>, number: u64) -> bool
-    ensures { result ≡ may_join (option_copied account.entry) (option_copied device.entry) number }
-{
-    match (account, device) {
-        (None, _) => false,
-        (Some(account), None) => number == account.sets.as_slice().len() as u64,
-        (Some(account), Some(device)) => {
-            same(&device.account, &account.identifier)
-                && number == account.sets.as_slice().len() as u64
-                && device.held.as_slice().len() <= 1
-                && device.held.as_slice().iter().all(|&held| held < number)
-        }
-    }
 }
 
 fn is_live_at(version: &Version, uuid: &Uuid, kind: &Text, stamp: u64) -> bool
@@ -296,35 +293,11 @@ fn may_accept(
     }
 }
 
-fn may_settle(account: Option<&Account>, draft: Option<&Draft>, uuid: &Uuid) -> bool
-    ensures { result ≡ may_settle (option_copied account.entry) (option_copied draft.entry) uuid.now }
-{
-    match (account, draft) {
-        (Some(account), Some(draft)) => match last_version(account.versions.as_slice(), uuid) {
-            Some(last) => is_content_of(draft, last),
-            None => false,
-        },
-        _ => false,
-    }
-}
-
 /// Whether the move is allowed in this state.
 pub fn is_allowed(alloc: Global, state: &Ideal, next: &Move) -> Result<bool, AllocError>
     ensures { IfOk result (λ may. may ≡ allows state.now next.now) }
 {
-    let devices = state.devices.as_slice();
-    let drafts = state.drafts.as_slice();
-    let accounts = state.accounts.as_slice();
     match next {
-        Move::Register { identifier, .. } => Ok(!is_taken(accounts, identifier)),
-        Move::Join {
-            device,
-            identifier,
-            number,
-        } => {
-            let account = account_named(accounts, identifier);
-            Ok(may_join(account, device_named(devices, device), *number))
-        }
         Move::Edit {
             device,
             uuid,
@@ -332,13 +305,16 @@ pub fn is_allowed(alloc: Global, state: &Ideal, next: &Move) -> Result<bool, All
             base,
             latest,
         } => {
-            let account = account_of(accounts, device_named(devices, device));
-            let draft = draft_at(drafts, device, uuid);
+            let account = owner(state, device);
+            let draft = draft_of(state, device, uuid);
             may_edit(alloc, account, draft, uuid, kind, *base, latest)
         }
+        Move::Drop { device, uuid } => {
+            let draft = draft_of(state, device, uuid);
+            Ok(may_drop(state.accounts.as_slice(), owner(state, device), draft, uuid))
+        }
         Move::Post { device, uuid } => {
-            let account = account_of(accounts, device_named(devices, device));
-            Ok(may_post(account, draft_at(drafts, device, uuid)))
+            Ok(may_post(owner(state, device), draft_of(state, device, uuid)))
         }
         Move::Accept {
             device,
@@ -346,13 +322,15 @@ pub fn is_allowed(alloc: Global, state: &Ideal, next: &Move) -> Result<bool, All
             stamp,
             under,
         } => {
-            let account = account_of(accounts, device_named(devices, device));
-            let draft = draft_at(drafts, device, uuid);
-            Ok(may_accept(accounts, account, draft, uuid, *stamp, *under))
+            let accounts = state.accounts.as_slice();
+            let draft = draft_of(state, device, uuid);
+            Ok(may_accept(accounts, owner(state, device), draft, uuid, *stamp, *under))
         }
-        Move::Settle { device, uuid } => {
-            let account = account_of(accounts, device_named(devices, device));
-            Ok(may_settle(account, draft_at(drafts, device, uuid), uuid))
-        }
+        Move::Settle { .. }
+        | Move::SettlePosted { .. }
+        | Move::Fork { .. }
+        | Move::Rename { .. }
+        | Move::GiveWay { .. } => Ok(is_meeting_allowed(state, next)),
+        _ => Ok(is_rekeying_allowed(state, next)),
     }
 }

@@ -7,9 +7,12 @@ ghost use Rattle.sn_laws.specs.Moves.{accepted, after, changed_where, edited, jo
 
 use crate::ideal::{Account, Body, Content, Device, Draft, Ideal, Posted, Version};
 use crate::lookups::{
-    account_of, device_named, draft_at, greatest_held, is_at, is_called, is_same_account,
+    account_of, account_with, device_named, draft_at, greatest_held, is_at, is_called,
+    is_same_account,
 };
 use crate::moves::Move;
+use crate::redrafted::{with_fork, with_renamed, with_settled};
+use crate::rekeyed::{rewrapped, with_another_set, with_retired, with_unposted};
 use crate::twins::copies;
 use sn_string::{KeySet, Many, Text, Twin};
 use std::alloc::{AllocError, Global};
@@ -252,55 +255,94 @@ fn without_draft(
     Ok(next)
 }
 
-/// The state after a move.
-pub fn apply(alloc: Global, state: &Ideal, next: &Move) -> Result<Ideal, AllocError>
-    ensures { IfOk result (λ changed. changed ≡ after state.now next.now) }
+fn accounts_after(alloc: Global, state: &Ideal, next: &Move) -> Result<Many<Account>, AllocError>
+    ensures { IfOk result (λ changed. changed ≡ (after state.now next.now).accounts) }
 {
-    let mut changed = state.twin(alloc)?;
-    let devices = state.devices.as_slice();
-    let drafts = state.drafts.as_slice();
     let accounts = state.accounts.as_slice();
     match next {
-        Move::Register { identifier, set } => {
-            changed.accounts = registered(alloc, accounts, identifier, set)?;
-            Ok(changed)
-        }
-        Move::Join {
-            device,
-            identifier,
-            number,
-        } => {
-            changed.devices = joined(alloc, devices, device, identifier, *number)?;
-            Ok(changed)
-        }
-        Move::Edit {
-            device,
-            uuid,
-            kind,
-            base,
-            latest,
-        } => {
-            changed.drafts = edited(alloc, drafts, device, uuid, kind, *base, latest)?;
-            Ok(changed)
-        }
-        Move::Post { device, uuid } => {
-            changed.drafts = posted_drafts(alloc, devices, drafts, device, uuid)?;
-            Ok(changed)
-        }
+        Move::Register { identifier, set } => registered(alloc, accounts, identifier, set),
         Move::Accept {
             device,
             uuid,
             stamp,
             ..
         } => {
-            let account = account_of(accounts, device_named(devices, device));
-            let draft = draft_at(drafts, device, uuid);
-            changed.accounts = accepted(alloc, accounts, account, draft, *stamp)?;
-            Ok(changed)
+            let account = account_of(accounts, device_named(state.devices.as_slice(), device));
+            let draft = draft_at(state.drafts.as_slice(), device, uuid);
+            accepted(alloc, accounts, account, draft, *stamp)
         }
-        Move::Settle { device, uuid } => {
-            changed.drafts = without_draft(alloc, drafts, device, uuid)?;
-            Ok(changed)
+        Move::Rewrap { uuid, stamp, .. } => {
+            rewrapped(alloc, accounts, account_with(accounts, uuid), uuid, *stamp)
         }
+        Move::Change {
+            identifier,
+            set,
+            ..
+        } => with_another_set(alloc, accounts, identifier, set),
+        _ => copies(alloc, accounts),
     }
+}
+
+fn drafts_after(alloc: Global, state: &Ideal, next: &Move) -> Result<Many<Draft>, AllocError>
+    ensures { IfOk result (λ changed. changed ≡ (after state.now next.now).drafts) }
+{
+    let drafts = state.drafts.as_slice();
+    match next {
+        Move::Edit {
+            device,
+            uuid,
+            kind,
+            base,
+            latest,
+        } => edited(alloc, drafts, device, uuid, kind, *base, latest),
+        Move::Drop { device, uuid }
+        | Move::Settle { device, uuid }
+        | Move::GiveWay { device, uuid } => without_draft(alloc, drafts, device, uuid),
+        Move::Post { device, uuid } => {
+            posted_drafts(alloc, state.devices.as_slice(), drafts, device, uuid)
+        }
+        Move::Unpost { device, uuid } => with_unposted(alloc, drafts, device, uuid),
+        Move::SettlePosted {
+            device,
+            uuid,
+            stamp,
+        } => with_settled(alloc, drafts, device, uuid, *stamp),
+        Move::Fork {
+            device,
+            uuid,
+            other,
+        } => with_fork(alloc, drafts, device, uuid, other),
+        Move::Rename {
+            device,
+            uuid,
+            other,
+        } => with_renamed(alloc, drafts, device, uuid, other),
+        _ => copies(alloc, drafts),
+    }
+}
+
+fn devices_after(alloc: Global, state: &Ideal, next: &Move) -> Result<Many<Device>, AllocError>
+    ensures { IfOk result (λ changed. changed ≡ (after state.now next.now).devices) }
+{
+    let devices = state.devices.as_slice();
+    match next {
+        Move::Join {
+            device,
+            identifier,
+            number,
+        } => joined(alloc, devices, device, identifier, *number),
+        Move::Retire { device, number } => with_retired(alloc, devices, device, *number),
+        _ => copies(alloc, devices),
+    }
+}
+
+/// The state after a move.
+pub fn apply(alloc: Global, state: &Ideal, next: &Move) -> Result<Ideal, AllocError>
+    ensures { IfOk result (λ changed. changed ≡ after state.now next.now) }
+{
+    Ok(Ideal {
+        accounts: accounts_after(alloc, state, next)?,
+        drafts: drafts_after(alloc, state, next)?,
+        devices: devices_after(alloc, state, next)?,
+    })
 }

@@ -1,7 +1,7 @@
 //! What holds of all lists of moves, by the definitions alone. The functions do nothing; their
 //! contracts are the laws.
 
-ghost use Rattle.sn_laws.specs.Laws.{AllowsAsRelated, FirstRefused, FollowsItsStamp, FollowsLast, KeepsVersions, NoneRefused, OneNext, PrefixesLegal, SettlesVersions, StampsRise, StepsAsRelated, VersionsRise};
+ghost use Rattle.sn_laws.specs.Laws.{AllowsAsRelated, FirstRefused, FollowsItsStamp, FollowsLast, KeepsVersions, NoneRefused, OneNext, PrefixesLegal, RewrapsLast, SettlesVersions, StampsRise, StepsAsRelated, VersionsRise};
 
 /// No place is refused exactly where each move is allowed where it is made.
 pub fn none_refused()
@@ -61,4 +61,9 @@ pub fn settles_versions()
 /// What was accepted is followed on its item only by an accept on its stamp.
 pub fn follows_its_stamp()
     ensures { FollowsItsStamp }
+{}
+
+/// What is sealed again has the type and the text of the item's last version, and is under the last set.
+pub fn rewraps_last()
+    ensures { RewrapsLast }
 {}

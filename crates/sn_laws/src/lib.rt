@@ -5,10 +5,16 @@
 mod allowed;
 mod effects;
 pub mod ideal;
+pub mod kept_laws;
 pub mod laws;
 mod lookups;
+mod meeting;
 pub mod moves;
+mod redrafted;
+mod rekeyed;
+mod rekeying;
 mod run;
+pub mod state_laws;
 mod twins;
 
 pub use ideal::{Account, Body, Content, Device, Draft, Ideal, Posted, Version};

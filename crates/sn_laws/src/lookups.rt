@@ -1,15 +1,16 @@
 // Who is who in an ideal state.
 
-ghost use Rattle.std.specs.Prelude.{◌≡◌, Option, Some, None, find};
+ghost use Rattle.std.specs.Prelude.{◌≡◌, ◌==◌, Option, Some, None, find, nat_lt};
 ghost use Rattle.std.specs.List.{list_any};
 ghost use Rattle.std.specs.Option.{option_copied};
-ghost use Rattle.sn_laws.specs.Lookups.{is_account, is_device, is_draft, is_of, account_for, last_of, has_item, greatest, held_by};
+ghost use Rattle.sn_laws.specs.Lookups.{is_account, is_device, is_draft, is_of, account_for, account_of, device_named, draft_at, last_of, has_item, greatest, held_by};
 
-use crate::ideal::{Account, Device, Draft, Version};
+use crate::ideal::{Account, Device, Draft, Ideal, Version};
 use sn_string::Text;
 use uuid::Uuid;
 
-fn is_named(account: &Account, identifier: &Text) -> bool
+/// Whether the account has this identifier.
+pub fn is_named(account: &Account, identifier: &Text) -> bool
     ensures { result ≡ is_account identifier.now account.now }
 {
     account.identifier.as_str() == identifier.as_str()
@@ -74,6 +75,27 @@ pub fn account_of<'a>(accounts: &'a [Account], device: Option<&Device>) -> Optio
     }
 }
 
+/// The device of this name in a state.
+pub fn device_of<'a>(state: &'a Ideal, name: &Text) -> Option<&'a Device>
+    ensures { option_copied result ≡ device_named state.now name.now }
+{
+    device_named(state.devices.as_slice(), name)
+}
+
+/// The account of the device of this name in a state.
+pub fn owner<'a>(state: &'a Ideal, device: &Text) -> Option<&'a Account>
+    ensures { option_copied result ≡ account_of state.now device.now }
+{
+    account_of(state.accounts.as_slice(), device_of(state, device))
+}
+
+/// A device's draft of an item in a state.
+pub fn draft_of<'a>(state: &'a Ideal, device: &Text, uuid: &Uuid) -> Option<&'a Draft>
+    ensures { option_copied result ≡ draft_at state.now device.now uuid.now }
+{
+    draft_at(state.drafts.as_slice(), device, uuid)
+}
+
 fn is_version_of(version: &Version, uuid: &Uuid) -> bool
     ensures { result ≡ is_of uuid.now version.now }
 {
@@ -93,7 +115,8 @@ fn holds(versions: &[Version], uuid: &Uuid) -> bool
     versions.iter().any(|v| is_version_of(v, uuid))
 }
 
-fn has_version(account: &Account, uuid: &Uuid) -> bool
+/// Whether the account has versions of the item.
+pub fn has_version(account: &Account, uuid: &Uuid) -> bool
     ensures { result ≡ has_item uuid.now account.now }
 {
     holds(account.versions.as_slice(), uuid)
@@ -104,6 +127,33 @@ pub fn is_held(accounts: &[Account], uuid: &Uuid) -> bool
     ensures { result ≡ list_any (has_item uuid.now) accounts.now }
 {
     accounts.iter().any(|a| has_version(a, uuid))
+}
+
+/// The account that has versions of the item.
+pub fn account_with<'a>(accounts: &'a [Account], uuid: &Uuid) -> Option<&'a Account>
+    ensures { option_copied result ≡ find (has_item uuid.now) accounts.now }
+{
+    accounts.iter().find(|a| has_version(a, uuid))
+}
+
+/// Whether a device holds the set of this number.
+pub fn is_holding(device: Option<&Device>, number: u64) -> bool
+    ensures { result ≡ list_any (λ m. m == number) (held_by (option_copied device.entry)) }
+{
+    match device {
+        Some(device) => device.held.as_slice().iter().any(|&held| held == number),
+        None => false,
+    }
+}
+
+/// Whether a device holds a set above that of this number.
+pub fn is_holding_above(device: Option<&Device>, number: u64) -> bool
+    ensures { result ≡ list_any (λ m. nat_lt number m) (held_by (option_copied device.entry)) }
+{
+    match device {
+        Some(device) => device.held.as_slice().iter().any(|&held| number < held),
+        None => false,
+    }
 }
 
 /// The greatest number, 0 where there is none.

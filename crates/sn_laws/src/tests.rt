@@ -10,8 +10,8 @@ use uuid::Uuid;
 
 mod tables;
 
-fn set_of(alloc: Global, identifier: &str) -> Result<KeySet, Fail> {
-    let nonce = Text::of(alloc, "6e")?;
+fn set_of(alloc: Global, identifier: &str, nonce: &str) -> Result<KeySet, Fail> {
+    let nonce = Text::of(alloc, nonce)?;
     let params = Params::new(Text::of(alloc, identifier)?, 1, nonce).ok_or("params")?;
     Ok(KeySet {
         params,
@@ -53,49 +53,95 @@ fn content(alloc: Global, word: &str) -> Result<Content, Fail> {
     }
 }
 
-fn move_of(alloc: Global, line: &str) -> Result<Move, Fail> {
-    let mut words = line.split(' ');
-    let name = words.next().ok_or("move")?;
-    let first = words.next().ok_or("first word")?;
-    if name == "register" {
-        return Ok(Move::Register {
-            identifier: Text::of(alloc, first)?,
-            set: set_of(alloc, first)?,
-        });
-    }
-    let device = Text::of(alloc, first)?;
-    let second = words.next().ok_or("second word")?;
-    let third = words.next().unwrap_or("");
-    let fourth = words.next().unwrap_or("");
-    let fifth = words.next().unwrap_or("");
-    match name {
-        "join" => Ok(Move::Join {
-            device,
-            identifier: Text::of(alloc, second)?,
-            number: third.parse::<u64>()?,
-        }),
-        "edit" => Ok(Move::Edit {
-            device,
-            uuid: item(second)?,
-            kind: Text::of(alloc, third)?,
-            base: number(fourth)?,
-            latest: content(alloc, fifth)?,
-        }),
-        "post" => Ok(Move::Post {
-            device,
-            uuid: item(second)?,
-        }),
+fn word<'a>(words: &[&'a str], place: usize) -> &'a str {
+    words.get(place).copied().unwrap_or("")
+}
+
+fn edit_of(alloc: Global, words: &[&str]) -> Result<Move, Fail> {
+    Ok(Move::Edit {
+        device: Text::of(alloc, word(words, 1))?,
+        uuid: item(word(words, 2))?,
+        kind: Text::of(alloc, word(words, 3))?,
+        base: number(word(words, 4))?,
+        latest: content(alloc, word(words, 5))?,
+    })
+}
+
+// A move of a draft: of a device and an item, and of another word where the move has one.
+fn draft_move(alloc: Global, words: &[&str]) -> Result<Move, Fail> {
+    let device = Text::of(alloc, word(words, 1))?;
+    let uuid = item(word(words, 2))?;
+    let third = word(words, 3);
+    match word(words, 0) {
+        "drop" => Ok(Move::Drop { device, uuid }),
+        "post" => Ok(Move::Post { device, uuid }),
+        "unpost" => Ok(Move::Unpost { device, uuid }),
         "accept" => Ok(Move::Accept {
             device,
-            uuid: item(second)?,
+            uuid,
             stamp: third.parse::<u64>()?,
-            under: number(fourth)?,
+            under: number(word(words, 4))?,
         }),
-        _ => Ok(Move::Settle {
+        "settle" => Ok(Move::Settle { device, uuid }),
+        "settle-posted" => Ok(Move::SettlePosted {
             device,
-            uuid: item(second)?,
+            uuid,
+            stamp: third.parse::<u64>()?,
         }),
+        "fork" => Ok(Move::Fork {
+            device,
+            uuid,
+            other: item(third)?,
+        }),
+        "rename" => Ok(Move::Rename {
+            device,
+            uuid,
+            other: item(third)?,
+        }),
+        "give-way" => Ok(Move::GiveWay { device, uuid }),
+        _ => Err("move".into()),
     }
+}
+
+// A move of an account or its sets, or else of a draft.
+fn move_with(alloc: Global, words: &[&str]) -> Result<Move, Fail> {
+    let first = word(words, 1);
+    let second = word(words, 2);
+    match word(words, 0) {
+        "register" => Ok(Move::Register {
+            identifier: Text::of(alloc, first)?,
+            set: set_of(alloc, first, "6e")?,
+        }),
+        "join" => Ok(Move::Join {
+            device: Text::of(alloc, first)?,
+            identifier: Text::of(alloc, second)?,
+            number: word(words, 3).parse::<u64>()?,
+        }),
+        "edit" => edit_of(alloc, words),
+        "rewrap" => Ok(Move::Rewrap {
+            uuid: item(first)?,
+            stamp: second.parse::<u64>()?,
+            under: word(words, 3).parse::<u64>()?,
+        }),
+        "change" => Ok(Move::Change {
+            identifier: Text::of(alloc, first)?,
+            number: word(words, 3).parse::<u64>()?,
+            set: set_of(alloc, first, second)?,
+        }),
+        "retire" => Ok(Move::Retire {
+            device: Text::of(alloc, first)?,
+            number: second.parse::<u64>()?,
+        }),
+        _ => draft_move(alloc, words),
+    }
+}
+
+fn move_of(alloc: Global, line: &str) -> Result<Move, Fail> {
+    let mut words = Vec::new(alloc);
+    for word in line.split(' ') {
+        words.push(word)?;
+    }
+    move_with(alloc, &words)
 }
 
 fn moves_of(alloc: Global, line: &str) -> Result<Vec<Move>, Fail> {
@@ -150,5 +196,28 @@ fn state_after_moves(rt: HostRuntime) -> Result<(), Fail> {
     assert_eq!(rt; device.held.as_slice(), [1u64].as_slice());
     let again = move_of(rt.alloc(), "accept A 1 1001 1")?;
     assert!(rt; step(rt.alloc(), &state, &again)?.is_none());
+    Ok(())
+}
+
+// One item changed on two devices: a draft of B's, sent before, meets the version that A's became.
+const FORKED: &str =
+    "register alice;join A alice 1;join B alice 1;edit A 1 Note - {};post A 1;edit B 1 Note - {\"n\":2};post B 1;edit B 1 Note - {\"n\":3};accept A 1 1000 1;fork B 1 2";
+
+#[test]
+fn state_after_a_fork(rt: HostRuntime) -> Result<(), Fail> {
+    let mut state = Ideal::new(rt.alloc());
+    let moves = moves_of(rt.alloc(), FORKED)?;
+    for next in &moves {
+        state = step(rt.alloc(), &state, next)?.ok_or("allowed")?;
+    }
+    assert_eq!(rt; state.drafts.len(), 2);
+    let draft = state.drafts.as_slice().get(1).ok_or("draft")?;
+    assert_eq!(rt; draft.device.as_str(), "B");
+    assert!(rt; draft.uuid == item("2")?);
+    assert_eq!(rt; draft.kind.as_str(), "Note");
+    assert_eq!(rt; draft.base, None);
+    let copy = "{\"n\":3,\"conflict_of\":\"00000000-0000-0000-0000-000000000001\"}";
+    assert!(rt; matches!(&draft.latest, Content::Plain(text) if text.as_str() == copy));
+    assert!(rt; draft.posted.is_none());
     Ok(())
 }

@@ -2,8 +2,10 @@
 //! `-` where each move is legal. Moves stand between semicolons, and a place counts them from 0.
 //!
 //! `register IDENTIFIER`, `join DEVICE IDENTIFIER SET`, `edit DEVICE ITEM TYPE BASE TEXT`, `post DEVICE ITEM`,
-//! `accept DEVICE ITEM STAMP SET`, `settle DEVICE ITEM`. A base or a set is `-` for none. A text is
-//! `deleted` for a deletion, and `*N` for an object text of N bytes.
+//! `accept DEVICE ITEM STAMP SET`, `settle DEVICE ITEM`, `drop DEVICE ITEM`, `unpost DEVICE ITEM`,
+//! `rewrap ITEM STAMP SET`, `settle-posted DEVICE ITEM STAMP`, `fork DEVICE ITEM OTHER`, `rename DEVICE ITEM OTHER`,
+//! `give-way DEVICE ITEM`, `change IDENTIFIER NONCE NUMBER`, `retire DEVICE SET`. An account's first set has the nonce 6e. A base or a
+//! set is `-` for none. A text is `deleted` for a deletion, and `*N` for an object text of N bytes.
 
 pub const LISTS: &str = r#"
 register alice|-
@@ -83,4 +85,105 @@ register alice;register bob;join A alice 1;join B bob 1;edit A 1 Note - {};post 
 register alice;register bob;join A alice 1;join B bob 1;edit A 1 Note - {};post A 1;accept A 1 1000 1;edit B 1 Note - {};post B 1;accept B 1 1001 1|9
 register alice;register bob;join A alice 1;join B bob 1;edit A 1 Note - {};post A 1;accept A 1 1000 1;edit B 2 Note - {};post B 2;accept B 2 1000 1|9
 register alice;register bob;join A alice 1;join B bob 1;edit A 1 Note - {};post A 1;accept A 1 1000 1;edit B 2 Note - {};post B 2;accept B 2 1001 1|-
+register alice;drop A 1|1
+register alice;join A alice 1;drop A 1|2
+register alice;join A alice 1;edit A 1 Note - {};drop A 1|-
+register alice;join A alice 1;edit A 1 Note - {};drop A 1;post A 1|4
+register alice;join A alice 1;edit A 1 Note - {};post A 1;drop A 1|4
+register alice;join A alice 1;edit A 1 Note - {};post A 1;edit A 1 Note - deleted;drop A 1|5
+register alice;join A alice 1;edit A 1 Note - {};post A 1;accept A 1 1000 1;edit A 1 Note - deleted;drop A 1|6
+register alice;join A alice 1;edit A 1 Note - {};post A 1;accept A 1 1000 1;settle A 1;edit A 1 Note 1000 {"n":2};drop A 1|7
+register alice;register bob;join A alice 1;join B bob 1;edit B 1 Note - {};post B 1;edit A 1 Note - {};post A 1;accept A 1 1000 1;drop B 1|9
+register alice;register bob;join A alice 1;join B bob 1;edit B 1 Note - {};post B 1;edit A 1 Note - {};post A 1;accept A 1 1000 1;edit B 1 Note - deleted;drop B 1|-
+register alice;unpost A 1|1
+register alice;join A alice 1;unpost A 1|2
+register alice;join A alice 1;edit A 1 Note - {};change alice 6f 2;unpost A 1|4
+register alice;join A alice 1;edit A 1 Note - {};post A 1;unpost A 1|4
+register alice;change alice 6f 3|1
+register alice;change alice 6f 1|1
+register alice;change alice 6f 2;change alice 70 2|2
+register alice;join A alice 1;edit A 1 Note - {};post A 1;change alice 6f 2;unpost A 1;unpost A 1|6
+register alice;join A alice 1;edit A 1 Note - {};post A 1;change alice 6f 2;accept A 1 1000 1|5
+register alice;join A alice 1;edit A 1 Note - {};post A 1;change alice 6f 2;join A alice 2;post A 1|6
+register alice;join A alice 1;edit A 1 Note - {};post A 1;change alice 6f 2;join A alice 2;unpost A 1;accept A 1 1000 2|7
+register alice;join A alice 1;edit A 1 Note - {};post A 1;change alice 6f 2;join A alice 2;unpost A 1;post A 1;accept A 1 1000 1|8
+register alice;join A alice 1;edit A 1 Note - {};post A 1;change alice 6f 2;join A alice 2;unpost A 1;post A 1;accept A 1 1000 2|-
+register alice;join A alice 1;edit A 1 Note - {};post A 1;accept A 1 1000 1;change alice 6f 2;unpost A 1|6
+register alice;join A alice 1;edit A 1 Note - {};post A 1;accept A 1 1000 1;settle A 1;edit A 1 Note 1000 {"n":2};post A 1;change alice 6f 2;unpost A 1|-
+register alice;join A alice 1;join B alice 1;edit A 1 Note - {};post A 1;accept A 1 1000 1;settle A 1;edit B 1 Note 1000 {"n":3};post B 1;edit A 1 Note 1000 {"n":2};post A 1;accept A 1 1001 1;change alice 6f 2;unpost B 1|13
+register alice;join A alice 1;edit A 1 Note - {};post A 1;accept A 1 1000 1;rewrap 1 1001 1|5
+register alice;join A alice 1;edit A 1 Note - {};post A 1;accept A 1 1000 1;change alice 6f 2;rewrap 1 1001 2|-
+register alice;join A alice 1;edit A 1 Note - {};post A 1;accept A 1 1000 1;change alice 6f 2;rewrap 1 1001 1|6
+register alice;join A alice 1;edit A 1 Note - {};post A 1;accept A 1 1000 1;change alice 6f 2;rewrap 1 1000 2|6
+register alice;join A alice 1;edit A 1 Note - {};post A 1;accept A 1 1000 1;change alice 6f 2;rewrap 1 253402300800000000 2|6
+register alice;join A alice 1;edit A 1 Note - {};post A 1;accept A 1 1000 1;change alice 6f 2;rewrap 2 1001 2|6
+register alice;join A alice 1;edit A 1 Note - {};post A 1;accept A 1 1000 1;change alice 6f 2;rewrap 1 1001 2;rewrap 1 1002 2|7
+register alice;join A alice 1;edit A 1 Note - {};post A 1;accept A 1 1000 1;change alice 6f 2;rewrap 1 1001 2;settle A 1|-
+register alice;join A alice 1;edit A 1 Note - {};post A 1;accept A 1 1000 1;settle A 1;edit A 1 Note 1000 deleted;post A 1;accept A 1 1001 -;change alice 6f 2;rewrap 1 1002 2|10
+register alice;register bob;join A alice 1;join B bob 1;edit A 1 Note - {};post A 1;accept A 1 1000 1;edit B 2 Note - {};post B 2;accept B 2 2000 1;change alice 6f 2;rewrap 1 1500 2|11
+register alice;settle-posted A 1 1000|1
+register alice;join A alice 1;edit A 1 Note - {};post A 1;settle-posted A 1 1000|4
+register alice;join A alice 1;edit A 1 Note - {};post A 1;edit A 1 Note - {"n":2};accept A 1 1000 1;settle-posted A 1 999|6
+register alice;join A alice 1;edit A 1 Note - {};post A 1;edit A 1 Note - {"n":2};accept A 1 1000 1;settle-posted A 1 1000;settle-posted A 1 1000|7
+register alice;join A alice 1;edit A 1 Note - {};post A 1;edit A 1 Note - {"n":2};accept A 1 1000 1;settle-posted A 1 1000;post A 1;accept A 1 1001 1;settle A 1|-
+register alice;join A alice 1;edit A 1 Note - {};post A 1;accept A 1 1000 1;settle A 1;edit A 1 Note 1000 {};settle-posted A 1 1000|7
+register alice;join A alice 1;join B alice 1;edit A 1 Note - {};post A 1;edit B 1 Note - {"n":3};post B 1;accept A 1 1000 1;settle-posted B 1 1000|8
+register alice;join A alice 1;join B alice 1;edit A 1 Note - {};post A 1;edit B 1 Task - {};post B 1;accept A 1 1000 1;settle-posted B 1 1000|8
+register alice;join A alice 1;join B alice 1;edit A 1 Note - {};post A 1;edit B 1 Note - {};post B 1;accept A 1 1000 1;settle-posted B 1 1000|-
+register alice;join A alice 1;edit A 1 Note - {};post A 1;accept A 1 1000 1;settle A 1;edit A 1 Note 1000 {};post A 1;change alice 6f 2;unpost A 1;settle-posted A 1 1000|-
+register alice;fork A 1 2|1
+register alice;join A alice 1;edit A 1 Note - {};fork A 1 2|3
+register alice;join A alice 1;edit A 1 Note - {};post A 1;accept A 1 1000 1;settle A 1;edit A 1 Note 1000 {"n":2};fork A 1 2|7
+register alice;join A alice 1;edit A 1 Note - {};post A 1;edit A 1 Note - {"n":2};accept A 1 1000 1;fork A 1 2|6
+register alice;join A alice 1;join B alice 1;edit A 1 Note - {};post A 1;accept A 1 1000 1;fork B 1 2|6
+register alice;join A alice 1;join B alice 1;edit A 1 Note - {};post A 1;accept A 1 1000 1;edit B 1 Note - {};fork B 1 2|7
+register alice;join A alice 1;join B alice 1;edit A 1 Note - {};post A 1;accept A 1 1000 1;edit B 1 Note - {"n":3};fork B 1 1|7
+register alice;join A alice 1;join B alice 1;edit A 1 Note - {};post A 1;accept A 1 1000 1;edit B 1 Note - {"n":3};edit B 2 Note - {};fork B 1 2|8
+register alice;join A alice 1;join B alice 1;edit A 1 Note - {};post A 1;accept A 1 1000 1;edit B 1 Note - {"n":3};edit A 2 Note - {};fork B 1 2;post B 1|9
+register alice;join A alice 1;join B alice 1;edit A 1 Note - {};post A 1;accept A 1 1000 1;edit B 1 Note - {"n":3};fork B 1 2;post B 2;accept B 2 1001 1;settle B 2|-
+register alice;join A alice 1;join B alice 1;edit A 1 Note - {};post A 1;accept A 1 1000 1;edit B 1 Task - {};fork B 1 2|-
+register alice;join A alice 1;join B alice 1;edit A 1 Note - {};post A 1;accept A 1 1000 1;settle A 1;edit B 1 Note 1000 deleted;edit A 1 Note 1000 {"n":2};post A 1;accept A 1 1001 1;fork B 1 2|11
+register alice;join A alice 1;join B alice 1;edit A 1 Note - {};post A 1;accept A 1 1000 1;settle A 1;edit B 1 Note 1000 {"n":3};edit A 1 Note 1000 deleted;post A 1;accept A 1 1001 -;fork B 1 2|-
+register alice;join A alice 1;join B alice 1;edit A 1 Note - {};post A 1;accept A 1 1000 1;change alice 6f 2;rewrap 1 1001 2;edit B 1 Note - {};fork B 1 2|-
+register alice;join A alice 1;join B alice 1;edit A 1 Note - {};post A 1;accept A 1 1000 1;change alice 6f 2;rewrap 1 1001 2;join B alice 2;edit B 1 Note - {};fork B 1 2|10
+register alice;rename A 1 2|1
+register alice;join A alice 1;edit A 1 Note - {};rename A 1 2|3
+register alice;join A alice 1;edit A 1 Note - {};post A 1;accept A 1 1000 1;rename A 1 2|5
+register alice;register bob;join A alice 1;join B bob 1;edit A 1 Note - {};post A 1;accept A 1 1000 1;rename B 1 2|7
+register alice;register bob;join A alice 1;join B bob 1;edit A 1 Note - {};post A 1;accept A 1 1000 1;edit B 1 Note - {"n":3};rename B 1 1|8
+register alice;register bob;join A alice 1;join B bob 1;edit A 1 Note - {};post A 1;accept A 1 1000 1;edit B 1 Note - {"n":3};edit B 2 Note - {};rename B 1 2|9
+register alice;register bob;join A alice 1;join B bob 1;edit A 1 Note - {};post A 1;accept A 1 1000 1;edit B 1 Note - {"n":3};post B 1;rename B 1 2;accept B 2 1001 1|10
+register alice;register bob;join A alice 1;join B bob 1;edit A 1 Note - {};post A 1;accept A 1 1000 1;edit B 1 Note - {"n":3};post B 1;rename B 1 2;post B 2;accept B 2 1001 1;settle B 2|-
+register alice;give-way A 1|1
+register alice;join A alice 1;edit A 1 Note - {};post A 1;edit A 1 Note - deleted;give-way A 1|5
+register alice;join A alice 1;edit A 1 Note - {};post A 1;accept A 1 1000 1;settle A 1;edit A 1 Note 1000 deleted;give-way A 1|7
+register alice;join A alice 1;edit A 1 Note - {};post A 1;edit A 1 Note - deleted;accept A 1 1000 1;give-way A 1|6
+register alice;join A alice 1;edit A 1 Note - {};post A 1;edit A 1 Note - deleted;accept A 1 1000 1;change alice 6f 2;rewrap 1 1001 2;give-way A 1|-
+register alice;join A alice 1;edit A 1 Note - {};post A 1;edit A 1 Note - deleted;accept A 1 1000 1;change alice 6f 2;rewrap 1 1001 2;join A alice 2;give-way A 1|9
+register alice;join A alice 1;join B alice 1;edit A 1 Note - {};post A 1;accept A 1 1000 1;settle A 1;edit B 1 Note 1000 deleted;edit A 1 Note 1000 {"n":2};post A 1;accept A 1 1001 1;give-way B 1;edit B 1 Note 1001 {"n":3}|-
+register alice;join A alice 1;join B alice 1;edit A 1 Note - {};post A 1;accept A 1 1000 1;settle A 1;edit B 1 Note 1000 {"n":3};edit A 1 Note 1000 {"n":2};post A 1;accept A 1 1001 1;give-way B 1|11
+register alice;join A alice 1;join B alice 1;edit A 1 Note - {};post A 1;accept A 1 1000 1;settle A 1;edit B 1 Note 1000 deleted;edit A 1 Note 1000 deleted;post A 1;accept A 1 1001 -;give-way B 1|11
+change alice 6f 2|0
+register alice;change bob 6f 2|1
+register alice;change alice 6e 2|1
+register alice;change alice 6f 2;change alice 6f 3|2
+register alice;change alice 6f 2;change alice 6e 3|2
+register alice;change alice 6f 2;change alice 70 3|-
+register alice;register bob;change alice 6f 2;change bob 6f 2|-
+register alice;join A alice 1;edit A 1 Note - {};post A 1;accept A 1 1000 1;change alice 6f 2;change alice 70 3|6
+register alice;join A alice 1;edit A 1 Note - {};post A 1;accept A 1 1000 1;change alice 6f 2;rewrap 1 1001 2;change alice 70 3|-
+register alice;join A alice 1;edit A 1 Note - {};post A 1;accept A 1 1000 1;settle A 1;edit A 1 Note 1000 deleted;post A 1;accept A 1 1001 -;change alice 6f 2;change alice 70 3|-
+register alice;change alice 6f 2;retire A 1|2
+register alice;join A alice 1;retire A 1|2
+register alice;change alice 6f 2;join A alice 2;retire A 1|3
+register alice;join A alice 1;change alice 6f 2;join A alice 2;retire A 2|4
+register alice;join A alice 1;change alice 6f 2;join A alice 2;retire A 1|-
+register alice;join A alice 1;change alice 6f 2;join A alice 2;retire A 1;retire A 1|5
+register alice;join A alice 1;change alice 6f 2;join A alice 2;change alice 70 3;join A alice 3|5
+register alice;join A alice 1;change alice 6f 2;join A alice 2;retire A 1;change alice 70 3;join A alice 3|-
+register alice;join A alice 1;edit A 1 Note - {};post A 1;accept A 1 1000 1;change alice 6f 2;join A alice 2;retire A 1|7
+register alice;join A alice 1;edit A 1 Note - {};post A 1;accept A 1 1000 1;change alice 6f 2;join A alice 2;rewrap 1 1001 2;retire A 1|-
+register alice;register bob;join A alice 1;join B bob 1;edit B 1 Note - {};post B 1;accept B 1 1000 1;change alice 6f 2;join A alice 2;retire A 1|-
+register alice;join A alice 1;change alice 6f 2;join A alice 2;edit A 1 Note - {};post A 1;accept A 1 1000 2|-
+register alice;join A alice 1;change alice 6f 2;join A alice 2;edit A 1 Note - {};post A 1;accept A 1 1000 1|6
 "#;

@@ -1,4 +1,4 @@
-use Rattle.std.proofs.Common.{◌≡◌, take, [], ◌∷◌, ◌++◌, length}
+use Rattle.std.proofs.Common.{◌≡◌, take, [], ◌∷◌, ◌++◌}
 use Rattle.sn_laws.specs.Lookups.{is_device}
 use Rattle.sn_laws.specs.Moves.{changed_where}
 use Rattle.sn_laws.proofs.effects.with_set.Given as goal

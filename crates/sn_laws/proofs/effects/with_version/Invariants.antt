@@ -1,4 +1,4 @@
-use Rattle.std.proofs.Common.{◌≡◌, take, [], ◌∷◌, ◌++◌, length}
+use Rattle.std.proofs.Common.{◌≡◌, take, [], ◌∷◌, ◌++◌}
 use Rattle.sn_laws.specs.Lookups.{is_account}
 use Rattle.sn_laws.specs.Moves.{changed_where, version_of}
 use Rattle.sn_laws.proofs.effects.with_version.Given as goal

@@ -1,6 +1,5 @@
-use Rattle.sn_laws.specs.Lookups.{empty}
 use Rattle.sn_laws.proofs.StampLemmas.{ordered}
 use Rattle.sn_laws.proofs.laws.versions_rise.Goals as goal
 
 pub returns : goal.returns
-returns c = λ ms legal. ordered empty ms legal tt
+returns c = ordered
