@@ -5,7 +5,7 @@ use Rattle.std.specs.List.{list_any, starts_with}
 use Rattle.std.specs.Str.{bytes_eq}
 use Rattle.sn_laws.specs.Lookups.{Bytes}
 use Rattle.sn_laws.specs.declared.moves.Move.{Move}
-use Rattle.sn_laws.specs.declared.moves.Move.TheVariants.{Register, Join, Edit, Post, Accept, Settle}
+use Rattle.sn_laws.specs.declared.moves.Move.TheVariants.{Register, Join, Edit, Drop, Post, Unpost, Accept, Rewrap, Settle, SettlePosted, Fork, Rename, GiveWay, Change, Retire}
 use Rattle.sn_string.specs.Uuids.{uuid_text}
 
 -- the items that have a label, the first made first
@@ -27,13 +27,23 @@ label_text labels uuid = 35 ∷ decimal (label_from 1 labels uuid)
 abbrev pub labelled : Labels → Bytes → Labels
 labelled labels uuid = if is_labelled labels uuid then labels else labels ++ uuid ∷ []
 
+-- the label that a move makes: of an item that is edited, of one that a draft is forked to, of one that it is renamed to
 abbrev pub labels_after : Labels → Move → Labels
 labels_after labels (Edit device uuid kind base latest) = labelled labels uuid
+labels_after labels (Fork device uuid other) = labelled labels other
+labels_after labels (Rename device uuid other) = labelled labels other
 labels_after labels (Register identifier set) = labels
 labels_after labels (Join device identifier number) = labels
+labels_after labels (Drop device uuid) = labels
 labels_after labels (Post device uuid) = labels
+labels_after labels (Unpost device uuid) = labels
 labels_after labels (Accept device uuid stamp under) = labels
+labels_after labels (Rewrap uuid stamp under) = labels
 labels_after labels (Settle device uuid) = labels
+labels_after labels (SettlePosted device uuid stamp) = labels
+labels_after labels (GiveWay device uuid) = labels
+labels_after labels (Change identifier number set) = labels
+labels_after labels (Retire device number) = labels
 
 abbrev pub labels_of : Labels → List Move → Labels
 labels_of labels [] = labels

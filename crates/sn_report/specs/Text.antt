@@ -6,7 +6,7 @@ use Rattle.sn_laws.specs.Lookups.{Bytes}
 use Rattle.sn_laws.specs.declared.ideal.Content.{Content}
 use Rattle.sn_laws.specs.declared.ideal.Content.TheVariants as content
 use Rattle.sn_laws.specs.declared.moves.Move.{Move}
-use Rattle.sn_laws.specs.declared.moves.Move.TheVariants.{Register, Join, Edit, Post, Accept, Settle}
+use Rattle.sn_laws.specs.declared.moves.Move.TheVariants.{Register, Join, Edit, Drop, Post, Unpost, Accept, Rewrap, Settle, SettlePosted, Fork, Rename, GiveWay, Change, Retire}
 use Rattle.sn_report.specs.Labels.{Labels, label_text, labels_after, labels_of, relabelled}
 use Rattle.sn_report.specs.declared.report.DeviceRefusal.{DeviceRefusal}
 use Rattle.sn_report.specs.declared.report.DeviceRefusal.TheVariants as refusal
@@ -35,14 +35,32 @@ edit_text labels device uuid latest = codes "edit " ++ (device ++ (codes " " ++ 
 abbrev pub accept_text : Labels → Bytes → ℕ → Option ℕ → List ℕ
 accept_text labels uuid stamp under = codes "accept " ++ (label_text labels uuid ++ (codes " @" ++ (decimal stamp ++ (codes " " ++ under_text under))))
 
+-- a device does something with a draft, whose item may get another label
+
+abbrev pub draft_text : List ℕ → Labels → Bytes → Bytes → List ℕ
+draft_text word labels device uuid = word ++ (codes " " ++ (device ++ (codes " " ++ label_text labels uuid)))
+
+abbrev pub moved_text : List ℕ → Labels → Bytes → Bytes → Bytes → List ℕ
+moved_text word labels device uuid other = draft_text word labels device uuid ++ (codes " " ++ label_text labels other)
+
 -- a move, with the labels that there are after it
 abbrev pub move_text : Labels → Move → List ℕ
 move_text labels (Register identifier set) = codes "register " ++ (identifier ++ codes " set 1")
 move_text labels (Join device identifier number) = codes "join " ++ (device ++ (codes " " ++ (identifier ++ (codes " set " ++ decimal number))))
 move_text labels (Edit device uuid kind base latest) = edit_text labels device uuid latest
-move_text labels (Post device uuid) = codes "post " ++ (device ++ (codes " " ++ label_text labels uuid))
+move_text labels (Drop device uuid) = draft_text (codes "drop") labels device uuid
+move_text labels (Post device uuid) = draft_text (codes "post") labels device uuid
+move_text labels (Unpost device uuid) = draft_text (codes "unpost") labels device uuid
 move_text labels (Accept device uuid stamp under) = accept_text labels uuid stamp under
-move_text labels (Settle device uuid) = codes "settle " ++ (device ++ (codes " " ++ label_text labels uuid))
+move_text labels (Rewrap uuid stamp under) =
+    codes "rewrap " ++ (label_text labels uuid ++ (codes " @" ++ (decimal stamp ++ (codes " set " ++ decimal under))))
+move_text labels (Settle device uuid) = draft_text (codes "settle") labels device uuid
+move_text labels (SettlePosted device uuid stamp) = draft_text (codes "settle") labels device uuid ++ (codes " @" ++ decimal stamp)
+move_text labels (Fork device uuid other) = moved_text (codes "fork") labels device uuid other
+move_text labels (Rename device uuid other) = moved_text (codes "rename") labels device uuid other
+move_text labels (GiveWay device uuid) = draft_text (codes "giveway") labels device uuid
+move_text labels (Change identifier number set) = codes "change " ++ (identifier ++ (codes " set " ++ decimal number))
+move_text labels (Retire device number) = codes "retire " ++ (device ++ (codes " set " ++ decimal number))
 
 -- a server's refusal: its status and its tag
 abbrev pub server_text : ServerRefusal → List ℕ

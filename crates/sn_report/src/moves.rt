@@ -1,11 +1,13 @@
 //! The lines of moves.
 
-ghost use Rattle.std.specs.Prelude.{◌≡◌, IfOk, OnOk, string_bytes};
-ghost use Rattle.sn_report.specs.Labels.{labels_after};
-ghost use Rattle.sn_report.specs.Text.{accept_text, content_text, edit_text, move_text, under_text};
+ghost use Rattle.std.specs.Prelude.{◌≡◌, ◌++◌, IfOk, OnOk, codes, string_bytes};
+ghost use Rattle.std.specs.Fmt.{decimal};
+ghost use Rattle.sn_report.specs.Labels.{label_text, labels_after};
+ghost use Rattle.sn_report.specs.Text.{accept_text, content_text, draft_text, edit_text, move_text, moved_text, under_text};
 
 use crate::labels::Labels;
 use sn_laws::{Content, Move};
+use sn_string::Text;
 use std::alloc::{AllocError, Global};
 use std::fmt::Write;
 use uuid::Uuid;
@@ -62,6 +64,73 @@ fn accept_text(
     format!(in alloc; "accept #{label} @{stamp} {body}")
 }
 
+// What a device does with a draft.
+fn draft_text(
+    alloc: Global,
+    word: &str,
+    labels: &Labels,
+    device: &Text,
+    uuid: &Uuid,
+) -> Result<String, AllocError>
+    ensures { IfOk result (λ text. string_bytes text ≡ draft_text word.now labels.now device.now uuid.now) }
+{
+    let device = device.as_str();
+    let label = labels.label(uuid);
+    format!(in alloc; "{word} {device} #{label}")
+}
+
+// What a device does with a draft that goes on under another uuid.
+fn moved_text(
+    alloc: Global,
+    word: &str,
+    labels: &Labels,
+    device: &Text,
+    uuid: &Uuid,
+    other: &Uuid,
+) -> Result<String, AllocError>
+    ensures { IfOk result (λ text. string_bytes text ≡ moved_text word.now labels.now device.now uuid.now other.now) }
+{
+    let draft = draft_text(alloc, word, labels, device, uuid)?;
+    let label = labels.label(other);
+    format!(in alloc; "{draft} #{label}")
+}
+
+fn settle_posted_text(
+    alloc: Global,
+    labels: &Labels,
+    device: &Text,
+    uuid: &Uuid,
+    stamp: u64,
+) -> Result<String, AllocError>
+    ensures { IfOk result (λ text. string_bytes text
+        ≡ draft_text (codes "settle") labels.now device.now uuid.now ++ (codes " @" ++ decimal stamp)) }
+{
+    let draft = draft_text(alloc, "settle", labels, device, uuid)?;
+    format!(in alloc; "{draft} @{stamp}")
+}
+
+// What a device, or an account, has to do with a set.
+fn set_text(alloc: Global, word: &str, name: &Text, number: u64) -> Result<String, AllocError>
+    ensures { IfOk result (λ text. string_bytes text ≡ word.now ++ (codes " " ++ (name.now ++ (codes " set " ++ decimal number)))) }
+{
+    let name = name.as_str();
+    format!(in alloc; "{word} {name} set {number}")
+}
+
+fn rewrap_text(
+    alloc: Global,
+    labels: &Labels,
+    uuid: &Uuid,
+    stamp: u64,
+    under: u64,
+) -> Result<String, AllocError>
+    ensures { IfOk result (λ text. string_bytes text
+        ≡ codes "rewrap " ++ (label_text labels.now uuid.now ++ (codes " @" ++ (decimal stamp ++ (codes " set " ++ decimal under))))) }
+{
+    let label = labels.label(uuid);
+    format!(in alloc; "rewrap #{label} @{stamp} set {under}")
+}
+
 /// A move, with the labels that there are after it.
 pub(crate) fn move_text(alloc: Global, labels: &Labels, made: &Move) -> Result<String, AllocError>
     ensures { IfOk result (λ text. string_bytes text ≡ move_text labels.now made.now) }
@@ -86,22 +155,39 @@ pub(crate) fn move_text(alloc: Global, labels: &Labels, made: &Move) -> Result<S
             latest,
             ..
         } => edit_text(alloc, labels, device.as_str(), uuid, latest),
-        Move::Post { device, uuid } => {
-            let device = device.as_str();
-            let label = labels.label(uuid);
-            format!(in alloc; "post {device} #{label}")
-        }
+        Move::Drop { device, uuid } => draft_text(alloc, "drop", labels, device, uuid),
+        Move::Post { device, uuid } => draft_text(alloc, "post", labels, device, uuid),
+        Move::Unpost { device, uuid } => draft_text(alloc, "unpost", labels, device, uuid),
         Move::Accept {
             uuid,
             stamp,
             under,
             ..
         } => accept_text(alloc, labels, uuid, *stamp, *under),
-        Move::Settle { device, uuid } => {
-            let device = device.as_str();
-            let label = labels.label(uuid);
-            format!(in alloc; "settle {device} #{label}")
-        }
+        Move::Rewrap { uuid, stamp, under } => rewrap_text(alloc, labels, uuid, *stamp, *under),
+        Move::Settle { device, uuid } => draft_text(alloc, "settle", labels, device, uuid),
+        Move::SettlePosted {
+            device,
+            uuid,
+            stamp,
+        } => settle_posted_text(alloc, labels, device, uuid, *stamp),
+        Move::Fork {
+            device,
+            uuid,
+            other,
+        } => moved_text(alloc, "fork", labels, device, uuid, other),
+        Move::Rename {
+            device,
+            uuid,
+            other,
+        } => moved_text(alloc, "rename", labels, device, uuid, other),
+        Move::GiveWay { device, uuid } => draft_text(alloc, "giveway", labels, device, uuid),
+        Move::Change {
+            identifier,
+            number,
+            ..
+        } => set_text(alloc, "change", identifier, *number),
+        Move::Retire { device, number } => set_text(alloc, "retire", device, *number),
     }
 }
 
@@ -111,10 +197,18 @@ pub(crate) fn make_label(labels: &mut Labels, made: &Move) -> Result<(), AllocEr
 {
     match made {
         Move::Edit { uuid, .. } => labels.add(*uuid),
+        Move::Fork { other, .. } | Move::Rename { other, .. } => labels.add(*other),
         Move::Register { .. }
         | Move::Join { .. }
+        | Move::Drop { .. }
         | Move::Post { .. }
+        | Move::Unpost { .. }
         | Move::Accept { .. }
-        | Move::Settle { .. } => Ok(()),
+        | Move::Rewrap { .. }
+        | Move::Settle { .. }
+        | Move::SettlePosted { .. }
+        | Move::GiveWay { .. }
+        | Move::Change { .. }
+        | Move::Retire { .. } => Ok(()),
     }
 }

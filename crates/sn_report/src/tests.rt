@@ -19,6 +19,10 @@ fn two() -> Result<Uuid, Fail> {
     Ok(uuid_of(TWO).ok_or("a uuid")?)
 }
 
+fn three() -> Result<Uuid, Fail> {
+    Ok(Uuid::from_bytes([3; 16]))
+}
+
 // The second is made first.
 fn labels(alloc: Global) -> Result<Labels, Fail> {
     let mut labels = Labels::new(alloc);
@@ -211,6 +215,84 @@ fn writes_moves(rt: HostRuntime) -> Result<(), Fail> {
     events.push(second_put(alloc)?)?;
     events.push(exchange(alloc)?)?;
     assert_eq!(rt; report_text(alloc, &Report { events })?.as_str(), REPORT);
+    Ok(())
+}
+
+// A draft that meets other versions, and a change of password.
+fn met(alloc: Global) -> Result<Event, Fail> {
+    let device = "A";
+    let mut moves = Many::new(alloc);
+    moves.push(edit(alloc, one()?, plain(alloc, "{}")?)?)?;
+    moves.push(Move::Fork {
+        device: Text::of(alloc, device)?,
+        uuid: one()?,
+        other: two()?,
+    })?;
+    moves.push(Move::Rename {
+        device: Text::of(alloc, device)?,
+        uuid: two()?,
+        other: three()?,
+    })?;
+    moves.push(Move::SettlePosted {
+        device: Text::of(alloc, device)?,
+        uuid: three()?,
+        stamp: 1000003,
+    })?;
+    moves.push(Move::Unpost {
+        device: Text::of(alloc, device)?,
+        uuid: one()?,
+    })?;
+    moves.push(Move::GiveWay {
+        device: Text::of(alloc, device)?,
+        uuid: two()?,
+    })?;
+    moves.push(Move::Drop {
+        device: Text::of(alloc, device)?,
+        uuid: three()?,
+    })?;
+    Ok(event(8, moves, Many::new(alloc), Last::Done))
+}
+
+fn rekeyed(alloc: Global) -> Result<Event, Fail> {
+    let mut moves = Many::new(alloc);
+    moves.push(Move::Change {
+        identifier: Text::of(alloc, "alice")?,
+        number: 2,
+        set: alice(alloc)?,
+    })?;
+    moves.push(Move::Rewrap {
+        uuid: one()?,
+        stamp: 1000004,
+        under: 2,
+    })?;
+    moves.push(Move::Retire {
+        device: Text::of(alloc, "A")?,
+        number: 1,
+    })?;
+    Ok(event(9, moves, Many::new(alloc), Last::Done))
+}
+
+const MET: &str = "8 edit A #1 {}
+8 fork A #1 #2
+8 rename A #2 #3
+8 settle A #3 @1000003
+8 unpost A #1
+8 giveway A #2
+8 drop A #3
+8 = ok
+9 change alice set 2
+9 rewrap #1 @1000004 set 2
+9 retire A set 1
+9 = ok
+";
+
+#[test]
+fn writes_moves_of_conflicts(rt: HostRuntime) -> Result<(), Fail> {
+    let alloc = rt.alloc();
+    let mut events = Many::new(alloc);
+    events.push(met(alloc)?)?;
+    events.push(rekeyed(alloc)?)?;
+    assert_eq!(rt; report_text(alloc, &Report { events })?.as_str(), MET);
     Ok(())
 }
 
