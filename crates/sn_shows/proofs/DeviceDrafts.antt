@@ -95,13 +95,13 @@ edited_shows = edited_so
 
 -- a row put again under its number is of the same item
 
-own_again : (rows : Rows) (local : ℕ) (item again : LocalItem) → rows (key.Local local) ≡ Some (value.Local item) → again.uuid ≡ item.uuid
+pub own_again : (rows : Rows) (local : ℕ) (item again : LocalItem) → rows (key.Local local) ≡ Some (value.Local item) → again.uuid ≡ item.uuid
     → (was : LocalItem) → rows (key.Local local) ≡ Some (value.Local was) → was.uuid ≡ again.uuid
 own_again rows local item again stands same was e =
     let is : was ≡ item = cc in
     ap (λ (x : LocalItem). x.uuid) is ∙ sym same
 
-apart_again : (rows : Rows) (s : Ideal) (name : Bytes) (d : Device) (a : Account) (local : ℕ) (item again : LocalItem) → ShowsHolder rows s name d a
+pub apart_again : (rows : Rows) (s : Ideal) (name : Bytes) (d : Device) (a : Account) (local : ℕ) (item again : LocalItem) → ShowsHolder rows s name d a
     → rows (key.Local local) ≡ Some (value.Local item) → again.uuid ≡ item.uuid
     → (other : ℕ) (it : LocalItem) → rows (key.Local other) ≡ Some (value.Local it) → local ≢ other → it.uuid ≢ again.uuid
 apart_again rows s name d a local item again h stands same other it e differs is =

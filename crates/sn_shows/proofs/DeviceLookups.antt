@@ -57,3 +57,27 @@ find_past_without q p off (x ∷ xs) = at (find_past_without q p off xs) (p x) r
     at : find q (without p xs) ≡ find q xs → (b : Bool) → p x ≡ b → find q (cond (not b) (x ∷ without p xs) (without p xs)) ≡ cond (q x) (Some x) (find q xs)
     at rest true e = rw (off x e) rest
     at rest false e = ap (λ found. cond (q x) (Some x) found) rest
+
+-- an element that is changed so that it passes, where none passed
+pub find_moved : {A : Type 0} (q p : A → Bool) (f : A → A) → ((x : A) → p x ≡ true → q (f x) ≡ true) → (xs : List A) (a : A) → find q xs ≡ None → find p xs ≡ Some a
+    → find q (changed_where p f xs) ≡ Some (f a)
+find_moved q p f passes [] a none h = absurd (cc)
+find_moved q p f passes (x ∷ xs) a none h = at (λ e k. find_moved q p f passes xs a e k) (q x) refl none (p x) refl h
+  where
+    at : (find q xs ≡ None → find p xs ≡ Some a → find q (changed_where p f xs) ≡ Some (f a)) → (c : Bool) → q x ≡ c → cond c (Some x) (find q xs) ≡ None
+        → (b : Bool) → p x ≡ b → cond b (Some x) (find p xs) ≡ Some a
+        → cond (q (if b then f x else x)) (Some (if b then f x else x)) (find q (changed_where p f xs)) ≡ Some (f a)
+    at rest true k none b e h = absurd (cc)
+    at rest false k none true e h = let is : x ≡ a = cc in rw (passes x e) (ap (λ y. Some (f y)) is)
+    at rest false k none false e h = rw k (rest none h)
+
+-- what no changed element passes any more is found as without them
+pub find_changed_without : {A : Type 0} (q p : A → Bool) (f : A → A) → ((x : A) → p x ≡ true → q (f x) ≡ false) → (xs : List A)
+    → find q (changed_where p f xs) ≡ find q (without p xs)
+find_changed_without q p f off [] = refl
+find_changed_without q p f off (x ∷ xs) = at (find_changed_without q p f off xs) (p x) refl
+  where
+    at : find q (changed_where p f xs) ≡ find q (without p xs) → (b : Bool) → p x ≡ b
+        → cond (q (if b then f x else x)) (Some (if b then f x else x)) (find q (changed_where p f xs)) ≡ find q (cond (not b) (x ∷ without p xs) (without p xs))
+    at rest true e = rw (off x e) rest
+    at rest false e = ap (λ found. cond (q x) (Some x) found) rest

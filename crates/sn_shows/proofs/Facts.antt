@@ -1,8 +1,11 @@
 -- The facts on which the crates above may stand, beside the laws.
+pub use Rattle.sn_shows.proofs.DeviceAnswered.{answered_shows}
 pub use Rattle.sn_shows.proofs.DeviceDrafts.{edited_shows, posted_shows, settled_shows}
 pub use Rattle.sn_shows.proofs.DeviceKeeps.{edit_keeps, join_keeps, post_keeps, settle_keeps}
 pub use Rattle.sn_shows.proofs.DeviceLookups.{find_new, find_past_new}
+pub use Rattle.sn_shows.proofs.DeviceMoved.{forked_shows, renamed_shows}
 pub use Rattle.sn_shows.proofs.DeviceOwners.{joined_shows, tokens_show}
+pub use Rattle.sn_shows.proofs.DeviceRemoved.{none_left, removed_clean, removed_shows}
 pub use Rattle.sn_shows.proofs.DeviceStates.{holder_of, not_device}
 pub use Rattle.sn_shows.proofs.ServersAccept.{accepted_shows}
 pub use Rattle.sn_shows.proofs.ServersApart.{one_at}

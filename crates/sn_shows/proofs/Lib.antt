@@ -1,8 +1,11 @@
+pub mod DeviceAnswered
 pub mod DeviceDrafts
 pub mod DeviceItems
 pub mod DeviceKeeps
 pub mod DeviceLookups
+pub mod DeviceMoved
 pub mod DeviceOwners
+pub mod DeviceRemoved
 pub mod DeviceStates
 pub mod Facts
 pub mod ServersAccept

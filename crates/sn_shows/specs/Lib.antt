@@ -1,5 +1,6 @@
 pub mod Devices
 pub mod Ends
 pub mod Laws
+pub mod Meetings
 pub mod Servers
 pub mod Sets

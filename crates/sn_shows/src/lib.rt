@@ -2,4 +2,5 @@
 #![tactic(auto)]
 
 pub mod device_laws;
+pub mod meeting_laws;
 pub mod server_laws;
