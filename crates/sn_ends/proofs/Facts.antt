@@ -8,5 +8,4 @@ pub use Rattle.sn_ends.proofs.MoveLemmas.{account_identifier, account_of-from, d
 pub use Rattle.sn_ends.proofs.PutLemmas.{same_set}
 pub use Rattle.sn_ends.proofs.ReadyLemmas.{put_is_ready, sync_is_ready, sync_keeps_index}
 pub use Rattle.sn_ends.proofs.RecordLemmas.{same_or_apart, some_is}
-pub use Rattle.sn_ends.proofs.StayLemmas.{edits_stay}
 pub use Rattle.sn_ends.proofs.VersionLemmas.{kept_stays}

@@ -10,7 +10,7 @@ use Rattle.sn_laws.specs.declared.ideal.Device.{Device}
 use Rattle.sn_laws.specs.declared.ideal.Draft.{Draft}
 use Rattle.sn_laws.specs.declared.ideal.Ideal.{Ideal}
 use Rattle.sn_laws.specs.declared.moves.Move.{Move}
-use Rattle.sn_laws.specs.declared.moves.Move.TheVariants.{Register, Join, Edit, Post, Accept, Settle}
+use Rattle.sn_laws.specs.declared.moves.Move.TheVariants.{Register, Join, Edit, Drop, Post, Unpost, Accept, Rewrap, Settle, SettlePosted, Fork, Rename, GiveWay, Change, Retire}
 use Rattle.sn_report.specs.Labels.{Labels, labels_of}
 use Rattle.sn_string.specs.declared.params.KeySet.{KeySet}
 use Rattle.sn_ends.specs.Answers.{AllHeld}
@@ -61,6 +61,15 @@ held_one s (Accept device uuid stamp under) q h =
     let held = h there.was there.among in
     (held.0, held.1, held.2, held.3 ∙ there.identifier)
 held_one s (Settle device uuid) q h = h
+held_one s (Drop device uuid) q h = absurd q
+held_one s (Unpost device uuid) q h = absurd q
+held_one s (Rewrap uuid stamp under) q h = absurd q
+held_one s (SettlePosted device uuid stamp) q h = absurd q
+held_one s (Fork device uuid other) q h = absurd q
+held_one s (Rename device uuid other) q h = absurd q
+held_one s (GiveWay device uuid) q h = absurd q
+held_one s (Change identifier number set) q h = absurd q
+held_one s (Retire device number) q h = absurd q
 
 pub held_all : (s : Ideal) (ms : List Move) → Each IsQuiet ms → AllHeld s → AllHeld (end_from s ms)
 held_all s [] q h = h
@@ -74,6 +83,15 @@ quiet_labels labels (Edit device uuid kind base latest ∷ ms) q = absurd q.0
 quiet_labels labels (Post device uuid ∷ ms) q = quiet_labels labels ms q.1
 quiet_labels labels (Accept device uuid stamp under ∷ ms) q = quiet_labels labels ms q.1
 quiet_labels labels (Settle device uuid ∷ ms) q = quiet_labels labels ms q.1
+quiet_labels labels (Drop device uuid ∷ ms) q = absurd q.0
+quiet_labels labels (Unpost device uuid ∷ ms) q = absurd q.0
+quiet_labels labels (Rewrap uuid stamp under ∷ ms) q = absurd q.0
+quiet_labels labels (SettlePosted device uuid stamp ∷ ms) q = absurd q.0
+quiet_labels labels (Fork device uuid other ∷ ms) q = absurd q.0
+quiet_labels labels (Rename device uuid other ∷ ms) q = absurd q.0
+quiet_labels labels (GiveWay device uuid ∷ ms) q = absurd q.0
+quiet_labels labels (Change identifier number set ∷ ms) q = absurd q.0
+quiet_labels labels (Retire device number ∷ ms) q = absurd q.0
 
 -- a registration: the new account has the new device
 

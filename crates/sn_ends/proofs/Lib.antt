@@ -38,7 +38,6 @@ pub mod RequestLemmas
 pub mod RowLemmas
 pub mod SeedLemmas
 pub mod SettleLemmas
-pub mod StayLemmas
 pub mod SyncEnds
 pub mod SyncLemmas
 pub mod SyncMoves

@@ -323,20 +323,6 @@ pub last_of-other : (uuid : Bytes) (vs : List Version) (w : Version) → w.uuid 
 last_of-other uuid vs w e =
     ap (find (is_of uuid)) (reversed vs w) ∙ ap (λ b. cond b (Some w) (find (is_of uuid) (reverse vs))) (apart_texts w.uuid uuid e)
 
--- no move takes a device or its account's identifier away
-pub device_kept : (s : Ideal) (m : Move) (name : Bytes) (d : Device) → device_named s name ≡ Some d
-    → (x : Device) × (device_named (after s m) name ≡ Some x) × (x.account ≡ d.account)
-device_kept s (Register identifier set) name d h = (d, h, refl)
-device_kept s (Join other identifier number) name d h =
-    ⊎_elim (λ e.
-    let own = device_named-join-there s name identifier number d h in
-    (with_held number d, ap (λ n. device_named (after s (Join n identifier number)) name) (sym e) ∙ own, refl))
-    (λ e. (d, device_named-join-other s other name identifier number e ∙ h, refl)) (same_or_not name other)
-device_kept s (Edit device uuid kind base latest) name d h = (d, h, refl)
-device_kept s (Post device uuid) name d h = (d, h, refl)
-device_kept s (Accept device uuid stamp under) name d h = (d, h, refl)
-device_kept s (Settle device uuid) name d h = (d, h, refl)
-
 -- lists of moves; `end_from-append`, `legal_before` and `legal_after` are of `RunLemmas`
 
 pub legal_append : (s : Ideal) (xs ys : List Move) → LegalFrom s xs → LegalFrom (end_from s xs) ys → LegalFrom s (xs ++ ys)

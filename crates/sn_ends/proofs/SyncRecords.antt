@@ -11,7 +11,8 @@ use Rattle.sn_laws.specs.Runs.{end_from}
 use Rattle.sn_laws.specs.declared.ideal.Account.{Account}
 use Rattle.sn_laws.specs.declared.ideal.Ideal.{Ideal}
 use Rattle.sn_laws.specs.declared.moves.Move.{Move}
-use Rattle.sn_laws.specs.declared.moves.Move.TheVariants.{Register, Join, Edit, Post, Accept, Settle}
+use Rattle.sn_laws.specs.declared.moves.Move.TheVariants.{Register, Join, Edit, Drop, Post, Unpost, Accept, Rewrap, Settle, SettlePosted, Fork, Rename, GiveWay, Retire}
+use Rattle.sn_laws.specs.declared.moves.Move.TheVariants as move
 use Rattle.sn_rows.specs.Facts.{batch_follows, last_counts, spared_stays}
 use Rattle.sn_rows.specs.Table.{Spares, rows_of_batches, same_key}
 use Rattle.sn_rows.specs.declared.body.RowBody.{RowBody}
@@ -105,6 +106,15 @@ IsQuiet (Edit device uuid kind base latest) = ⊥
 IsQuiet (Post device uuid) = Unit {0}
 IsQuiet (Accept device uuid stamp under) = Unit {0}
 IsQuiet (Settle device uuid) = Unit {0}
+IsQuiet (Drop device uuid) = ⊥
+IsQuiet (Unpost device uuid) = ⊥
+IsQuiet (Rewrap uuid stamp under) = ⊥
+IsQuiet (SettlePosted device uuid stamp) = ⊥
+IsQuiet (Fork device uuid other) = ⊥
+IsQuiet (Rename device uuid other) = ⊥
+IsQuiet (GiveWay device uuid) = ⊥
+IsQuiet (move.Change identifier number set) = ⊥
+IsQuiet (Retire device number) = ⊥
 
 quiet_one : (s : Ideal) (m : Move) → IsQuiet m → (after s m).devices ≡ s.devices
 quiet_one s (Register identifier set) q = absurd q
@@ -113,6 +123,15 @@ quiet_one s (Edit device uuid kind base latest) q = absurd q
 quiet_one s (Post device uuid) q = refl
 quiet_one s (Accept device uuid stamp under) q = refl
 quiet_one s (Settle device uuid) q = refl
+quiet_one s (Drop device uuid) q = absurd q
+quiet_one s (Unpost device uuid) q = absurd q
+quiet_one s (Rewrap uuid stamp under) q = absurd q
+quiet_one s (SettlePosted device uuid stamp) q = absurd q
+quiet_one s (Fork device uuid other) q = absurd q
+quiet_one s (Rename device uuid other) q = absurd q
+quiet_one s (GiveWay device uuid) q = absurd q
+quiet_one s (move.Change identifier number set) q = absurd q
+quiet_one s (Retire device number) q = absurd q
 
 quiet_all : (s : Ideal) (ms : List Move) → Each IsQuiet ms → (end_from s ms).devices ≡ s.devices
 quiet_all s [] q = refl

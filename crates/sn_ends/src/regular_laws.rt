@@ -1,7 +1,7 @@
 //! What becomes of the ideal state of a script without fates, by the definitions alone. The
 //! functions do nothing; their contracts are the laws.
 
-ghost use Rattle.sn_ends.specs.Kept.{EditsStay, VersionsStay};
+ghost use Rattle.sn_ends.specs.Kept.{VersionsStay};
 ghost use Rattle.sn_ends.specs.Regular.{AcceptRegular, PostRegular, PutRegular, RegisterRegular, SentIsContent, SettleRegular};
 
 /// A device that registers an account, and holds its set, keeps the state regular.
@@ -32,11 +32,6 @@ pub fn settle_regular()
 /// The version of a draft that was sent has its content.
 pub fn sent_is_content()
     ensures { SentIsContent }
-{}
-
-/// What is written stays in a draft or in a version until it is written again.
-pub fn edits_stay()
-    ensures { EditsStay }
 {}
 
 /// What is accepted stays: wherever legal moves are split, each account that those before leave has

@@ -5,7 +5,7 @@ use Rattle.std.specs.Str.{bytes_eq}
 use Rattle.sn_laws.proofs.Facts.{clash, is_false, number_same, or_left, or_right, same_number, same_text, text_same}
 use Rattle.sn_laws.specs.Lookups.{Bytes}
 use Rattle.sn_laws.specs.declared.moves.Move.{Move}
-use Rattle.sn_laws.specs.declared.moves.Move.TheVariants.{Register, Join, Edit, Post, Accept, Settle}
+use Rattle.sn_laws.specs.declared.moves.Move.TheVariants.{Register, Join, Edit, Drop, Post, Unpost, Accept, Rewrap, Settle, SettlePosted, Fork, Rename, GiveWay, Change, Retire}
 use Rattle.sn_report.specs.Labels.{Labels, is_labelled, label_from, labelled, labels_after, labels_of}
 use Rattle.sn_replay.specs.DraftsShown.{AreDistinct}
 
@@ -135,6 +135,15 @@ distinct_after ls (Join device identifier number) distinct = distinct
 distinct_after ls (Post device uuid) distinct = distinct
 distinct_after ls (Accept device uuid stamp under) distinct = distinct
 distinct_after ls (Settle device uuid) distinct = distinct
+distinct_after ls (Drop device uuid) distinct = distinct
+distinct_after ls (Unpost device uuid) distinct = distinct
+distinct_after ls (Rewrap uuid stamp under) distinct = distinct
+distinct_after ls (SettlePosted device uuid stamp) distinct = distinct
+distinct_after ls (Fork device uuid other) distinct = distinct_labelled ls other distinct
+distinct_after ls (Rename device uuid other) distinct = distinct_labelled ls other distinct
+distinct_after ls (GiveWay device uuid) distinct = distinct
+distinct_after ls (Change identifier number set) distinct = distinct
+distinct_after ls (Retire device number) distinct = distinct
 
 pub distinct_of : (ls : Labels) (moves : List Move) → AreDistinct ls → AreDistinct (labels_of ls moves)
 distinct_of ls [] distinct = distinct

@@ -1,12 +1,14 @@
 -- A replay from its first line to its last: what holds before any line, what one more line makes of it, and what it comes to.
-use Rattle.std.proofs.Common.{◌≡◌, ◌⊎◌, ℕ, ◌+◌, ◌<◌, ◌≤◌, List, [], ◌∷◌, ◌++◌, length, take, get_or, Option, Some, None, sym, ap, ◌∙◌, subst, arith}
+use Rattle.std.proofs.Common.{◌≡◌, ℕ, ◌+◌, ◌<◌, ◌≤◌, List, [], ◌∷◌, ◌++◌, length, take, get_or, Option, Some, None, refl, sym, ap, ◌∙◌, subst, arith}
 use Rattle.std.specs.List.{flat_map}
 use Rattle.std.proofs.lemmas.Grind.{flat_map-append}
 use Rattle.std.proofs.lemmas.List.{append-nil, length-take-le, take_all, take_more}
-use Rattle.sn_laws.specs.Each.{One}
-use Rattle.sn_laws.specs.Lookups.{Bytes}
+use Rattle.sn_laws.proofs.Facts.{carries_two, devices_all_hold, edits_stay, follows, identifiers_differ, legal_before, nonces_differ, posted_only_once}
+use Rattle.sn_laws.specs.Kept.{IsKept}
+use Rattle.sn_laws.specs.Lookups.{Bytes, empty}
 use Rattle.sn_laws.specs.Runs.{Legal, end}
 use Rattle.sn_laws.specs.declared.moves.Move.{Move}
+use Rattle.sn_laws.specs.declared.moves.Move.TheVariants.{Accept}
 use Rattle.sn_report.specs.declared.report.Event.{Event}
 use Rattle.sn_report.specs.declared.report.Report.{Report}
 use Rattle.sn_rows.specs.Table.{Rows, rows_at, rows_of_batches}
@@ -15,10 +17,9 @@ use Rattle.sn_script.specs.declared.script.Line.{Line}
 use Rattle.sn_script.specs.declared.script.Line.TheVariants as line
 use Rattle.sn_script.specs.declared.script.Script.{Script}
 use Rattle.sn_shows.specs.Ends.{Shows}
-use Rattle.sn_ends.specs.Kept.{IsAccepted, IsDrafted, IsWritten}
 use Rattle.sn_ends.specs.Settings.{settings_after}
 use Rattle.sn_ends.specs.declared.settings.Settings.{Settings}
-use Rattle.sn_ends.proofs.Facts.{edits_stay, kept_stays}
+use Rattle.sn_ends.proofs.Facts.{kept_stays}
 use Rattle.sn_replay.specs.Benches.{record_of, server_record}
 use Rattle.sn_replay.specs.Courses.{EventsWithin, MarksWithin, course_after}
 use Rattle.sn_replay.specs.Headline.{AreFirst, Carries, Course, Recounts, Recovers, Reported, at_first, past, report_moves, reported, reporting}
@@ -173,6 +174,10 @@ has_course first settings lines bench known events played = record { course = co
 
 -- after the last line
 
+one_more : (before : List Move) (m : Move) (later : List Move) → before ++ m ∷ later ≡ (before ++ m ∷ []) ++ later
+one_more [] m later = refl
+one_more (x ∷ xs) m later = ap (λ (ms : List Move). x ∷ ms) (one_more xs m later)
+
 carries : (script : Script) (first settings : Settings) (bench : PlainBench) (known : Known) (report : Report)
     → AreFirst first → IsPlayed first script.lines bench settings known report.events → Carries script bench report
 carries script first settings bench known report first_is played =
@@ -183,10 +188,21 @@ carries script first settings bench known report first_is played =
       first_is = first_is;
       recounts = played.recounts;
       acknowledged = λ before later identifier a parts found. (kept_stays (report_moves report) before later identifier a legal parts found).1;
-      kept = λ before later device uuid kind text base parts.
-          subst (λ (ms : List Move). One (IsWritten device uuid) later ⊎ IsDrafted (end ms) device uuid text ⊎ IsAccepted (end ms) device uuid text)
-          (sym parts)
-          (edits_stay before later device uuid kind text base (subst (λ (ms : List Move). Legal ms) parts legal));
+      followed = λ before later device uuid stamp under a v parts has last.
+          follows before device uuid stamp under a v
+          (legal_before empty (before ++ Accept device uuid stamp under ∷ []) later (subst (λ (ms : List Move). Legal ms) (parts ∙ one_more before (Accept device uuid stamp under) later) legal))
+          has last;
+      kept = λ before later device uuid kind base text parts.
+          subst (λ (ms : List Move). IsKept (end ms) device uuid kind text later) (sym parts)
+          (edits_stay before later device uuid kind base text (subst (λ (ms : List Move). Legal ms) parts legal));
+      carry_two = carries_two (report_moves report) legal;
+      hold_two = λ name d named. devices_all_hold (report_moves report) name d legal named;
+      posted_once = λ before between later device uuid stamp next under under_next parts.
+          posted_only_once before between device uuid stamp next under under_next
+          (legal_before empty ((before ++ Accept device uuid stamp under ∷ between) ++ Accept device uuid next under_next ∷ []) later
+          (subst (λ (ms : List Move). Legal ms) parts legal));
+      identifiers = identifiers_differ (report_moves report) legal;
+      nonces = nonces_differ (report_moves report) legal;
     }
 
 -- the loop has come to the end of the lines

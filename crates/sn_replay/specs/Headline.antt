@@ -1,16 +1,20 @@
 -- What a replay promises of its report and of what both ends hold.
-use Rattle.std.specs.Prelude.{◌≡◌, ◌⊎◌, ℕ, suc, List, [], ◌∷◌, ◌++◌, Option, Some, None, if◌then◌else◌}
+use Rattle.std.specs.Prelude.{◌≡◌, ℕ, suc, List, [], ◌∷◌, ◌++◌, map, Option, Some, None, if◌then◌else◌}
 use Rattle.std.specs.List.{flat_map, list_any, repeat}
 use Rattle.std.specs.Str.{bytes_eq}
-use Rattle.sn_laws.specs.Each.{One}
-use Rattle.sn_laws.specs.Laws.{Keeps}
-use Rattle.sn_laws.specs.Lookups.{Bytes, account_named}
+use Rattle.sn_laws.specs.Each.{Each, One}
+use Rattle.sn_laws.specs.Kept.{IsKept}
+use Rattle.sn_laws.specs.Laws.{Keeps, StandsOn}
+use Rattle.sn_laws.specs.Lookups.{Bytes, account_named, account_of, device_named, last_of}
+use Rattle.sn_laws.specs.Reached.{AllDiffer, CarriesLastTwo, HoldsSets, NoncesApart}
 use Rattle.sn_laws.specs.Runs.{Legal, end}
 use Rattle.sn_laws.specs.declared.ideal.Account.{Account}
 use Rattle.sn_laws.specs.declared.ideal.Content.TheVariants.{Plain}
+use Rattle.sn_laws.specs.declared.ideal.Device.{Device}
 use Rattle.sn_laws.specs.declared.ideal.Ideal.{Ideal}
+use Rattle.sn_laws.specs.declared.ideal.Version.{Version}
 use Rattle.sn_laws.specs.declared.moves.Move.{Move}
-use Rattle.sn_laws.specs.declared.moves.Move.TheVariants.{Edit}
+use Rattle.sn_laws.specs.declared.moves.Move.TheVariants.{Accept, Edit, Post}
 use Rattle.sn_report.specs.Labels.{Labels, labels_of}
 use Rattle.sn_report.specs.Showing.{show_lines}
 use Rattle.sn_report.specs.declared.report.DeviceMark.{DeviceMark}
@@ -22,7 +26,6 @@ use Rattle.sn_script.specs.declared.script.Line.{Line}
 use Rattle.sn_script.specs.declared.script.Line.TheVariants as line
 use Rattle.sn_script.specs.declared.script.Script.{Script}
 use Rattle.sn_shows.specs.Ends.{Shows}
-use Rattle.sn_ends.specs.Kept.{IsAccepted, IsDrafted, IsWritten}
 use Rattle.sn_ends.specs.Outcomes.{IsOutcome, Outcome, moves_of}
 use Rattle.sn_ends.specs.Settings.{settings_after}
 use Rattle.sn_ends.specs.Synced.{EndsWell}
@@ -144,8 +147,21 @@ pub record Carries (script : Script) (bench : PlainBench) (report : Report) : Ty
   -- what is accepted stays: wherever its moves are split, an account that those before leave has its versions at the end
   pub acknowledged : (before later : List Move) (identifier : Bytes) (a : Account) → report_moves report ≡ before ++ later
       → account_named (end before) identifier ≡ Some a → Keeps a (account_named (end (report_moves report)) identifier)
-  -- what is written stays: it is written again later, or a draft of the item has this content at the end, or a version has it
-  pub kept : (before later : List Move) (device uuid kind text : Bytes) (base : Option ℕ)
+  -- and where its next version is accepted, that stood on the last one
+  pub followed : (before later : List Move) (device uuid : Bytes) (stamp : ℕ) (under : Option ℕ) (a : Account) (v : Version)
+      → report_moves report ≡ before ++ Accept device uuid stamp under ∷ later → account_of (end before) device ≡ Some a
+      → last_of uuid a.versions ≡ Some v → StandsOn (end before) device uuid v.stamp
+  -- what is written is kept: it is replaced later, or it, or a copy of it, is a draft's content at the end or is a version
+  pub kept : (before later : List Move) (device uuid kind : Bytes) (base : Option ℕ) (text : Bytes)
       → report_moves report ≡ before ++ Edit device uuid kind base (Plain text) ∷ later
-      → One (IsWritten device uuid) later ⊎ IsDrafted (end (report_moves report)) device uuid text
-      ⊎ IsAccepted (end (report_moves report)) device uuid text
+      → IsKept (end (report_moves report)) device uuid kind text later
+  -- at the end live last versions carry the last two sets of their accounts, and each device holds one or two sets of its own
+  pub carry_two : Each CarriesLastTwo (end (report_moves report)).accounts
+  pub hold_two : (name : Bytes) (d : Device) → device_named (end (report_moves report)) name ≡ Some d
+      → HoldsSets (account_of (end (report_moves report)) name) d
+  -- nothing happens twice: what is sent becomes one version at most, an identifier is one account's, a nonce one set's of its account
+  pub posted_once : (before between later : List Move) (device uuid : Bytes) (stamp next : ℕ) (under under_next : Option ℕ)
+      → report_moves report ≡ ((before ++ Accept device uuid stamp under ∷ between) ++ Accept device uuid next under_next ∷ []) ++ later
+      → One (λ m. m ≡ Post device uuid) between
+  pub identifiers : AllDiffer (map (λ a. a.identifier) (end (report_moves report)).accounts)
+  pub nonces : Each NoncesApart (end (report_moves report)).accounts
