@@ -1,25 +1,19 @@
 -- What was live of a device is live where a saved item is applied to its row.
-use Rattle.std.proofs.Common.{◌≡◌, ◌≢◌, ℕ, [], ◌∷◌, Option, Some, Bool, false, sym, ap, ◌∙◌, subst, inl, inr, ⊎_elim}
+use Rattle.std.proofs.Common.{◌≡◌, ◌≢◌, ℕ, Option, Some, Bool, false, sym, ap, ◌∙◌, subst, inl, inr, ⊎_elim}
 use Rattle.std.specs.Prelude.{if◌then◌else◌}
 use Rattle.sn_laws.specs.Lookups.{Bytes}
 use Rattle.sn_account.specs.Stored.{body_of}
-use Rattle.sn_rows.specs.Facts.{apart_keys}
-use Rattle.sn_rows.specs.Table.{rows_after, same_key, value_of}
 use Rattle.sn_rows.specs.declared.body.RowBody.{RowBody}
 use Rattle.sn_rows.specs.declared.device_rows.LocalItem.{LocalItem}
-use Rattle.sn_rows.specs.declared.key.Key.{Key}
 use Rattle.sn_rows.specs.declared.key.Key.TheVariants as key
 use Rattle.sn_rows.specs.declared.server_rows.ItemRow.{ItemRow}
 use Rattle.sn_sync.specs.declared.item.Body.{Body}
 use Rattle.sn_sync.specs.declared.item.Body.TheVariants as body
-use Rattle.sn_world.proofs.DeviceRows.{one_local}
+use Rattle.sn_world.proofs.DeviceRows.{one_local, posted_elsewhere}
 use Rattle.sn_world.proofs.Items.{apart_numbers}
 use Rattle.sn_world.proofs.Making.{sends_it}
 use Rattle.sn_client.specs.Sending.{first_some, message_body}
 use Rattle.sn_world.specs.Settling.{AppliesLive}
-
-pub number_of_key : {n m : ℕ} → key.Local m ≡ key.Local n → n ≡ m
-number_of_key e = cc
 
 one_body : (x y : RowBody) (found : Option RowBody) → found ≡ Some x → found ≡ Some y → x ≡ y
 one_body x y found e k = cc
@@ -53,18 +47,5 @@ applies_live server device n number local sent saved j change stands sends store
       (given ∙ bodies, λ live. sym stored.3.kind ∙ of.kind (not_deleted stored.0 stored.0.deleted sent.body live given) ∙ kinds),
     )))
     (λ (differs : x.number ≢ number).
-    inr (inr (inr (record {
-      number = x.number;
-      local = x.local;
-      stands = away (key.Local x.number) (λ e. differs (number_of_key e)) ∙ x.stands;
-      uuid_is = x.uuid_is;
-      kind_is = x.kind_is;
-      base = x.base;
-      posted = x.posted;
-      posted_is = x.posted_is;
-      body_is = x.body_is;
-    }))))
+    inr (inr (inr (posted_elsewhere device change number j at x differs))))
     (apart_numbers x.number number)
-  where
-    away : (k : Key) → key.Local number ≢ k → rows_after device (change ∷ []) k ≡ device k
-    away k apart = ap (λ (b : Bool). if b then value_of change else device k) (ap (λ (z : Key). same_key z k) at ∙ apart_keys (key.Local number) k apart)

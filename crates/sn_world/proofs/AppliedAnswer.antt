@@ -1,4 +1,4 @@
--- An answer to a sync that is applied keeps the invariant, where no draft meets another's version.
+-- An answer to a sync that is applied keeps the invariant.
 use Rattle.std.proofs.Common.{◌≡◌, ◌⊎◌, ℕ, List, [], ◌∷◌, ◌++◌, map, Option, Some, sym, ap, ◌∙◌, subst, None, refl, inl, inr}
 use mathlib.Core.Path.{fun_ext}
 use Rattle.std.specs.List.{Contains}
@@ -9,7 +9,7 @@ use Rattle.sn_account.specs.Tells.{AreApart, IsStored}
 use Rattle.sn_client.specs.Laws.{AreStanding}
 use Rattle.sn_client.specs.States.{HasLocal, IsSound, OwnerColumns}
 use Rattle.sn_client.specs.Steps.{Applies, start}
-use Rattle.sn_client.specs.Taking.{Progress, is_conflict, is_retrieved, is_saved, told_by}
+use Rattle.sn_client.specs.Taking.{Progress, Told, is_conflict, is_retrieved, is_saved, told_by}
 use Rattle.sn_conflict.specs.Checks.{HasItsStrings, IsConflict, IsRetrieved, IsSaved}
 use Rattle.sn_laws.proofs.Facts.{one_there}
 use Rattle.sn_laws.specs.Each.{Each}
@@ -27,7 +27,7 @@ use Rattle.sn_rows.specs.declared.device_rows.OwnerRow.{OwnerRow}
 use Rattle.sn_rows.specs.declared.key.Key.TheVariants as key
 use Rattle.sn_rows.specs.declared.value.Value.TheVariants as value
 use Rattle.sn_shows.proofs.Facts.{holder_of}
-use Rattle.sn_shows.specs.Laws.{AccountsApart, HasAccount, TokensShow}
+use Rattle.sn_shows.specs.Laws.{HasAccount, TokensShow}
 use Rattle.sn_sync.specs.Versions.{item_of, uuids}
 use Rattle.sn_sync.specs.declared.answer.Conflict.{Conflict}
 use Rattle.sn_sync.specs.declared.answer.Conflict.TheVariants as conflict
@@ -36,8 +36,9 @@ use Rattle.sn_world.proofs.DeviceRows.{local_past, one_local, one_owner, posted_
 use Rattle.sn_world.proofs.DeviceSets.{identifier_of}
 use Rattle.sn_world.proofs.Frames.{DeviceFrame, device_kept, live_kept}
 use Rattle.sn_world.proofs.Lists.{each_apart, each_both, each_contained, each_map, each_right, of_each}
-use Rattle.sn_world.proofs.TakenAll.{Good, LinkedAt, NotSaved, TakingLaws, ToldApart, all_told}
+use Rattle.sn_world.proofs.TakenAll.{Good, LinkedAt, NoneSaved, NotSaved, ToldApart, all_told}
 use Rattle.sn_world.proofs.TakenFrames.{Took}
+use Rattle.sn_world.proofs.TakenMet.{TakingLaws}
 use Rattle.sn_client.specs.States.{text_of_token, token_of}
 use Rattle.sn_laws.specs.Lookups.{greatest}
 use Rattle.sn_rows.specs.declared.value.Value.{Value}
@@ -54,30 +55,29 @@ use Rattle.sn_world.specs.Live.{LiveItem}
 use Rattle.sn_world.specs.Making.{IsPostedOf, SendsPosted}
 use Rattle.sn_world.specs.World.{OnDevice, World}
 
--- none of these is saved
-none_saved : (uuid : Bytes) (conflicts : List Conflict) (retrieved : List Item) → Each (NotSaved uuid) (map is_conflict conflicts ++ map is_retrieved retrieved)
-none_saved uuid conflicts retrieved =
-    each_both (NotSaved uuid) (map is_conflict conflicts) (map is_retrieved retrieved)
-    (each_map is_conflict (NotSaved uuid) conflicts (all conflicts)) (each_map is_retrieved (NotSaved uuid) retrieved (all_too retrieved))
-  where
-    all : (cs : List Conflict) → Each (λ (c : Conflict). NotSaved uuid (is_conflict c)) cs
-    all [] = tt
-    all (c ∷ cs) = (tt, all cs)
+-- of those that aren't saved
+each_unsaved : (P : Told → Type 0) → ((t : Told) → NoneSaved t → P t) → (conflicts : List Conflict) (retrieved : List Item)
+    → Each P (map is_conflict conflicts ++ map is_retrieved retrieved)
+each_unsaved P f [] [] = tt
+each_unsaved P f [] (i ∷ is) = (f (is_retrieved i) tt, each_unsaved P f [] is)
+each_unsaved P f (c ∷ cs) retrieved = (f (is_conflict c) tt, each_unsaved P f cs retrieved)
 
-    all_too : (is : List Item) → Each (λ (i : Item). NotSaved uuid (is_retrieved i)) is
-    all_too [] = tt
-    all_too (i ∷ is) = (tt, all_too is)
+not_saved : (uuid : Bytes) (t : Told) → NoneSaved t → NotSaved uuid t
+not_saved uuid (is_saved i) none = absurd none
+not_saved uuid (is_conflict c) none = tt
+not_saved uuid (is_retrieved i) none = tt
 
 rest_apart : (conflicts : List Conflict) (retrieved : List Item) → ToldApart (map is_conflict conflicts ++ map is_retrieved retrieved)
-rest_apart (c ∷ cs) retrieved = (none_saved _ cs retrieved, rest_apart cs retrieved)
+rest_apart (c ∷ cs) retrieved = (each_unsaved NoneSaved (λ t none. none) cs retrieved, rest_apart cs retrieved)
 rest_apart [] [] = tt
-rest_apart [] (i ∷ is) = (none_saved i.uuid [] is, rest_apart [] is)
+rest_apart [] (i ∷ is) = (each_unsaved NoneSaved (λ t none. none) [] is, rest_apart [] is)
 
 told_apart : (saved : List Item) (conflicts : List Conflict) (retrieved : List Item) → AreApart (uuids saved) → ToldApart (told_by saved conflicts retrieved)
 told_apart [] conflicts retrieved apart = rest_apart conflicts retrieved
 told_apart (i ∷ is) conflicts retrieved apart = (
   each_both (NotSaved i.uuid) (map is_saved is) (map is_conflict conflicts ++ map is_retrieved retrieved)
-      (each_map is_saved (NotSaved i.uuid) is (each_apart (λ (j : Item). j.uuid) i.uuid is apart.0)) (none_saved i.uuid conflicts retrieved),
+      (each_map is_saved (NotSaved i.uuid) is (each_apart (λ (j : Item). j.uuid) i.uuid is apart.0))
+      (each_unsaved (NotSaved i.uuid) (not_saved i.uuid) conflicts retrieved),
   told_apart is conflicts retrieved apart.1,
 )
 
@@ -85,7 +85,7 @@ each_two : {A : Type 0} (P Q R : A → Type 0) → ((x : A) → P x → Q x → 
 each_two P Q R f [] h k = tt
 each_two P Q R f (x ∷ xs) h k = (f x h.0 k.0, each_two P Q R f xs h.1 k.1)
 
-module _ (laws : TakingLaws) (apart : AccountsApart) (tokens_law : TokensShow) (secret : Bytes) (w next : World) (s : Ideal) (differ : TokensDiffer secret)
+module _ (laws : TakingLaws) (tokens_law : TokensShow) (secret : Bytes) (w next : World) (s : Ideal) (differ : TokensDiffer secret)
     (h : Holds secret w s) (name : Bytes) (words left : ChaCha) (sent : List Item) (conflicts : List Conflict) (cursor : Option Bytes)
     (retrieved saved : List Item) (token : Bytes) (changes : List Change) (moves : List Move)
     (x : Applies (w.devices name) words sent conflicts cursor retrieved saved token changes left)
@@ -105,7 +105,7 @@ module _ (laws : TakingLaws) (apart : AccountsApart) (tokens_law : TokensShow) (
   d = may.device
 
   has : HasAccount s name d a
-  has = device_account apart secret w s h name n a d may.at may.named may.own
+  has = device_account laws.apart secret w s h name n a d may.at may.named may.own
 
   abbrev p : Progress
   p = start rows says.owner says.words
@@ -129,7 +129,7 @@ module _ (laws : TakingLaws) (apart : AccountsApart) (tokens_law : TokensShow) (
 
   conflict_good : (c : Conflict) → HasItsStrings (item_of c) → Contains conflicts c → Good w.server n saved rows (is_conflict c)
   conflict_good (conflict.Sync i) strings among = ((may.tells.conflicts_are (conflict.Sync i) among).0, strings)
-  conflict_good (conflict.Uuid i) strings among = strings
+  conflict_good (conflict.Uuid i) strings among = ((may.tells.conflicts_are (conflict.Uuid i) among).1, strings)
   conflict_good (conflict.Content i) strings among = strings
 
   conflicts_good : Each (λ (c : Conflict). Good w.server n saved rows (is_conflict c)) conflicts
@@ -249,9 +249,9 @@ module _ (laws : TakingLaws) (apart : AccountsApart) (tokens_law : TokensShow) (
   -- a request of this device that is alive is of its account
   number_is : (t : Bytes) (k : ℕ) → HasToken secret s.accounts (device_named s name) t → IsSession w.server t k → n ≡ k
   number_is t k tok session =
-      let number : tok.number ≡ k = (token_session apart secret w s h differ name t tok k session).0 in
+      let number : tok.number ≡ k = (token_session laws.apart secret w s h differ name t tok k session).0 in
       let device : tok.device ≡ d = one_there tok.device d (device_named s name) tok.named may.named in
-      apart_of apart s h.reached n tok.number a tok.account may.at tok.at (may.own ∙ sym (tok.own ∙ ap (λ (z : Device). z.account) device)) ∙ number
+      apart_of laws.apart s h.reached n tok.number a tok.account may.at tok.at (may.own ∙ sym (tok.own ∙ ap (λ (z : Device). z.account) device)) ∙ number
 
   frame : DeviceFrame secret w (rows_after mid (says.counted ∷ [])) s later name
   frame = record {

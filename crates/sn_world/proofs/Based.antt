@@ -1,5 +1,5 @@
 -- A row that is put to stand on the account's last version of its item.
-use Rattle.std.proofs.Common.{◌≡◌, ℕ, List, Some, None, Bool, true, false, refl, sym, ap, ◌∙◌, subst, ⊎_elim}
+use Rattle.std.proofs.Common.{◌≡◌, ℕ, List, Option, Some, None, Bool, true, false, refl, sym, ap, ◌∙◌, subst, ⊎_elim}
 use Rattle.std.specs.Prelude.{if◌then◌else◌}
 use Rattle.sn_account.specs.Tells.{IsStored}
 use Rattle.sn_client.specs.States.{Columns}
@@ -11,6 +11,7 @@ use Rattle.sn_laws.specs.declared.ideal.Body.{Body}
 use Rattle.sn_laws.specs.declared.ideal.Body.TheVariants.{Under, Gone}
 use Rattle.sn_laws.specs.declared.ideal.Version.{Version}
 use Rattle.sn_rows.specs.Table.{Rows}
+use Rattle.sn_rows.specs.declared.body.RowBody.{RowBody}
 use Rattle.sn_rows.specs.declared.body.RowStrings.{RowStrings}
 use Rattle.sn_rows.specs.declared.change.Change.{Change}
 use Rattle.sn_rows.specs.declared.server_rows.ItemRow.{ItemRow}
@@ -26,7 +27,7 @@ use Rattle.sn_sync.specs.declared.item.Item.{Item}
 use Rattle.sn_world.proofs.Standing.{its_last}
 use Rattle.sn_world.specs.Settling.{TakesLast}
 
-abbrev two : Bytes → Bytes → Sealed
+abbrev pub two : Bytes → Bytes → Sealed
 two content enc = record { content = content; enc = enc }
 
 pub sealed_same : (x y c e : Bytes) → x ≡ c → y ≡ e → two x y ≡ two c e
@@ -53,20 +54,20 @@ gone_version sets uuid row (Under text k) h e = let live : row.deleted ≡ false
 gone_version sets uuid row Gone h e = refl
 
 -- the strings are kept as they are given
-kept_so : (change : Change) (number : ℕ) (i : Item) (p : TakesLast change number i)
+kept_so : (change : Change) (number : ℕ) (i : Item) (latest : Option RowBody) (p : TakesLast change number i latest)
     → (sealed_of p.stands_on.strings ≡ record { content = p.content; enc = p.enc }) × (p.columns_then.stale ≡ false)
-kept_so change number i p =
+kept_so change number i latest p =
     ⊎_elim (λ (as_is : ((text : Bytes) → ¬ (OpensOlder p.sets i.uuid (record { content = p.content; enc = p.enc }) text))
     × (sealed_of p.stands_on.strings ≡ record { content = p.content; enc = p.enc }) × (p.columns_then.stale ≡ false) × (p.left ≡ p.words)). (as_is.1, as_is.2))
     (λ again. let older : OpensOlder p.sets i.uuid (record { content = p.content; enc = p.enc }) again.0 = again.1 in
     let some : p.sets.older ≡ Some older.set = older.held in let none : p.sets.older ≡ None = p.no_older in absurd (cc)) p.stands_on.kept
 
 -- and nothing of the row is to be sealed again
-pub takes_fresh : (change : Change) (number : ℕ) (i : Item) (p : TakesLast change number i) → p.puts.local.stale ≡ false
-takes_fresh change number i p = ap (λ (c : Columns). c.stale) p.puts.columns_are ∙ (kept_so change number i p).1
+pub takes_fresh : (change : Change) (number : ℕ) (i : Item) (latest : Option RowBody) (p : TakesLast change number i latest) → p.puts.local.stale ≡ false
+takes_fresh change number i latest p = ap (λ (c : Columns). c.stale) p.puts.columns_are ∙ (kept_so change number i latest p).1
 
 -- the row stands on this version
-pub record Based (a : Account) (change : Change) (number : ℕ) (i : Item) (p : TakesLast change number i) (v : Version) : Type 0 where
+pub record Based (a : Account) (change : Change) (number : ℕ) (i : Item) (latest : Option RowBody) (p : TakesLast change number i latest) (v : Version) : Type 0 where
   pub uuid_is : p.puts.local.uuid ≡ i.uuid
   pub base_is : p.puts.local.base ≡ Some p.stands_on.stamp
   pub on : IsBase a p.puts.local p.stands_on.stamp
@@ -74,9 +75,9 @@ pub record Based (a : Account) (change : Change) (number : ℕ) (i : Item) (p : 
   pub live : (text : Bytes) × (k : ℕ) × (v.body ≡ Under text k)
 
 pub based_on : HasOneStamp → (server : Rows) (accounts : List Account) (n : ℕ) (a : Account) (i : Item) (shows : ShowsAccounts server accounts)
-    (at : account_at n accounts ≡ Some a) (stored : IsStored server n i) (change : Change) (number : ℕ) (p : TakesLast change number i)
-    → Based a change number i p (its_last server accounts n a i.uuid stored.0 shows at stored.1 stored.2).0
-based_on one_stamp server accounts n a i shows at stored change number p =
+    (at : account_at n accounts ≡ Some a) (stored : IsStored server n i) (change : Change) (number : ℕ) (latest : Option RowBody) (p : TakesLast change number i latest)
+    → Based a change number i latest p (its_last server accounts n a i.uuid stored.0 shows at stored.1 stored.2).0
+based_on one_stamp server accounts n a i shows at stored change number latest p =
     of (its_last server accounts n a i.uuid stored.0 shows at stored.1 stored.2)
   where
     row : ItemRow
@@ -86,7 +87,7 @@ based_on one_stamp server accounts n a i shows at stored change number p =
     strings = p.stands_on.strings
 
     kept : sealed_of strings ≡ record { content = p.content; enc = p.enc }
-    kept = (kept_so change number i p).0
+    kept = (kept_so change number i latest p).0
 
     parts : (row.deleted ≡ false) × (row.content ≡ p.content) × (row.enc ≡ p.enc)
     parts = given_strings row row.deleted p.content p.enc (sym stored.3.body ∙ p.body_is)
@@ -100,7 +101,7 @@ based_on one_stamp server accounts n a i shows at stored change number p =
         one_stamp p.stands_on.stamped.0 row.updated p.stands_on.stamp (subst (λ (t : Bytes). IsStampText t row.updated) text stored.3.spelled) p.stands_on.stamped.1
 
     of : (version : (v : Version) × (last_of i.uuid a.versions ≡ Some v) × ShowsStrings a.sets i.uuid row v.body × (row.updated ≡ v.stamp) × (row.kind ≡ v.kind))
-        → Based a change number i p version.0
+        → Based a change number i latest p version.0
     of version =
         let live = live_version a.sets i.uuid row version.0.body version.2 parts.0 in
         let among = last_among i.uuid a.versions version.0 version.1 in

@@ -174,7 +174,7 @@ module _ (apart : AccountsApart) (law : JoinedShows) (keeps : JoinKeeps) (secret
 
   frame : DeviceFrame secret w rows s later name
   frame = record {
-    reached = reached_more s (Join name identifier number) h.reached legal;
+    reached = reached_more s (Join name identifier number) tt h.reached legal;
     accounts = refl;
     others = others;
     shows = law (w.devices name) s name identifier number a x.owner x.present (h.devices name) none named (record {

@@ -11,7 +11,7 @@ use Rattle.sn_laws.specs.declared.ideal.Draft.{Draft}
 use Rattle.sn_laws.specs.declared.ideal.Ideal.{Ideal}
 use Rattle.sn_laws.specs.declared.ideal.Posted.{Posted}
 use Rattle.sn_laws.specs.declared.moves.Move.{Move}
-use Rattle.sn_laws.specs.declared.moves.Move.TheVariants.{Edit}
+use Rattle.sn_laws.specs.declared.moves.Move.TheVariants.{Drop, Edit}
 use Rattle.sn_rows.specs.Table.{Removes, rows_after}
 use Rattle.sn_rows.specs.declared.body.RowBody.{RowBody}
 use Rattle.sn_rows.specs.declared.body.RowBody.TheVariants as row
@@ -32,15 +32,16 @@ use Rattle.sn_sync.specs.declared.request.Request.{Request}
 use Rattle.sn_sync.specs.declared.request.Request.TheVariants as request
 use Rattle.sn_world.proofs.AppliedAnswer.{applied_so}
 use Rattle.sn_world.proofs.Begun.{begun_so}
-use Rattle.sn_world.proofs.TakenAll.{TakingLaws}
+use Rattle.sn_world.proofs.TakenMet.{TakingLaws}
 use Rattle.sn_world.specs.Applying.{MayApply, SaysAnswer}
 use Rattle.sn_world.proofs.DeviceRows.{one_local}
 use Rattle.sn_world.proofs.DeviceSets.{account_is, present_at}
+use Rattle.sn_world.proofs.Dropped.{dropped_so}
 use Rattle.sn_world.proofs.Edited.{edit_kept, has_live}
 use Rattle.sn_world.proofs.Posted.{posts_all}
 use Rattle.sn_world.proofs.PutNew.{put_so}
 use Rattle.sn_world.proofs.Renewed.{renewed}
-use Rattle.sn_world.specs.Committing.{MayCommit, MayDelete, SaysCommit, SaysEdit}
+use Rattle.sn_world.specs.Committing.{MayCommit, SaysCommit, SaysDeletion, SaysEdit}
 use Rattle.sn_world.specs.Holds.{Holds, TokensDiffer}
 use Rattle.sn_world.specs.Laws.{KeepsCommitting, KeptBy}
 use Rattle.sn_client.specs.Laws.{StepsStaySound}
@@ -129,13 +130,18 @@ deletion_allowed s name d acc local has shown known = record {
     of draft k = (sym k.kind, sym k.base, known_so draft k draft.base refl)
 
 module _ (laws : DeviceLaws) (secret : Bytes) (w next : World) (s : Ideal) (h : Holds secret w s) (name : Bytes) where
+  -- the row of the item is this
+  one_row : (uuid : Bytes) (number other : ℕ) (local twin : LocalItem) → HasItem (w.devices name) uuid number local → HasItem (w.devices name) uuid other twin
+      → local ≡ twin
+  one_row uuid number other local twin stands there =
+      let same : number ≡ other = (h.sound name).locals.apart number other local twin stands.0 there.0 (stands.1 ∙ sym there.1) in
+      one_local local twin (w.devices name (key.Local other)) (subst (λ (k : ℕ). HasLocal (w.devices name) k local) same stands.0) there.0
+
   -- the row that the move speaks of is the one that is changed
   said_edit : (uuid : Bytes) (number : ℕ) (local : LocalItem) → HasItem (w.devices name) uuid number local → (text : Content) (moves : List Move)
       → SaysEdit (w.devices name) name uuid text moves → Edit name local.uuid local.kind local.base text ∷ [] ≡ moves
   said_edit uuid number local stands text moves (other, twin, there, is) =
-      let same_number : number ≡ other = (h.sound name).locals.apart number other local twin stands.0 there.0 (stands.1 ∙ sym there.1) in
-      let same : local ≡ twin =
-      one_local local twin (w.devices name (key.Local other)) (subst (λ (k : ℕ). HasLocal (w.devices name) k local) same_number stands.0) there.0 in
+      let same : local ≡ twin = one_row uuid number other local twin stands there in
       ap (λ (u : Bytes). Edit name u local.kind local.base text ∷ []) stands.1 ∙ ap (λ (l : LocalItem). Edit name uuid l.kind l.base text ∷ []) same ∙ sym is
 
   edited_by : (words left : ChaCha) (uuid text : Bytes) (changes : List Change) (moves : List Move) (x : Edits (w.devices name) words uuid text changes left)
@@ -154,13 +160,23 @@ module _ (laws : DeviceLaws) (secret : Bytes) (w next : World) (s : Ideal) (h : 
         text_allowed s name d acc x.local text has shown x.content x.undeleted,
       )))
 
-  deleted_by : (uuid : Bytes) (changes : List Change) (moves : List Move) (x : Deletes (w.devices name) uuid changes) → MayDelete (w.devices name) uuid
-      → IsSound (rows_after (w.devices name) changes) → OnDevice w next name changes → SaysEdit (w.devices name) name uuid content.Deleted moves
-      → KeptBy secret next s moves
-  deleted_by uuid changes moves x may sound on says =
-      ⊎_elim (λ (gone : IsUnknown x.local × Removes x.change (key.Local x.number)). absurd (may x.number x.local x.stands gone.0))
+  deleted_by : (uuid : Bytes) (changes : List Change) (moves : List Move) (x : Deletes (w.devices name) uuid changes)
+      → IsSound (rows_after (w.devices name) changes) → OnDevice w next name changes → SaysDeletion (w.devices name) name uuid moves → KeptBy secret next s moves
+  deleted_by uuid changes moves x sound on (other, twin, there, inl (unknown, said)) =
+      let same : x.local ≡ twin = one_row uuid x.number other x.local twin x.stands there in
+      ⊎_elim
+      (λ (gone : IsUnknown x.local × Removes x.change (key.Local x.number)).
+      subst (λ (ms : List Move). KeptBy secret next s ms) (ap (λ (l : LocalItem). Drop name l.uuid ∷ []) same ∙ sym said)
+      (dropped_so laws.taking.keeps secret w next s h name x.number x.local x.stands.0 gone.0 x.change gone.1
+      (subst (λ (c : List Change). IsSound (rows_after (w.devices name) c)) x.changes_are sound) (subst (λ (c : List Change). OnDevice w next name c) x.changes_are on)))
       (λ (kept : ¬ (IsUnknown x.local) × PutsColumns x.change x.number (drafted (Some row.Deleted) (columns x.local))).
-      subst (λ (ms : List Move). KeptBy secret next s ms) (said_edit uuid x.number x.local x.stands content.Deleted moves says)
+      absurd (kept.0 (subst (λ (l : LocalItem). IsUnknown l) (sym same) unknown))) x.change_is
+  deleted_by uuid changes moves x sound on (other, twin, there, inr (known, said)) =
+      let same : x.local ≡ twin = one_row uuid x.number other x.local twin x.stands there in
+      ⊎_elim
+      (λ (gone : IsUnknown x.local × Removes x.change (key.Local x.number)). absurd (known (subst (λ (l : LocalItem). IsUnknown l) same gone.0)))
+      (λ (kept : ¬ (IsUnknown x.local) × PutsColumns x.change x.number (drafted (Some row.Deleted) (columns x.local))).
+      subst (λ (ms : List Move). KeptBy secret next s ms) (said_edit uuid x.number x.local x.stands content.Deleted moves (other, twin, there, said))
       (edit_kept secret w next s h name x.number x.local x.stands.0 row.Deleted content.Deleted x.change kept.1
       (subst (λ (c : List Change). IsSound (rows_after (w.devices name) c)) x.changes_are sound) (subst (λ (c : List Change). OnDevice w next name c) x.changes_are on)
       (λ d acc has shown. (tt, deletion_allowed s name d acc x.local has shown kept.0)))) x.change_is
@@ -170,7 +186,7 @@ module _ (laws : DeviceLaws) (secret : Bytes) (w next : World) (s : Ideal) (h : 
       → MayApply w.server (w.devices name) s name r given → SaysAnswer (w.devices name) name given changes moves → KeptBy secret next s moves
   applied_by differ words left (request.Sync token items limit sync_token cursor_token) (answer.Sync conflicts cursor retrieved saved next_token) changes moves step sound on may
       says =
-      applied_so laws.taking laws.apart laws.tokens secret w next s differ h name words left items conflicts cursor retrieved saved next_token changes moves step may says
+      applied_so laws.taking laws.tokens secret w next s differ h name words left items conflicts cursor retrieved saved next_token changes moves step may says
       sound on
   applied_by differ words left (request.Sync token items limit sync_token cursor_token) (answer.Account other identifier uuid) changes moves step sound on may says = absurd step
   applied_by differ words left (request.Sync token items limit sync_token cursor_token) (answer.Params params) changes moves step sound on may says = absurd step
@@ -181,7 +197,7 @@ module _ (laws : DeviceLaws) (secret : Bytes) (w next : World) (s : Ideal) (h : 
   applied_by differ words left (request.ChangePw token current pw cost nonce) given changes moves step sound on may says = absurd step
 
   by_kind : TokensDiffer secret → (words left : ChaCha) (what : What) (changes : List Change) (moves : List Move) → Step (w.devices name) words what changes left
-      → IsSound (rows_after (w.devices name) changes) → OnDevice w next name changes → MayCommit secret w.server (w.devices name) s name what changes
+      → IsSound (rows_after (w.devices name) changes) → OnDevice w next name changes → MayCommit secret w.server (w.devices name) s name what
       → SaysCommit (w.devices name) s name what changes moves → KeptBy secret next s moves
   by_kind differ words left (begins set uuid token) changes moves step sound on may says =
       begun_so laws.apart laws.joined laws.join_keeps secret w next s h name set uuid token changes step.0 step.1 may
@@ -195,10 +211,10 @@ module _ (laws : DeviceLaws) (secret : Bytes) (w next : World) (s : Ideal) (h : 
       (put_so laws.edited laws.tokens laws.edit_keeps secret w next s h name words left uuid kind text changes step
       (subst (λ (c : List Change). IsSound (rows_after (w.devices name) c)) step.changes_are sound) on)
   by_kind differ words left (edits uuid text) changes moves step sound on may says = edited_by words left uuid text changes moves step sound on says
-  by_kind differ words left (deletes uuid) changes moves step sound on may says = deleted_by uuid changes moves step.0 may sound on says
+  by_kind differ words left (deletes uuid) changes moves step sound on may says = deleted_by uuid changes moves step.0 sound on says
   by_kind differ words left (posts numbers) changes moves step sound on may says =
       posts_all laws.posted laws.post_keeps laws.sound secret words numbers changes moves w next s name h step.0 may says on
-  by_kind differ words left (applies r given) changes moves step sound on may says = applied_by differ words left r given changes moves step sound on may.0 says
+  by_kind differ words left (applies r given) changes moves step sound on may says = applied_by differ words left r given changes moves step sound on may says
   by_kind differ words left (asks set) changes moves step sound on may says = absurd may
   by_kind differ words left (adopts set token) changes moves step sound on may says = absurd may
   by_kind differ words left forgets changes moves step sound on may says = absurd may

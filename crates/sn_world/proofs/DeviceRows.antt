@@ -1,4 +1,4 @@
--- What one change of a device's rows leaves of its tokens and of what it posted.
+-- What one change of a device's rows leaves of its other rows, of its tokens and of what it posted.
 use Rattle.std.proofs.Common.{◌≡◌, ◌≢◌, ℕ, List, [], ◌∷◌, Option, Some, None, Bool, true, false, refl, sym, ap, ◌∙◌, ⊎_elim, subst, ◌⊎◌}
 use Rattle.std.specs.Prelude.{if◌then◌else◌}
 use Rattle.std.specs.Str.{bytes_eq}
@@ -6,17 +6,27 @@ use Rattle.sn_laws.proofs.Facts.{same_text, text_same}
 use Rattle.sn_laws.specs.Lookups.{Bytes}
 use Rattle.sn_laws.specs.declared.ideal.Account.{Account}
 use Rattle.sn_laws.specs.declared.ideal.Device.{Device}
-use Rattle.sn_rows.specs.Facts.{put_elsewhere, put_here, put_or_not, removed_elsewhere, removed_here}
-use Rattle.sn_rows.specs.Table.{Puts, Removes, Rows, rows_after}
+use Rattle.sn_rows.specs.Facts.{apart_keys, put_elsewhere, put_here, put_or_not, removed_elsewhere, removed_here}
+use Rattle.sn_rows.specs.Table.{Puts, Removes, Rows, key_of, rows_after, same_key, value_of}
+use Rattle.sn_rows.specs.declared.body.RowStrings.{RowStrings}
 use Rattle.sn_rows.specs.declared.change.Change.{Change}
 use Rattle.sn_rows.specs.declared.device_rows.LocalItem.{LocalItem}
 use Rattle.sn_rows.specs.declared.device_rows.OwnerRow.{OwnerRow}
+use Rattle.sn_rows.specs.declared.key.Key.{Key}
 use Rattle.sn_rows.specs.declared.key.Key.TheVariants as key
 use Rattle.sn_rows.specs.declared.value.Value.{Value}
 use Rattle.sn_rows.specs.declared.value.Value.TheVariants as value
+use Rattle.sn_sets.specs.Sets.{sealed_of}
+use Rattle.sn_shows.specs.Laws.{PutsItem}
+use Rattle.sn_shows.specs.Sets.{OpensUnder}
+use Rattle.sn_string.specs.declared.params.KeySet.{KeySet}
+use Rattle.sn_sync.specs.declared.item.Item.{Item}
 use Rattle.sn_world.proofs.Frames.{KeepsPosted, SentAlike}
 use Rattle.sn_world.specs.Holds.{DeviceToken, IsTokenBelow, NoneStale, TokensBelow}
-use Rattle.sn_client.specs.States.{HasLocal, HasOwner, token_of}
+use Rattle.sn_client.specs.Sending.{PutsColumns}
+use Rattle.sn_client.specs.States.{Columns, HasLocal, HasOwner, token_of}
+use Rattle.sn_client.specs.Taking.{new_columns}
+use Rattle.sn_world.specs.Live.{IsPosted}
 use Rattle.sn_world.specs.World.{OnDevice, World}
 
 -- ---- one value
@@ -26,6 +36,30 @@ one_local x y found e k = cc
 
 pub one_owner : (x y : OwnerRow) (found : Option Value) → found ≡ Some (value.Owner x) → found ≡ Some (value.Owner y) → x ≡ y
 one_owner x y found e k = cc
+
+-- a change of another row leaves this one
+pub past_key : (rows : Rows) (change : Change) (at k : Key) → key_of change ≡ at → at ≢ k → rows_after rows (change ∷ []) k ≡ rows k
+past_key rows change at k of apart =
+    ap (λ (b : Bool). if b then value_of change else rows k) (ap (λ (z : Key). same_key z k) of ∙ apart_keys at k apart)
+
+pub number_of_key : {n m : ℕ} → key.Local m ≡ key.Local n → n ≡ m
+number_of_key e = cc
+
+-- the row of a new item, whose draft opens under the set of this number
+pub puts_new : (change : Change) (number : ℕ) (sets : List KeySet) (g : ℕ) (uuid kind text : Bytes) (strings : RowStrings)
+    → PutsColumns change number (new_columns uuid kind strings) → OpensUnder sets g uuid (sealed_of strings) text → PutsItem change number sets g uuid kind text
+puts_new change number sets g uuid kind text strings puts opens = record {
+  item = puts.local;
+  puts = puts.puts;
+  uuid_is = ap (λ (c : Columns). c.uuid) puts.columns_are;
+  kind_is = ap (λ (c : Columns). c.kind) puts.columns_are;
+  base = ap (λ (c : Columns). c.base) puts.columns_are;
+  no_body = ap (λ (c : Columns). c.body) puts.columns_are;
+  strings = strings;
+  latest = ap (λ (c : Columns). c.latest) puts.columns_are;
+  opens = opens;
+  posted = ap (λ (c : Columns). c.posted) puts.columns_are;
+}
 
 -- ---- the device's own row
 
@@ -79,6 +113,21 @@ posted_put rows change number new puts alike at local stands some =
     (new, here, alike local (ap rows same ∙ stands) some))
     (λ (past : rows_after rows (change ∷ []) (key.Local at) ≡ rows (key.Local at)). (local, past ∙ stands, (refl, refl, refl, refl)))
     (put_or_not rows change (key.Local number) (value.Local new) puts (key.Local at))
+
+-- what another row than the changed one has posted
+pub posted_elsewhere : (rows : Rows) (change : Change) (number : ℕ) (i : Item) → key_of change ≡ key.Local number → (x : IsPosted rows i) → x.number ≢ number
+    → IsPosted (rows_after rows (change ∷ [])) i
+posted_elsewhere rows change number i of x differs = record {
+  number = x.number;
+  local = x.local;
+  stands = past_key rows change (key.Local number) (key.Local x.number) of (λ e. differs (number_of_key e)) ∙ x.stands;
+  uuid_is = x.uuid_is;
+  kind_is = x.kind_is;
+  base = x.base;
+  posted = x.posted;
+  posted_is = x.posted_is;
+  body_is = x.body_is;
+}
 
 -- ---- rows that are to be sealed again
 

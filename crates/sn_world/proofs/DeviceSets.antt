@@ -1,5 +1,6 @@
 -- The sets and drafts of a device's rows, as those of its account.
 use Rattle.std.proofs.Common.{◌≡◌, ◌<◌, ℕ, Option, Some, None, refl, sym, ap, ◌∙◌, subst, arith}
+use Rattle.sn_laws.proofs.Facts.{one_there}
 use Rattle.sn_laws.specs.Lookups.{Bytes, account_for, account_of, draft_at, greatest}
 use Rattle.sn_laws.specs.declared.ideal.Account.{Account}
 use Rattle.sn_laws.specs.declared.ideal.Device.{Device}
@@ -7,6 +8,7 @@ use Rattle.sn_laws.specs.declared.ideal.Draft.{Draft}
 use Rattle.sn_laws.specs.declared.ideal.Ideal.{Ideal}
 use Rattle.sn_rows.specs.Kinds.{value_kind}
 use Rattle.sn_rows.specs.Table.{Rows}
+use Rattle.sn_rows.specs.declared.body.RowBody.{RowBody}
 use Rattle.sn_rows.specs.declared.device_rows.LocalItem.{LocalItem}
 use Rattle.sn_rows.specs.declared.device_rows.OwnerRow.{OwnerRow}
 use Rattle.sn_rows.specs.declared.device_rows.SetRow.{SetRow}
@@ -16,13 +18,13 @@ use Rattle.sn_rows.specs.declared.kind.RowKind.TheVariants as kind
 use Rattle.sn_rows.specs.declared.value.Value.{Value}
 use Rattle.sn_rows.specs.declared.value.Value.TheVariants as value
 use Rattle.sn_sets.specs.declared.sets.Sets.{Sets}
-use Rattle.sn_shows.specs.Devices.{IsSetRow, ShowsHolder}
+use Rattle.sn_shows.specs.Devices.{IsSetRow, ShowsContent, ShowsDraft, ShowsDrafted, ShowsHolder}
 use Rattle.sn_shows.specs.Laws.{HasAccount}
 use Rattle.sn_shows.specs.Sets.{set_at}
 use Rattle.sn_string.proofs.Facts.{same_keys}
 use Rattle.sn_string.specs.declared.params.KeySet.{KeySet}
 use Rattle.sn_world.proofs.DeviceRows.{one_owner}
-use Rattle.sn_client.specs.States.{HasOwner, HasSets, IsFree, IsSetOf, IsSound}
+use Rattle.sn_client.specs.States.{HasLocal, HasOwner, HasSets, IsFree, IsSetOf, IsSound}
 
 pub one_set_row : (x y : SetRow) (found : Option Value) → found ≡ Some (value.Set x) → found ≡ Some (value.Set y) → x ≡ y
 one_set_row x y found e k = cc
@@ -83,3 +85,18 @@ free_undrafted rows s name d a uuid h free = by (draft_at s name uuid) refl
     by : (found : Option Draft) → draft_at s name uuid ≡ found → draft_at s name uuid ≡ None
     by None e = e
     by (Some draft) e = let row = h.drafts uuid draft e in absurd (free row.number row.item (row.stands, row.item_is))
+
+-- the draft of a row that has one
+pub row_draft : (rows : Rows) (s : Ideal) (name : Bytes) (d : Device) (a : Account) → ShowsHolder rows s name d a → (number : ℕ) (local : LocalItem) → HasLocal rows number local
+    → (latest : RowBody) → local.latest ≡ Some latest
+    → (draft : Draft) × (draft_at s name local.uuid ≡ Some draft) × ShowsDraft a.sets (greatest 0 d.held) local draft
+    × ShowsContent a.sets (greatest 0 d.held) local.uuid latest draft.latest
+row_draft rows s name d a h number local stands latest is = by (draft_at s name local.uuid) refl (h.locals number local stands).draft
+  where
+    by : (found : Option Draft) → draft_at s name local.uuid ≡ found → ShowsDrafted a.sets (greatest 0 d.held) local found
+        → (draft : Draft) × (draft_at s name local.uuid ≡ Some draft) × ShowsDraft a.sets (greatest 0 d.held) local draft
+        × ShowsContent a.sets (greatest 0 d.held) local.uuid latest draft.latest
+    by None e k = let none : local.latest ≡ None = k.0 in absurd (cc)
+    by (Some draft) e k =
+        let same : k.latest ≡ latest = one_there k.latest latest local.latest k.latest_is is in
+        (draft, e, k, subst (λ (b : RowBody). ShowsContent a.sets (greatest 0 d.held) local.uuid b draft.latest) same k.content)

@@ -279,7 +279,7 @@ module _ (secret : Bytes) (w next : World) (s : Ideal) (h : Holds secret w s) (n
 
     frame : DeviceFrame secret w rows s then name
     frame = record {
-      reached = reached_more s move h.reached legal;
+      reached = reached_more s move tt h.reached legal;
       accounts = refl;
       others = λ other off. refl;
       shows = shows;

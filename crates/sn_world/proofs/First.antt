@@ -11,7 +11,7 @@ no_account (suc n) a e = absurd (cc)
 
 pub holds_first : FreshIsSound → HoldsFirst
 holds_first fresh secret = record {
-  reached = record { moves = []; legal = tt; is = refl };
+  reached = record { moves = []; legal = tt; no_change = tt; is = refl };
   few = record { accounts_few = omega arith; sets_few = λ n a e. absurd (no_account n a e) };
   keeps_secret = λ store e. absurd (cc);
   server = record { store = refl; all = record { each = λ n a e. absurd (no_account n a e); no_other = λ k some. absurd (cc) } };

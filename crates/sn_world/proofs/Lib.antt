@@ -1,5 +1,6 @@
 pub mod Accepting
 pub mod Alive
+pub mod AnswerSaid
 pub mod Applied
 pub mod AppliedAnswer
 pub mod Based
@@ -7,6 +8,9 @@ pub mod Begun
 pub mod Committed
 pub mod DeviceRows
 pub mod DeviceSets
+pub mod DraftMet
+pub mod DraftMoves
+pub mod Dropped
 pub mod Edited
 pub mod First
 pub mod Frames
@@ -16,6 +20,7 @@ pub mod Lists
 pub mod MadeBy
 pub mod Making
 pub mod OneSets
+pub mod OwnStrings
 pub mod Posted
 pub mod PutNew
 pub mod Removing
@@ -29,6 +34,7 @@ pub mod Served
 pub mod ServedRegister
 pub mod ServedSync
 pub mod ServedTells
+pub mod SetsKept
 pub mod Settled
 pub mod Settling
 pub mod ShowsLemmas
@@ -36,8 +42,15 @@ pub mod SignedIn
 pub mod Standing
 pub mod Started
 pub mod Steps
-pub mod TakenFrames
 pub mod TakenAll
+pub mod TakenClean
+pub mod TakenEnded
+pub mod TakenFork
+pub mod TakenFrames
+pub mod TakenLive
+pub mod TakenMet
 pub mod TakenOne
+pub mod TakenPosted
+pub mod TakenRenamed
 pub mod Tokens
 pub mod Traced

@@ -159,7 +159,7 @@ module _ (shows : PostedShows) (keeps : PostKeeps) (secret : Bytes) (w next : Wo
 
   frame : DeviceFrame secret w rows s later name
   frame = record {
-    reached = reached_more s (Post name local.uuid) h.reached legal;
+    reached = reached_more s (Post name local.uuid) tt h.reached legal;
     accounts = refl;
     others = λ other off. refl;
     shows = shows (w.devices name) s name number local change (h.devices name) x.stands some x.unsent.1 puts_posted;

@@ -25,7 +25,7 @@ use Rattle.sn_shows.proofs.Facts.{find_new, find_past_new, holder_of}
 use Rattle.sn_shows.specs.Devices.{ShowsDevice, ShowsHolder}
 use Rattle.sn_shows.specs.Laws.{EditKeeps, EditedShows, HasAccount, TokensShow}
 use Rattle.sn_shows.specs.Servers.{stamps_in}
-use Rattle.sn_world.proofs.DeviceRows.{local_past, one_owner, posted_both, posted_put, posted_same, sync_tokens_kept, unstale_put, unstale_same}
+use Rattle.sn_world.proofs.DeviceRows.{local_past, one_owner, posted_both, posted_put, posted_same, puts_new, sync_tokens_kept, unstale_put, unstale_same}
 use Rattle.sn_world.proofs.DeviceSets.{account_is, free_undrafted, identifier_of, next_is_free, present_at}
 use Rattle.sn_world.proofs.Frames.{DeviceFrame, KeepsPosted, device_kept, live_kept}
 use Rattle.sn_world.proofs.ShowsLemmas.{holder_from}
@@ -104,18 +104,8 @@ module _ (edit_law : EditedShows) (tokens_law : TokensShow) (keeps : EditKeeps) 
         free = next_is_free before x.owner (h.sound name) x.holds.owned;
         other = λ number item stands is. x.fresh.fresh number item (stands, is);
       })
-      (record {
-        item = local;
-        puts = x.item_is.puts;
-        uuid_is = ap (λ (c : Columns). c.uuid) x.item_is.columns_are;
-        kind_is = ap (λ (c : Columns). c.kind) x.item_is.columns_are;
-        base = ap (λ (c : Columns). c.base) x.item_is.columns_are;
-        no_body = ap (λ (c : Columns). c.body) x.item_is.columns_are;
-        strings = x.strings;
-        latest = ap (λ (c : Columns). c.latest) x.item_is.columns_are;
-        opens = record { set = x.sets.present; at = present_at before s name d a x.owner x.sets holder x.holds; opens = x.seals.opens };
-        posted = ap (λ (c : Columns). c.posted) x.item_is.columns_are;
-      })
+      (puts_new x.item x.owner.next a.sets (greatest 0 d.held) uuid kind text x.strings x.item_is
+      (record { set = x.sets.present; at = present_at before s name d a x.owner x.sets holder x.holds; opens = x.seals.opens }))
 
   shown : ShowsDevice rows later name
   shown =
@@ -186,7 +176,7 @@ module _ (edit_law : EditedShows) (tokens_law : TokensShow) (keeps : EditKeeps) 
 
   frame : DeviceFrame secret w rows s later name
   frame = record {
-    reached = reached_more s (Edit name uuid kind None (content.Plain text)) h.reached legal;
+    reached = reached_more s (Edit name uuid kind None (content.Plain text)) tt h.reached legal;
     accounts = refl;
     others = λ other off. refl;
     shows = shown;

@@ -15,15 +15,16 @@ use Rattle.sn_rows.specs.Table.{Rows, rows_after}
 use Rattle.sn_rows.specs.declared.change.Change.{Change}
 use Rattle.sn_rows.specs.declared.device_rows.LocalItem.{LocalItem}
 use Rattle.sn_rows.specs.declared.key.Key.TheVariants as key
+use Rattle.sn_shows.specs.Laws.{AccountsApart}
 use Rattle.sn_string.specs.declared.params.KeySet.{KeySet}
 use Rattle.sn_sync.specs.Fits.{FitsRequest}
 use Rattle.sn_sync.specs.declared.answer.Answer.{Answer}
 use Rattle.sn_sync.specs.declared.answer.Answer.TheVariants as answer
 use Rattle.sn_sync.specs.declared.request.Request.{Request}
 use Rattle.sn_sync.specs.declared.request.Request.TheVariants as request
+use Rattle.sn_world.proofs.AnswerSaid.{answer_said}
 use Rattle.sn_world.proofs.DeviceRows.{with_device, with_other, with_own}
 use Rattle.sn_world.proofs.Said.{posts_say}
-use Rattle.sn_world.specs.Applying.{SaysAnswer}
 use Rattle.sn_world.specs.Committing.{AreDifferent, Commits}
 use Rattle.sn_world.specs.Happens.{Trace, commits, makes, serves}
 use Rattle.sn_world.specs.Holds.{Holds, TokensDiffer}
@@ -34,6 +35,7 @@ use Rattle.sn_world.specs.Serving.{Serves, moves_for}
 use Rattle.sn_world.specs.World.{Made, OnDevice, World}
 
 pub record RoundLaws : Type 0 where
+  pub apart : AccountsApart
   pub commit : KeepsCommitting
   pub make : KeepsMaking
   pub serve : KeepsServing
@@ -72,9 +74,8 @@ module _ (laws : RoundLaws) (secret : Bytes) (differ : TokensDiffer secret) (nam
   last r = with_device (served r) name (rows_after (w.devices name) applied)
 
   pub goes_on : (r : Request) (given : Answer) → FitsRequest r → MakesOf (w.devices name) None r → AreApart (uuids (items_of r)) → Rule w.server r now changes given
-      → Step (w.devices name) words (applies r given) applied left → ((moves : List Move) × SaysAnswer (w.devices name) name given applied moves)
-      → GoesOn secret name w s now changes applied r given
-  goes_on (request.Sync token items limit sync_token cursor_token) (answer.Sync conflicts cursor retrieved saved next_token) fits makes_it apart rule step says =
+      → Step (w.devices name) words (applies r given) applied left → GoesOn secret name w s now changes applied r given
+  goes_on (request.Sync token items limit sync_token cursor_token) (answer.Sync conflicts cursor retrieved saved next_token) fits makes_it apart rule step =
       let r : Request = request.Sync token items limit sync_token cursor_token in
       let given : Answer = answer.Sync conflicts cursor retrieved saved next_token in
       let makes_so : Makes w (made r) (m r) = record { of = makes_it; server = refl; devices = refl; made = refl } in
@@ -85,6 +86,8 @@ module _ (laws : RoundLaws) (secret : Bytes) (differ : TokensDiffer secret) (nam
       let told =
       laws.tells secret (made r) (served r) s (m r) token items now changes first conflicts cursor retrieved saved next_token differ h_made
       (record { limit = limit; sync_token = sync_token; cursor_token = cursor_token; is = refl }) makes_it.from apart serves_so refl in
+      let h_served : Holds secret (served r) (end_from s first) = (laws.serve secret (made r) (served r) s (m r) now changes given first differ h_made serves_so refl).1 in
+      let says = answer_said laws.apart secret (served r) (end_from s first) h_served name words left r given applied step told in
       record {
         moves = first ++ (says.0 ++ []);
         next = last r;
@@ -106,7 +109,7 @@ module _ (laws : RoundLaws) (secret : Bytes) (differ : TokensDiffer secret) (nam
               last r,
               says.0,
               [],
-              (record { words = words; left = left; step = step; on = changed_device (served r) name applied }, (told, says)),
+              (record { words = words; left = left; step = step; on = changed_device (served r) name applied }, told),
               says.1,
               (refl, refl),
               refl,
@@ -116,13 +119,13 @@ module _ (laws : RoundLaws) (secret : Bytes) (differ : TokensDiffer secret) (nam
           refl,
         );
       }
-  goes_on (request.Sync token items limit sync_token cursor_token) (answer.Account other identifier uuid) fits makes_it apart rule step says = absurd step
-  goes_on (request.Sync token items limit sync_token cursor_token) (answer.Params params) fits makes_it apart rule step says = absurd step
-  goes_on (request.Sync token items limit sync_token cursor_token) (answer.Refused status tag more) fits makes_it apart rule step says = absurd step
-  goes_on (request.Register params pw) given fits makes_it apart rule step says = absurd step
-  goes_on (request.Params identifier) given fits makes_it apart rule step says = absurd step
-  goes_on (request.SignIn identifier pw) given fits makes_it apart rule step says = absurd step
-  goes_on (request.ChangePw token current pw cost nonce) given fits makes_it apart rule step says = absurd step
+  goes_on (request.Sync token items limit sync_token cursor_token) (answer.Account other identifier uuid) fits makes_it apart rule step = absurd step
+  goes_on (request.Sync token items limit sync_token cursor_token) (answer.Params params) fits makes_it apart rule step = absurd step
+  goes_on (request.Sync token items limit sync_token cursor_token) (answer.Refused status tag more) fits makes_it apart rule step = absurd step
+  goes_on (request.Register params pw) given fits makes_it apart rule step = absurd step
+  goes_on (request.Params identifier) given fits makes_it apart rule step = absurd step
+  goes_on (request.SignIn identifier pw) given fits makes_it apart rule step = absurd step
+  goes_on (request.ChangePw token current pw cost nonce) given fits makes_it apart rule step = absurd step
 
 -- ---- a round
 
@@ -133,8 +136,7 @@ posted_none rows (c ∷ cs) all = absurd all
 module _ (laws : RoundLaws) (secret : Bytes) (w : World) (s : Ideal) (name : Bytes) (at : Standing) (round : Round) (after : Standing) (now : ℕ)
     (changes : List Change) (differ : TokensDiffer secret) (h : Holds secret w s) (fits : FitsRequest round.request) (rows_are : w.devices name ≡ at.rows)
     (x : IsRound at round after)
-    (rule : Rule w.server round.request now changes round.given)
-    (says : (moves : List Move) × SaysAnswer (rows_after at.rows round.posted) name round.given round.applied moves) where
+    (rule : Rule w.server round.request now changes round.given) where
   ready_is : x.ready ≡ rows_after at.rows round.posted
   ready_is = x.sends.ready_is
 
@@ -155,7 +157,6 @@ module _ (laws : RoundLaws) (secret : Bytes) (w : World) (s : Ideal) (name : Byt
       (subst (λ (r : Rows). MakesOf r None round.request) (sym device) (sends.1 None)) sends.2
       (subst (λ (r : Rows). Rule r round.request now changes round.given) (sym server) rule)
       (subst (λ (r : Rows). Step r at.words (applies round.request round.given) round.applied x.left) (sym device) x.step)
-      (subst (λ (r : Rows). (moves : List Move) × SaysAnswer r name round.given round.applied moves) (sym (device ∙ ready_is)) says)
 
   rows_then : (v : World) → v.devices name ≡ x.ready → (next : World) → next.devices name ≡ rows_after (v.devices name) round.applied → next.devices name ≡ after.rows
   rows_then v device next is = is ∙ ap (λ (r : Rows). rows_after r round.applied) device ∙ ap (λ (z : Standing). z.rows) (sym x.after_is)
@@ -193,5 +194,5 @@ module _ (laws : RoundLaws) (secret : Bytes) (w : World) (s : Ideal) (name : Byt
   round_goes = let g = by_numbers round.numbers refl in record { moves = g.0; next = g.1; goes = g.2; server = g.3; device = g.4 }
 
 pub rounds_go : RoundLaws → RoundsGo
-rounds_go laws secret w s name at round after now changes differ h fits rows_are x rule says =
-    round_goes laws secret w s name at round after now changes differ h fits rows_are x rule says
+rounds_go laws secret w s name at round after now changes differ h fits rows_are x rule =
+    round_goes laws secret w s name at round after now changes differ h fits rows_are x rule

@@ -1,22 +1,28 @@
 -- Each step says some moves.
-use Rattle.std.proofs.Common.{◌≡◌, ℕ, List, [], ◌∷◌, Some, true, false, refl, sym, subst}
+use Rattle.std.proofs.Common.{◌≡◌, ℕ, List, [], ◌∷◌, Some, true, false, refl, sym, subst, inl, inr, ⊎_elim}
 use Rattle.std.specs.List.{AllZip}
 use Rattle.rand_chacha.specs.ChaCha.{ChaCha}
 use Rattle.sn_laws.specs.Lookups.{Bytes, account_named}
 use Rattle.sn_laws.specs.declared.ideal.Ideal.{Ideal}
 use Rattle.sn_laws.specs.declared.moves.Move.{Move}
-use Rattle.sn_rows.specs.Table.{Rows}
+use Rattle.sn_laws.specs.declared.ideal.Content.TheVariants as content
+use Rattle.sn_laws.specs.declared.moves.Move.TheVariants.{Drop, Edit}
+use Rattle.sn_rows.specs.Table.{Removes, Rows}
+use Rattle.sn_rows.specs.declared.body.RowBody.TheVariants as row
+use Rattle.sn_rows.specs.declared.key.Key.TheVariants as key
 use Rattle.sn_rows.specs.declared.change.Change.{Change}
 use Rattle.sn_shows.specs.Laws.{AccountsApart}
 use Rattle.sn_string.specs.declared.params.KeySet.{KeySet}
+use Rattle.sn_world.proofs.AnswerSaid.{answer_said}
 use Rattle.sn_world.proofs.Begun.{at_named}
 use Rattle.sn_world.proofs.Tokens.{apart_of}
-use Rattle.sn_world.specs.Committing.{IsPostOf, MayBegin, MayCommit, SaysCommit, SaysJoin}
+use Rattle.sn_world.specs.Committing.{IsPostOf, MayBegin, MayCommit, SaysCommit, SaysDeletion, SaysJoin}
 use Rattle.sn_world.specs.Happens.{commits, makes, serves, starts}
 use Rattle.sn_world.specs.Holds.{Holds}
 use Rattle.sn_world.specs.Laws.{SaysSome}
-use Rattle.sn_client.specs.Sending.{PostsAll}
-use Rattle.sn_client.specs.Steps.{Step, What, adopts, applies, asks, begins, deletes, edits, forgets, posts, puts, renews}
+use Rattle.sn_client.specs.Sending.{PostsAll, PutsColumns}
+use Rattle.sn_client.specs.States.{columns}
+use Rattle.sn_client.specs.Steps.{Deletes, IsUnknown, Step, What, adopts, applies, asks, begins, deletes, drafted, edits, forgets, posts, puts, renews}
 use Rattle.sn_world.specs.World.{World}
 
 pub posts_say : (rows : Rows) (name : Bytes) (numbers : List ℕ) (changes : List Change) → PostsAll rows numbers changes
@@ -35,16 +41,24 @@ join_said apart secret w s h name set uuid token may =
     subst (λ (t : Bytes). account_named s t ≡ Some may.account) (sym own) (at_named s may.number may.account (apart_of apart s h.reached) may.at) in
     (_, (may.account, named, refl))
 
+deletion_said : (rows : Rows) (name uuid : Bytes) (changes : List Change) → Deletes rows uuid changes → (moves : List Move) × SaysDeletion rows name uuid moves
+deletion_said rows name uuid changes x =
+    ⊎_elim
+    (λ (gone : IsUnknown x.local × Removes x.change (key.Local x.number)). (Drop name x.local.uuid ∷ [], (x.number, x.local, x.stands, inl (gone.0, refl))))
+    (λ (kept : ¬ (IsUnknown x.local) × PutsColumns x.change x.number (drafted (Some row.Deleted) (columns x.local))).
+    (Edit name uuid x.local.kind x.local.base content.Deleted ∷ [], (x.number, x.local, x.stands, inr (kept.0, refl)))) x.change_is
+
 commit_said : AccountsApart → (secret : Bytes) (w : World) (s : Ideal) → Holds secret w s → (name : Bytes) (what : What) (words left : ChaCha) (changes : List Change)
-    → Step (w.devices name) words what changes left → MayCommit secret w.server (w.devices name) s name what changes
+    → Step (w.devices name) words what changes left → MayCommit secret w.server (w.devices name) s name what
     → (moves : List Move) × SaysCommit (w.devices name) s name what changes moves
 commit_said apart secret w s h name (begins set uuid token) words left changes step may = join_said apart secret w s h name set uuid token may
 commit_said apart secret w s h name (renews token) words left changes step may = ([], refl)
 commit_said apart secret w s h name (puts uuid kind text) words left changes step may = (_, refl)
 commit_said apart secret w s h name (edits uuid text) words left changes step may = (_, (step.number, step.local, step.stands, refl))
-commit_said apart secret w s h name (deletes uuid) words left changes step may = (_, (step.0.number, step.0.local, step.0.stands, refl))
+commit_said apart secret w s h name (deletes uuid) words left changes step may = deletion_said (w.devices name) name uuid changes step.0
 commit_said apart secret w s h name (posts numbers) words left changes step may = posts_say (w.devices name) name numbers changes step.0
-commit_said apart secret w s h name (applies request given) words left changes step may = may.1
+commit_said apart secret w s h name (applies request given) words left changes step may =
+    answer_said apart secret w s h name words left request given changes step may
 commit_said apart secret w s h name (asks set) words left changes step may = absurd may
 commit_said apart secret w s h name (adopts set token) words left changes step may = absurd may
 commit_said apart secret w s h name forgets words left changes step may = absurd may

@@ -158,7 +158,7 @@ module _ (store_law : StoreShows) (register_law : RegisteredShows) (keeps_law : 
 
   frame : ServerFrame secret w server s later
   frame = record {
-    reached = reached_more s (Register identifier set) h.reached legal;
+    reached = reached_more s (Register identifier set) tt h.reached legal;
     few = record {
       accounts_few = let is : length later.accounts ≡ length s.accounts + 1 = count_is in let more : n ≡ length s.accounts + 1 = number_is in
           let within : store.accounts < most_accounts = room in omega arith;

@@ -7,16 +7,19 @@ use Rattle.sn_account.specs.Tells.{SyncsTell, TellsRows}
 use Rattle.sn_laws.specs.Each.{Each}
 use Rattle.sn_laws.specs.Lookups.{Bytes, device_named}
 use Rattle.sn_laws.specs.Runs.{end_from}
+use Rattle.sn_laws.specs.declared.moves.Move.{Move}
 use Rattle.sn_rows.specs.Table.{Rows}
 use Rattle.sn_shows.specs.Laws.{AccountsApart}
 use Rattle.sn_shows.specs.Servers.{account_at}
 use Rattle.sn_sync.specs.declared.answer.Answer.TheVariants as answer
 use Rattle.sn_sync.specs.declared.request.Request.{Request}
 use Rattle.sn_sync.specs.declared.request.Request.TheVariants as request
+use Rattle.sn_world.proofs.SetsKept.{IsAccept, accepts_only, params_after}
 use Rattle.sn_world.proofs.Tokens.{few_numbers, same_owner, session_account}
 use Rattle.sn_world.specs.Holds.{HasToken, Holds}
 use Rattle.sn_world.specs.Laws.{KeepsServing, ServedTells}
 use Rattle.sn_world.specs.Making.{IsPostedOf}
+use Rattle.sn_world.specs.Serving.{moves_for}
 use Rattle.sn_world.specs.World.{IsMade, Made}
 
 pub served_tells : AccountsApart → SyncsTell → KeepsServing → ServedTells
@@ -36,15 +39,21 @@ served_tells apart tell keeps secret w next s m token items now changes moves co
     let number : tok.number ≡ told.0 =
     same_owner secret token tok.number told.0 tok.generation session.account.generation
     (few_numbers apart secret next (end_from s moves) holds_next tok.number tok.account tok.at) (few_numbers apart secret w s h told.0 b.0 b.1) tok.is spelled in
+    let at_now : account_at told.0 (end_from s moves).accounts ≡ Some tok.account =
+    subst (λ (k : ℕ). account_at k (end_from s moves).accounts ≡ Some tok.account) number tok.at in
+    let accepts : Each IsAccept moves =
+    subst (λ (ms : List Move). Each IsAccept ms) (sym (says ∙ ap (λ (r : Request). moves_for w.server m.device m.begins r changes) is.is))
+    (accepts_only w.server m.device changes) in
     record {
       number = told.0;
       account = tok.account;
-      at = subst (λ (k : ℕ). account_at k (end_from s moves).accounts ≡ Some tok.account) number tok.at;
+      at = at_now;
       device = tok.device;
       named = tok.named;
       own = tok.own;
       posted = subst (λ (f : Bytes → Rows). Each (IsPostedOf (f m.device)) items) (sym x.on.devices) posted;
       present = told.1;
+      params_are = params_after w.server s moves told.0 tok.account told.1 h.server.all accepts at_now told.5;
       above = above_of told.2 told.3;
       first = is_first told.2 told.3;
       tells = subst (λ (r : Rows). TellsRows r told.0 told.1 items (above_of told.2 told.3) (is_first told.2 told.3) conflicts cursor retrieved saved next_token) (sym x.on.server) told.8;

@@ -74,28 +74,28 @@ module _ (apart : AccountsApart) (own_law : SettlesOwn) (live_law : AppliesLive)
   number_is : (token : Bytes) (k : ℕ) → HasToken secret s.accounts (device_named s name) token → IsSession w.server token k → x.n ≡ k
   number_is token k tok session =
       let number : tok.number ≡ k = (token_session apart secret w s h differ name token tok k session).0 in
-      let device : tok.device ≡ x.device = one_there tok.device x.device (device_named s name) tok.named x.meets.has.device in
+      let device : tok.device ≡ x.device = one_there tok.device x.device (device_named s name) tok.named x.meets.meets.has.device in
       let names : x.account.identifier ≡ tok.account.identifier =
-      named_identifier s x.device.account x.account x.meets.has.account ∙ sym (tok.own ∙ ap (λ (z : Device). z.account) device) in
-      apart_of apart s h.reached x.n tok.number x.account tok.account x.meets.at tok.at names ∙ number
+      named_identifier s x.device.account x.account x.meets.meets.has.account ∙ sym (tok.own ∙ ap (λ (z : Device). z.account) device) in
+      apart_of apart s h.reached x.n tok.number x.account tok.account x.meets.meets.at tok.at names ∙ number
 
   live : (token : Bytes) (k : ℕ) → HasToken secret s.accounts (device_named s name) token → IsSession w.server token k → (j : Item)
       → LiveItem (w.server (key.Item j.uuid)) (w.devices name) k j → LiveItem (w.server (key.Item j.uuid)) rows k j
   live token k tok session j was =
       let same : x.n ≡ k = number_is token k tok session in
       subst (λ (o : ℕ). LiveItem (w.server (key.Item j.uuid)) rows o j) same
-      (live_law w.server (w.devices name) x.n x.number local x.sent i j change x.meets.stands.0 x.sends x.meets.stored x.saved x.takes.puts.puts.key_is
+      (live_law w.server (w.devices name) x.n x.number local x.sent i j change x.meets.meets.stands.0 x.sends x.meets.meets.stored x.saved x.takes.puts.puts.key_is
       (subst (λ (o : ℕ). LiveItem (w.server (key.Item j.uuid)) (w.devices name) o j) (sym same) was))
 
   frame : DeviceFrame secret w rows s later name
   frame = record {
-    reached = reached_more s (Settle name i.uuid) h.reached own.0;
+    reached = reached_more s (Settle name i.uuid) tt h.reached own.0;
     accounts = refl;
     others = λ other off. refl;
     shows = own.1;
     shows_others = λ at other off k. keeps at s name other i.uuid off k;
     sound = x.sound;
-    unstale = unstale_put (w.devices name) change x.number x.takes.puts.local x.takes.puts.puts (takes_fresh change x.number i x.takes) (h.unstale name);
+    unstale = unstale_put (w.devices name) change x.number x.takes.puts.local x.takes.puts.puts (takes_fresh change x.number i None x.takes) (h.unstale name);
     numbers = λ other e b has item draft at p is.
         let its = h.numbers other e b (record { device = has.device; account = has.account }) item draft (draft_before s name i.uuid other item draft at) p is in
         (its.0, its.1, λ last. its.2 (on_same s name i.uuid draft.uuid b draft.base last));

@@ -2,7 +2,7 @@
 use Rattle.std.proofs.Common.{◌≡◌, ℕ, List, [], ◌∷◌, Option, Some, None, true, refl, sym, ap, ◌∙◌, subst, inl, inr}
 use Rattle.std.specs.Prelude.{IsTrue}
 use Rattle.sn_account.specs.Stored.{IsGiven}
-use Rattle.sn_conflict.specs.Meetings.{HasContentOf, SameStrings}
+use Rattle.sn_conflict.specs.Meetings.{HasContent, HasContentOf, SameStrings}
 use Rattle.sn_items.specs.ItemLaws.{OneContent}
 use Rattle.sn_items.specs.Items.{OpensItem}
 use Rattle.sn_items.specs.declared.sealed.Sealed.{Sealed}
@@ -33,8 +33,8 @@ use Rattle.sn_rows.specs.declared.server_rows.ItemRow.{ItemRow}
 use Rattle.sn_rows.specs.declared.value.Value.{Value}
 use Rattle.sn_rows.specs.declared.value.Value.TheVariants as value
 use Rattle.sn_sets.specs.Sets.{OpensHeld, sealed_of}
-use Rattle.sn_shows.proofs.Facts.{holder_of}
-use Rattle.sn_shows.specs.Devices.{IsSetRow, ShowsContent, ShowsDevice, ShowsDrafted, ShowsHolder, ShowsOlder}
+use Rattle.sn_shows.proofs.Facts.{holder_of, removed_shows}
+use Rattle.sn_shows.specs.Devices.{IsSetRow, ShowsContent, ShowsDevice, ShowsDraft, ShowsHolder, ShowsOlder}
 use Rattle.sn_shows.specs.Laws.{PutsSettled, SettledShows}
 use Rattle.sn_shows.specs.Servers.{ShowsStrings}
 use Rattle.sn_shows.specs.Sets.{OpensUnder, set_at}
@@ -44,10 +44,10 @@ use Rattle.sn_sync.specs.declared.item.Body.{Body as Sent}
 use Rattle.sn_sync.specs.declared.item.Body.TheVariants as body
 use Rattle.sn_sync.specs.declared.item.Item.{Item}
 use Rattle.sn_world.proofs.Based.{Based, based_on, given_gone, given_strings, gone_version, live_version, sealed_same}
-use Rattle.sn_world.proofs.DeviceSets.{account_is, identifier_of, one_set_row, present_at, set_of_row}
-use Rattle.sn_world.proofs.Removing.{no_row, removed_shows}
+use Rattle.sn_world.proofs.DeviceSets.{account_is, identifier_of, one_set_row, present_at, row_draft, set_of_row}
+use Rattle.sn_world.proofs.Removing.{no_row}
 use Rattle.sn_world.proofs.Standing.{its_last}
-use Rattle.sn_world.specs.Settling.{HasNoBase, MeetsOwnLast, OneSet, PulledAt, SettlesGone, SettlesOwn, TakesLast}
+use Rattle.sn_world.specs.Settling.{HasNoBase, MeetsStored, OneSet, PulledAt, SettlesGone, SettlesOwn, TakesLast}
 use Rattle.sn_client.specs.States.{Columns, IsInSlot}
 
 -- under whatever sets of the account strings open, they open to one text
@@ -70,7 +70,7 @@ older_slot : (rows : Rows) (identifier : Bytes) (found : Option KeySet) (set : K
 older_slot rows identifier found set e h = subst (λ (o : Option KeySet). IsInSlot rows identifier Older o) e h
 
 module _ (server device : Rows) (s : Ideal) (name : Bytes) (n number : ℕ) (a : Account) (d : Device) (local : LocalItem) (i : Item)
-    (one_stamp : HasOneStamp) (one_text : OneContent) (x : MeetsOwnLast server device s name n number a d local i) where
+    (one_stamp : HasOneStamp) (one_text : OneContent) (x : MeetsStored server device s name n number a d local i) where
   abbrev g : ℕ
   g = greatest 0 d.held
 
@@ -100,20 +100,14 @@ module _ (server device : Rows) (s : Ideal) (name : Bytes) (n number : ℕ) (a :
         },
       )
 
-  version : (v : Version) × (last_of i.uuid a.versions ≡ Some v) × ShowsStrings a.sets i.uuid row v.body × (row.updated ≡ v.stamp) × (row.kind ≡ v.kind)
+  pub version : (v : Version) × (last_of i.uuid a.versions ≡ Some v) × ShowsStrings a.sets i.uuid row v.body × (row.updated ≡ v.stamp) × (row.kind ≡ v.kind)
   version = its_last server s.accounts n a i.uuid row x.accounts x.at x.stored.1 x.stored.2
 
-  drafted : (draft : Draft) × (draft_at s name i.uuid ≡ Some draft) × (local.kind ≡ draft.kind) × ShowsContent a.sets g i.uuid x.latest draft.latest
+  -- the row's draft in the ideal state, and what is shown of it
+  pub drafted : (draft : Draft) × (draft_at s name i.uuid ≡ Some draft) × ShowsDraft a.sets g local draft × ShowsContent a.sets g i.uuid x.latest draft.latest
   drafted =
-      subst (λ (u : Bytes). (draft : Draft) × (draft_at s name u ≡ Some draft) × (local.kind ≡ draft.kind) × ShowsContent a.sets g u x.latest draft.latest) x.stands.1
-      (of (draft_at s name local.uuid) refl (holder.locals number local x.stands.0).draft)
-    where
-      of : (found : Option Draft) → draft_at s name local.uuid ≡ found → ShowsDrafted a.sets g local found
-          → (draft : Draft) × (draft_at s name local.uuid ≡ Some draft) × (local.kind ≡ draft.kind) × ShowsContent a.sets g local.uuid x.latest draft.latest
-      of None e h = let none : local.latest ≡ None = h.0 in let some : local.latest ≡ Some x.latest = x.latest_is in absurd (cc)
-      of (Some draft) e h =
-          let same : h.latest ≡ x.latest = one_there h.latest x.latest local.latest h.latest_is x.latest_is in
-          (draft, e, h.kind, subst (λ (b : RowBody). ShowsContent a.sets g local.uuid b draft.latest) same h.content)
+      subst (λ (u : Bytes). (draft : Draft) × (draft_at s name u ≡ Some draft) × ShowsDraft a.sets g local draft × ShowsContent a.sets g u x.latest draft.latest)
+      x.stands.1 (row_draft device s name d a holder number local x.stands.0 x.latest x.latest_is)
 
   texts : (sealed other : Sealed) (text told : Bytes) (k : ℕ) → OpensUnder a.sets g i.uuid sealed text → OpensUnder a.sets k i.uuid other told
       → SameStrings x.sets i.uuid sealed i.uuid other → text ≡ told
@@ -125,7 +119,7 @@ module _ (server device : Rows) (s : Ideal) (name : Bytes) (n number : ℕ) (a :
       one_open a.sets i.uuid sealed g our.0 text t one_text x.one_set ours our.1 ∙ one_open a.sets i.uuid other their.0 k t told one_text x.one_set their.1 theirs
 
   -- the draft's content is the version's
-  content_is : (b : RowBody) (c : Content) (given : Sent) → i.body ≡ given → ShowsContent a.sets g i.uuid b c → HasContentOf x.sets local b i given
+  pub content_is : (b : RowBody) (c : Content) (given : Sent) → i.body ≡ given → ShowsContent a.sets g i.uuid b c → HasContentOf x.sets local b i given
       → IsContentOf local.kind c version.0.kind version.0.body
   content_is row_body.Deleted (content.Plain text) given e h k = absurd h
   content_is (row_body.Sealed strings) content.Deleted given e h k = absurd h
@@ -144,8 +138,8 @@ module _ (server device : Rows) (s : Ideal) (name : Bytes) (n number : ℕ) (a :
       subst (λ (z : Body). IsContentOf local.kind (content.Plain text) version.0.kind z) (sym live.2)
       (kind ∙ gives.kind ∙ version.4, texts (sealed_of strings) (record { content = c; enc = enc }) text live.0 live.1 h theirs alike)
 
-  pub legal : IsTrue (allows s (Settle name i.uuid))
-  legal =
+  pub legal : HasContent x.sets local x.latest i → IsTrue (allows s (Settle name i.uuid))
+  legal same =
       allowed_to s (Settle name i.uuid)
       (record {
         account = a;
@@ -153,17 +147,17 @@ module _ (server device : Rows) (s : Ideal) (name : Bytes) (n number : ℕ) (a :
         is = record { has = account_is s name d a x.has; at = drafted.1 };
         version = version.0;
         last = version.1;
-        content = subst (λ (k : Bytes). IsContentOf k drafted.0.latest version.0.kind version.0.body) drafted.2
-            (content_is x.latest drafted.0.latest i.body refl drafted.3 x.same);
+        content = subst (λ (k : Bytes). IsContentOf k drafted.0.latest version.0.kind version.0.body) drafted.2.kind
+            (content_is x.latest drafted.0.latest i.body refl drafted.3 same);
       })
 
-  module _ (change : Change) (p : TakesLast change number i) where
+  module _ (change : Change) (p : TakesLast change number i None) where
     abbrev new : LocalItem
     new = p.puts.local
 
-    based : Based a change number i p version.0
+    based : Based a change number i None p version.0
     unfolding version
-    based = based_on one_stamp server s.accounts n a i x.accounts x.at x.stored change number p
+    based = based_on one_stamp server s.accounts n a i x.accounts x.at x.stored change number None p
 
     -- the row that is put has the version as its base
     puts_settled : PutsSettled change number a local.uuid p.stands_on.stamp
@@ -211,16 +205,17 @@ module _ (server device : Rows) (s : Ideal) (name : Bytes) (n number : ℕ) (a :
 
 pub settles_own : HasOneStamp → OneContent → SettledShows → SettlesOwn
 settles_own one_stamp one_text law server device s name n number a d local i change x p = (
-  legal server device s name n number a d local i one_stamp one_text x,
-  shown server device s name n number a d local i one_stamp one_text x change p law,
-  pulled server device s name n number a d local i one_stamp one_text x change p,
+  legal server device s name n number a d local i one_stamp one_text x.meets x.same,
+  shown server device s name n number a d local i one_stamp one_text x.meets change p law,
+  pulled server device s name n number a d local i one_stamp one_text x.meets change p,
 )
 
 pub settles_gone : HasOneStamp → OneContent → SettlesGone
 settles_gone one_stamp one_text server device s name n number a d local i change x deleted gone = (
-  legal server device s name n number a d local i one_stamp one_text x,
-  subst (λ (u : Bytes). ShowsDevice (rows_after device (change ∷ [])) (after s (Settle name u)) name) x.stands.1
-      (removed_shows device s name number local d a change x.shows x.has x.stands.0 gone),
-  gone_pulled server device s name n number a d local i one_stamp one_text x deleted (rows_after device (change ∷ []))
-      (subst (λ (u : Bytes). HasNoBase (rows_after device (change ∷ [])) u) x.stands.1 (no_row device s name number local d a change x.shows x.has x.stands.0 gone)),
+  legal server device s name n number a d local i one_stamp one_text x.meets x.same,
+  subst (λ (u : Bytes). ShowsDevice (rows_after device (change ∷ [])) (after s (Settle name u)) name) x.meets.stands.1
+      (removed_shows device s name number local d a change x.meets.shows x.meets.has x.meets.stands.0 gone),
+  gone_pulled server device s name n number a d local i one_stamp one_text x.meets deleted (rows_after device (change ∷ []))
+      (subst (λ (u : Bytes). HasNoBase (rows_after device (change ∷ [])) u) x.meets.stands.1
+      (no_row device s name number local d a change x.meets.shows x.meets.has x.meets.stands.0 gone)),
 )

@@ -11,26 +11,22 @@ use Rattle.sn_laws.specs.declared.ideal.Ideal.{Ideal}
 use Rattle.sn_rows.specs.declared.change.Change.{Change}
 use Rattle.sn_rows.specs.declared.key.Key.TheVariants as key
 use Rattle.sn_rows.specs.declared.server_rows.AccountRow.{AccountRow}
-use Rattle.sn_rows.specs.declared.server_rows.GenerationRow.{GenerationRow}
 use Rattle.sn_rows.specs.declared.value.Value.{Value}
 use Rattle.sn_rows.specs.declared.value.Value.TheVariants as value
 use Rattle.sn_shows.proofs.Facts.{holder_of}
 use Rattle.sn_shows.specs.Devices.{ShowsHolder}
 use Rattle.sn_shows.specs.Laws.{AccountsApart, HasAccount}
-use Rattle.sn_shows.specs.Servers.{ShowsGeneration, ShowsIdentity, account_at}
+use Rattle.sn_shows.specs.Servers.{ShowsIdentity, account_at}
 use Rattle.sn_shows.specs.Sets.{set_at}
-use Rattle.sn_string.proofs.Facts.{same_params}
 use Rattle.sn_string.specs.declared.params.KeySet.{KeySet}
 use Rattle.sn_sync.specs.declared.answer.Answer.TheVariants as answer
 use Rattle.sn_sync.specs.declared.request.Request.TheVariants as request
 use Rattle.sn_world.proofs.OneSets.{one_number}
+use Rattle.sn_world.proofs.SetsKept.{present_params}
 use Rattle.sn_world.proofs.Tokens.{device_account, one_account, there_is}
 use Rattle.sn_world.specs.Holds.{Holds}
 use Rattle.sn_world.specs.Laws.{SignedInBegins, SignedInRenews}
 use Rattle.sn_world.specs.World.{World}
-
-one_generation : (x y : GenerationRow) (found : Option Value) → found ≡ Some (value.Generation x) → found ≡ Some (value.Generation y) → x ≡ y
-one_generation x y found e k = cc
 
 -- the account that is answered, with its last set
 pub record SignedIn (secret : Bytes) (w : World) (s : Ideal) (identifier pw token uuid : Bytes) : Type 0 where
@@ -87,17 +83,7 @@ pub signed_in_begins : SignedInBegins
 signed_in_begins secret w s identifier now changes token name uuid set h rule told only =
     let x = signed_in secret w s identifier set.pw now changes token name uuid h rule in
     let present : IsPresent w.server x.number set.params = told x.number (x.row, x.there, x.named) in
-    let its : ShowsGeneration w.server x.number x.account (length x.account.sets) x.last =
-    (h.server.all.each x.number x.account x.at).generations (length x.account.sets) x.last x.last_is in
-    let row : present.account ≡ x.row = one_account present.account x.row (w.server (key.Account x.number)) present.there x.there in
-    let number : present.account.generation ≡ length x.account.sets = ap (λ (z : AccountRow). z.generation) row ∙ x.generation in
-    let generation : present.generation ≡ its.row =
-    one_generation present.generation its.row (w.server (key.Generation x.number (length x.account.sets)))
-    (ap (λ (g : ℕ). w.server (key.Generation x.number g)) (sym number) ∙ present.stands) its.stands in
-    let params : x.last.params ≡ set.params =
-    same_params x.last.params set.params (its.identifier ∙ x.identifier_is ∙ sym (present.identifier ∙ ap (λ (z : AccountRow). z.identifier) row ∙ x.named))
-    (sym its.cost ∙ ap (λ (g : GenerationRow). g.pw_cost) (sym generation) ∙ sym present.cost)
-    (sym its.nonce ∙ ap (λ (g : GenerationRow). g.pw_nonce) (sym generation) ∙ sym present.nonce) in
+    let params : x.last.params ≡ set.params = sym (present_params w.server s.accounts x.number x.account set.params x.last h.server.all x.at present x.last_is) in
     let same : x.last ≡ set = only x.number x.account x.last x.at x.last_is params x.check in
     record {
       number = x.number;

@@ -31,7 +31,8 @@ use Rattle.sn_shows.proofs.Facts.{holder_of}
 use Rattle.sn_sync.specs.Stamps.{last_stamp}
 use Rattle.sn_account.specs.Sound.{most_accounts, most_generations}
 use Rattle.sn_world.proofs.ShowsLemmas.{account_changed, change_account, each_at, find_changed, last_other, last_own, more}
-use Rattle.sn_world.specs.Holds.{AreFew, NumbersOf, PostedNumber, Reached}
+use Rattle.sn_world.proofs.Lists.{each_both}
+use Rattle.sn_world.specs.Holds.{AreFew, ChangesNoSet, NumbersOf, PostedNumber, Reached}
 use Rattle.sn_world.specs.Live.{IsPosted}
 use Rattle.sn_sync.specs.Laws.{HasOneStamp}
 use Rattle.sn_world.proofs.Alive.{IsAlive}
@@ -44,10 +45,11 @@ legal_more : (s : Ideal) (ms : List Move) (m : Move) → LegalFrom s ms → IsTr
 legal_more s [] m h k = (k, tt)
 legal_more s (x ∷ xs) m h k = (h.0, legal_more (after s x) xs m h.1 k)
 
-pub reached_more : (s : Ideal) (m : Move) → Reached s → IsTrue (allows s m) → Reached (after s m)
-reached_more s m r h = record {
+pub reached_more : (s : Ideal) (m : Move) → ChangesNoSet m → Reached s → IsTrue (allows s m) → Reached (after s m)
+reached_more s m kept r h = record {
   moves = r.moves ++ m ∷ [];
   legal = legal_more empty r.moves m r.legal (subst (λ (t : Ideal). IsTrue (allows t m)) r.is h);
+  no_change = each_both ChangesNoSet r.moves (m ∷ []) r.no_change (kept, tt);
   is = ap (λ (t : Ideal). after t m) r.is ∙ sym (end_from-append empty r.moves (m ∷ []));
 }
 
@@ -198,7 +200,7 @@ module _ (low : Below) (p : Progress) (device : Rows) (s : Ideal) (name : Bytes)
 
   pub serving : (q : Progress) → q.rows ≡ rows_after p.rows (change ∷ []) → q.last ≡ stamp → IsAlive q device next name n (more version a) d
   serving q rows_are last_is = record {
-    reached = reached_more s move v.reached legal;
+    reached = reached_more s move tt v.reached legal;
     accounts = subst (λ (r : Rows). ShowsAccounts r next.accounts) (sym rows_are) shown;
     last = last_is ∙ sym last;
     at = at_number;

@@ -1,11 +1,13 @@
 -- All that an answer tells, one version after another.
-use Rattle.std.proofs.Common.{◌≡◌, ◌≢◌, ◌⊎◌, ℕ, List, [], ◌∷◌, None, Bool, true, false, sym, subst, inl, inr}
+use Rattle.std.proofs.Common.{◌≡◌, ◌≢◌, ◌⊎◌, ℕ, List, [], ◌∷◌, None, Bool, true, false, refl, sym, subst, inl, inr}
 use Rattle.std.specs.List.{Contains}
-use Rattle.sn_account.specs.Tells.{IsSavedOf, IsStored}
-use Rattle.sn_client.specs.Laws.{AreStanding, IsChecked, StayStanding}
+use Rattle.sn_account.specs.Tells.{IsOthers, IsSavedOf, IsStored}
+use Rattle.sn_client.specs.Laws.{AreStanding, IsChecked}
 use Rattle.sn_client.specs.States.{HasItem}
-use Rattle.sn_client.specs.Taking.{Progress, Takes, TakesServer, Told, is_conflict, is_retrieved, is_saved}
+use Rattle.sn_client.specs.Taking.{Meets, Progress, Takes, TakesOwn, TakesServer, Told, is_conflict, is_retrieved, is_saved}
 use Rattle.sn_conflict.specs.Checks.{HasItsStrings}
+use Rattle.sn_conflict.specs.declared.meeting.Meeting.{Meeting}
+use Rattle.sn_conflict.specs.declared.meeting.Meeting.TheVariants as meeting
 use Rattle.sn_laws.specs.Each.{Each}
 use Rattle.sn_laws.specs.Lookups.{Bytes}
 use Rattle.sn_laws.specs.Runs.{end_from}
@@ -17,17 +19,15 @@ use Rattle.sn_rows.specs.Table.{Rows}
 use Rattle.sn_rows.specs.declared.device_rows.LocalItem.{LocalItem}
 use Rattle.sn_rows.specs.declared.device_rows.OwnerRow.{OwnerRow}
 use Rattle.sn_sets.specs.declared.sets.Sets.{Sets}
-use Rattle.sn_shows.specs.Laws.{SettleKeeps}
-use Rattle.sn_sync.specs.Laws.{HasOneStamp}
-use Rattle.sn_sync.specs.Versions.{item_of, uuids}
+use Rattle.sn_sync.specs.Versions.{uuids}
 use Rattle.sn_sync.specs.declared.answer.Conflict.TheVariants as conflict
 use Rattle.sn_sync.specs.declared.item.Item.{Item}
-use Rattle.sn_world.proofs.OneSets.{one_set}
 use Rattle.sn_world.proofs.TakenFrames.{Along, Past, Took, took_both, took_nothing}
+use Rattle.sn_world.proofs.TakenMet.{TakingLaws}
 use Rattle.sn_world.proofs.TakenOne.{takes_server}
-use Rattle.sn_world.specs.Applying.{SaysAllTold, SaysServer, SaysTold}
+use Rattle.sn_world.proofs.TakenRenamed.{takes_foreign}
+use Rattle.sn_world.specs.Applying.{SaysAllTold, SaysForeign, SaysMeets, SaysServer, SaysTold}
 use Rattle.sn_world.specs.Making.{SendsPosted}
-use Rattle.sn_world.specs.Settling.{AppliesLive, SettlesGone, SettlesOwn}
 
 -- ---- what is known of each entry
 
@@ -39,24 +39,36 @@ LinkedAt rows i = (number : ℕ) (local : LocalItem) → HasItem rows i.uuid num
 abbrev pub Good : Rows → ℕ → List Item → Rows → Told → Type 0
 Good server n saved rows (is_saved i) = IsStored server n i × HasItsStrings i × LinkedAt rows i
 Good server n saved rows (is_conflict (conflict.Sync i)) = IsStored server n i × HasItsStrings i
-Good server n saved rows (is_conflict (conflict.Uuid i)) = HasItsStrings i
+Good server n saved rows (is_conflict (conflict.Uuid i)) = IsOthers server n i.uuid × HasItsStrings i
 Good server n saved rows (is_conflict (conflict.Content i)) = HasItsStrings i
 Good server n saved rows (is_retrieved i) = (IsStored server n i ⊎ Contains (uuids saved) i.uuid) × HasItsStrings i
 
-abbrev pub uuid_of : Told → Bytes
-uuid_of (is_saved i) = i.uuid
-uuid_of (is_conflict c) = (item_of c).uuid
-uuid_of (is_retrieved i) = i.uuid
-
--- no saved item behind has the uuid
+-- none of these is a saved item of this uuid
 abbrev pub NotSaved : Bytes → Told → Type 0
 NotSaved uuid (is_saved i) = i.uuid ≢ uuid
 NotSaved uuid (is_conflict c) = Unit {0}
 NotSaved uuid (is_retrieved i) = Unit {0}
 
+-- nor is any behind one that isn't saved
+abbrev pub NoneSaved : Told → Type 0
+NoneSaved (is_saved i) = ⊥
+NoneSaved (is_conflict c) = Unit {0}
+NoneSaved (is_retrieved i) = Unit {0}
+
+abbrev pub Before : Told → Told → Type 0
+Before (is_saved i) t = NotSaved i.uuid t
+Before (is_conflict c) t = NoneSaved t
+Before (is_retrieved i) t = NoneSaved t
+
 abbrev pub ToldApart : List Told → Type 0
 ToldApart [] = Unit {0}
-ToldApart (t ∷ ts) = Each (NotSaved (uuid_of t)) ts × ToldApart ts
+ToldApart (t ∷ ts) = Each (Before t) ts × ToldApart ts
+
+-- what a saved item leaves to those behind it: the rows of other items
+abbrev pub Leaves : Told → Rows → Rows → Type 0
+Leaves (is_saved i) rows later = Past rows later i.uuid
+Leaves (is_conflict c) rows later = Unit {0}
+Leaves (is_retrieved i) rows later = Unit {0}
 
 good_past : (server : Rows) (n : ℕ) (saved : List Item) (rows later : Rows) (uuid : Bytes) (t : Told) → Past rows later uuid → NotSaved uuid t
     → Good server n saved rows t → Good server n saved later t
@@ -66,41 +78,60 @@ good_past server n saved rows later uuid (is_conflict (conflict.Uuid i)) past ap
 good_past server n saved rows later uuid (is_conflict (conflict.Content i)) past apart g = g
 good_past server n saved rows later uuid (is_retrieved i) past apart g = g
 
-all_past : (server : Rows) (n : ℕ) (saved : List Item) (rows later : Rows) (uuid : Bytes) (ts : List Told) → Past rows later uuid → Each (NotSaved uuid) ts
+good_unsaved : (server : Rows) (n : ℕ) (saved : List Item) (rows later : Rows) (t : Told) → NoneSaved t → Good server n saved rows t → Good server n saved later t
+good_unsaved server n saved rows later (is_saved i) none g = absurd none
+good_unsaved server n saved rows later (is_conflict (conflict.Sync i)) none g = g
+good_unsaved server n saved rows later (is_conflict (conflict.Uuid i)) none g = g
+good_unsaved server n saved rows later (is_conflict (conflict.Content i)) none g = g
+good_unsaved server n saved rows later (is_retrieved i) none g = g
+
+good_left : (server : Rows) (n : ℕ) (saved : List Item) (rows later : Rows) (t u : Told) → Leaves t rows later → Before t u → Good server n saved rows u
+    → Good server n saved later u
+good_left server n saved rows later (is_saved i) u past apart g = good_past server n saved rows later i.uuid u past apart g
+good_left server n saved rows later (is_conflict c) u past none g = good_unsaved server n saved rows later u none g
+good_left server n saved rows later (is_retrieved i) u past none g = good_unsaved server n saved rows later u none g
+
+all_left : (server : Rows) (n : ℕ) (saved : List Item) (rows later : Rows) (t : Told) (ts : List Told) → Leaves t rows later → Each (Before t) ts
     → Each (Good server n saved rows) ts → Each (Good server n saved later) ts
-all_past server n saved rows later uuid [] past apart g = tt
-all_past server n saved rows later uuid (t ∷ ts) past apart g =
-    (good_past server n saved rows later uuid t past apart.0 g.0, all_past server n saved rows later uuid ts past apart.1 g.1)
+all_left server n saved rows later t [] left apart g = tt
+all_left server n saved rows later t (u ∷ ts) left apart g =
+    (good_left server n saved rows later t u left apart.0 g.0, all_left server n saved rows later t ts left apart.1 g.1)
 
 checked_of : (server : Rows) (n : ℕ) (saved : List Item) (rows : Rows) (t : Told) → Good server n saved rows t → IsChecked t
 checked_of server n saved rows (is_saved i) g = g.1
 checked_of server n saved rows (is_conflict (conflict.Sync i)) g = g.1
-checked_of server n saved rows (is_conflict (conflict.Uuid i)) g = g
+checked_of server n saved rows (is_conflict (conflict.Uuid i)) g = g.1
 checked_of server n saved rows (is_conflict (conflict.Content i)) g = g
 checked_of server n saved rows (is_retrieved i) g = g.1
 
 -- ---- what is said is what is done
 
+met_of : (name : Bytes) (sets : Sets) (p q : Progress) (number : ℕ) (local : LocalItem) (i : Item) (how : Meeting) (moves : List Move)
+    → SaysMeets name sets p number local i how q moves → Meets sets p number local i how q
+met_of name sets p q number local i meeting.Same moves says = says.0
+met_of name sets p q number local i meeting.Take moves says = says.0
+met_of name sets p q number local i (meeting.Own true) moves says = says.0
+met_of name sets p q number local i (meeting.Own false) moves says = says.0
+met_of name sets p q number local i meeting.GiveWay moves says = says.0
+met_of name sets p q number local i meeting.Fork moves (r, copies, takes, said) = (r, copies, takes)
+
 server_of : (name : Bytes) (sets : Sets) (p q : Progress) (i : Item) (flag : Bool) (moves : List Move) → SaysServer name sets p i flag q moves → TakesServer sets p i flag q
-server_of name sets p q i flag moves (inl (number, local, how, stands, met, does, said)) = inl (number, local, how, stands, met, does)
+server_of name sets p q i flag moves (inl (number, local, how, stands, met, says)) =
+    inl (number, local, how, stands, met, met_of name sets p q number local i how moves says)
 server_of name sets p q i flag moves (inr (free, makes, none)) = inr (free, makes)
+
+foreign_of : (name : Bytes) (sets : Sets) (p q : Progress) (i : Item) (moves : List Move) → SaysForeign name sets p i.uuid q moves
+    → TakesOwn sets p i.uuid (conflict.Uuid i) q
+foreign_of name sets p q i moves (inl (number, local, stands, how, said)) = inl (number, local, stands, how)
+foreign_of name sets p q i moves (inr (free, same, none)) = inr (free, same)
 
 takes_of : (name : Bytes) (sets : Sets) (saved : List Item) (p q : Progress) (t : Told) (moves : List Move) → SaysTold name sets saved p t q moves → Takes sets saved p t q
 takes_of name sets saved p q (is_saved i) moves says = server_of name sets p q i true moves says
 takes_of name sets saved p q (is_conflict (conflict.Sync i)) moves says = server_of name sets p q i false moves says
-takes_of name sets saved p q (is_conflict (conflict.Uuid i)) moves says = absurd says
+takes_of name sets saved p q (is_conflict (conflict.Uuid i)) moves says = foreign_of name sets p q i moves says
 takes_of name sets saved p q (is_conflict (conflict.Content i)) moves says = absurd says
 takes_of name sets saved p q (is_retrieved i) moves (inl (has, same, none)) = inl (has, same)
 takes_of name sets saved p q (is_retrieved i) moves (inr (apart, says)) = inr (apart, server_of name sets p q i false moves says)
-
--- the laws that one version asks for
-pub record TakingLaws : Type 0 where
-  pub one_stamp : HasOneStamp
-  pub own : SettlesOwn
-  pub gone : SettlesGone
-  pub live : AppliesLive
-  pub keeps : SettleKeeps
-  pub standing : StayStanding
 
 module _ (laws : TakingLaws) (server : Rows) (name : Bytes) (n : ℕ) (a : Account) (d : Device) (owner : OwnerRow) (sets : Sets) (no_older : sets.older ≡ None)
     (saved : List Item) where
@@ -110,34 +141,38 @@ module _ (laws : TakingLaws) (server : Rows) (name : Bytes) (n : ℕ) (a : Accou
   abbrev TookHere : Progress → Progress → Ideal → List Move → Type 0
   TookHere p q s moves = Took server name n a d owner sets p q s moves
 
-  version : (p q : Progress) (s : Ideal) (i : Item) (flag : Bool) (moves : List Move) → AlongHere p s → IsStored server n i → (flag ≡ true → LinkedAt p.rows i)
-      → AreStanding q.next q.rows → SaysServer name sets p i flag q moves → TookHere p q s moves × Past p.rows q.rows i.uuid
-  version p q s i flag moves h stored linked standing says =
-      takes_server laws.one_stamp laws.own laws.gone laws.live laws.keeps server name n a d owner sets no_older p s h i stored
-      (one_set s h.reached n a h.at) q flag moves linked standing says
+  abbrev AppliedTo : Told → Progress → Progress → Ideal → List Move → Type 0
+  AppliedTo t p q s moves = TookHere p q s moves × Leaves t p.rows q.rows
 
-  nothing : (p q : Progress) (s : Ideal) (uuid : Bytes) (moves : List Move) → AlongHere p s → q ≡ p → moves ≡ [] → TookHere p q s moves × Past p.rows q.rows uuid
-  nothing p q s uuid moves h same none =
-      subst (λ (ms : List Move). TookHere p q s ms × Past p.rows q.rows uuid) (sym none)
-      (took_nothing server name n a d owner sets p q s h same, subst (λ (r : Progress). Past p.rows r.rows uuid) (sym same) (λ v number local apart there. there))
+  version : (p q : Progress) (s : Ideal) (i : Item) (flag : Bool) (moves : List Move) → AlongHere p s → IsStored server n i → (flag ≡ true → LinkedAt p.rows i)
+      → AreStanding q.next q.rows → SaysServer name sets p i flag q moves → TookHere p q s moves × (flag ≡ true → Past p.rows q.rows i.uuid)
+  version p q s i flag moves h stored linked standing says =
+      takes_server laws server name n a d owner sets no_older p s h i stored q flag moves linked standing says
+
+  nothing : (p q : Progress) (s : Ideal) (moves : List Move) → AlongHere p s → q ≡ p → moves ≡ [] → TookHere p q s moves
+  nothing p q s moves h same none = subst (λ (ms : List Move). TookHere p q s ms) (sym none) (took_nothing server name n a d owner sets p q s h same)
 
   one_told : (t : Told) (p q : Progress) (s : Ideal) (moves : List Move) → AlongHere p s → Good server n saved p.rows t → SaysTold name sets saved p t q moves
-      → AreStanding q.next q.rows → TookHere p q s moves × Past p.rows q.rows (uuid_of t)
-  one_told (is_saved i) p q s moves h good says standing = version p q s i true moves h good.0 (λ e. good.2) standing says
-  one_told (is_conflict (conflict.Sync i)) p q s moves h good says standing = version p q s i false moves h good.0 (λ e. absurd (cc)) standing says
-  one_told (is_conflict (conflict.Uuid i)) p q s moves h good says standing = absurd says
+      → AreStanding q.next q.rows → AppliedTo t p q s moves
+  one_told (is_saved i) p q s moves h good says standing =
+      let both = version p q s i true moves h good.0 (λ e. good.2) standing says in
+      (both.0, both.1 refl)
+  one_told (is_conflict (conflict.Sync i)) p q s moves h good says standing = ((version p q s i false moves h good.0 (λ e. absurd (cc)) standing says).0, tt)
+  one_told (is_conflict (conflict.Uuid i)) p q s moves h good says standing =
+      (takes_foreign laws server name n a d owner sets no_older p q s h i.uuid moves good.0 standing says, tt)
   one_told (is_conflict (conflict.Content i)) p q s moves h good says standing = absurd says
-  one_told (is_retrieved i) p q s moves h good (inl (has, same, none)) standing = nothing p q s i.uuid moves h same none
-  one_told (is_retrieved i) p q s moves h (inl stored, checked) (inr (apart, says)) standing = version p q s i false moves h stored (λ e. absurd (cc)) standing says
+  one_told (is_retrieved i) p q s moves h good (inl (has, same, none)) standing = (nothing p q s moves h same none, tt)
+  one_told (is_retrieved i) p q s moves h (inl stored, checked) (inr (apart, says)) standing =
+      ((version p q s i false moves h stored (λ e. absurd (cc)) standing says).0, tt)
   one_told (is_retrieved i) p q s moves h (inr has, checked) (inr (apart, says)) standing = absurd (apart has)
 
   pub all_told : (ts : List Told) (p q : Progress) (s : Ideal) (moves : List Move) → AlongHere p s → Each (Good server n saved p.rows) ts → ToldApart ts
       → SaysAllTold name sets saved p ts q moves → TookHere p q s moves
-  all_told [] p q s moves h good apart (same, none) = (nothing p q s name moves h same none).0
+  all_told [] p q s moves h good apart (same, none) = nothing p q s moves h same none
   all_told (t ∷ ts) p q s moves h good apart (r, first, later, says, rest, is) =
       let standing : AreStanding r.next r.rows =
       laws.standing sets saved p r t (checked_of server n saved p.rows t good.0) h.standing (takes_of name sets saved p r t first says) in
       let one = one_told t p r s first h good.0 says standing in
       let others : TookHere r q (end_from s first) later =
-      all_told ts r q (end_from s first) later one.0.along (all_past server n saved p.rows r.rows (uuid_of t) ts one.1 apart.0 good.1) apart.1 rest in
+      all_told ts r q (end_from s first) later one.0.along (all_left server n saved p.rows r.rows t ts one.1 apart.0 good.1) apart.1 rest in
       subst (λ (ms : List Move). TookHere p q s ms) (sym is) (took_both server name n a d owner sets p r q s first later one.0 others)

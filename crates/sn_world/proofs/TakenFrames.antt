@@ -1,5 +1,5 @@
--- What one version of an answer makes of a device's rows and of the ideal state, where no draft meets another's version.
-use Rattle.std.proofs.Common.{◌≡◌, ◌≢◌, ℕ, List, [], ◌∷◌, ◌++◌, Option, Some, None, Bool, refl, sym, ap, ◌∙◌, subst, ⊎_elim, append_assoc}
+-- What one version of an answer makes of a device's rows and of the ideal state.
+use Rattle.std.proofs.Common.{◌≡◌, ◌≢◌, ℕ, List, [], ◌∷◌, ◌++◌, Option, Some, None, Bool, true, false, refl, sym, ap, ◌∙◌, subst, ⊎_elim, append_assoc}
 use mathlib.Core.Path.{fun_ext}
 use Rattle.std.proofs.lemmas.List.{append-nil}
 use Rattle.std.specs.Prelude.{IsSome}
@@ -26,20 +26,20 @@ use Rattle.sn_shows.specs.Laws.{HasAccount}
 use Rattle.sn_shows.specs.Servers.{ShowsAccounts, account_at}
 use Rattle.sn_sync.specs.declared.item.Item.{Item}
 use Rattle.sn_world.specs.Holds.{NoneStale, NumbersOf, Reached}
-use Rattle.std.specs.Prelude.{find, if◌then◌else◌}
+use Rattle.std.specs.Prelude.{find}
 use Rattle.sn_client.specs.States.{IsInSlot, IsSoundItem}
 use Rattle.sn_laws.proofs.Facts.{end_from-append}
 use Rattle.sn_laws.specs.Lookups.{is_account, is_device}
 use Rattle.sn_laws.specs.declared.ideal.Draft.{Draft}
-use Rattle.sn_rows.specs.Facts.{apart_keys, put_here, put_or_not, removed_elsewhere, removed_here, row_after-append}
-use Rattle.sn_rows.specs.Table.{Puts, Removes, key_of, same_key, value_of}
+use Rattle.sn_rows.specs.Facts.{keys_compare, put_here, put_or_not, removed_elsewhere, removed_here, row_after-append}
+use Rattle.sn_rows.specs.Table.{Puts, Removes, key_of, same_key}
 use Rattle.sn_rows.specs.declared.body.RowBody.{RowBody}
 use Rattle.sn_rows.specs.declared.key.Slot.{Slot}
 use Rattle.sn_rows.specs.declared.key.Slot.TheVariants.{Asked, Older, Present}
 use Rattle.sn_rows.specs.declared.value.Value.{Value}
 use Rattle.sn_shows.specs.Devices.{ShowsDrafted}
 use Rattle.sn_string.specs.declared.params.KeySet.{KeySet}
-use Rattle.sn_world.proofs.DeviceRows.{one_local}
+use Rattle.sn_world.proofs.DeviceRows.{one_local, past_key}
 use Rattle.sn_world.proofs.DeviceSets.{local_of_kind}
 use Rattle.sn_world.proofs.Frames.{KeepsPosted}
 use Rattle.sn_world.proofs.Items.{legal_both}
@@ -71,10 +71,17 @@ pub record Took (server : Rows) (name : Bytes) (n : ℕ) (a : Account) (d : Devi
   pub rows : q.rows ≡ rows_after p.rows made
   pub live : (j : Item) → LiveItem (server (key.Item j.uuid)) p.rows n j → LiveItem (server (key.Item j.uuid)) q.rows n j
 
--- a change of another row leaves this one
-pub past_key : (rows : Rows) (change : Change) (at k : Key) → key_of change ≡ at → at ≢ k → rows_after rows (change ∷ []) k ≡ rows k
-past_key rows change at k of apart =
-    ap (λ (b : Bool). if b then value_of change else rows k) (ap (λ (z : Key). same_key z k) of ∙ apart_keys at k apart)
+-- changes of two rows may be made in either order
+pub changes_commute : (rows : Rows) (c d : Change) → key_of c ≢ key_of d
+    → rows_after (rows_after rows (c ∷ [])) (d ∷ []) ≡ rows_after (rows_after rows (d ∷ [])) (c ∷ [])
+changes_commute rows c d apart = fun_ext (λ k. by k (same_key (key_of c) k) refl (same_key (key_of d) k) refl)
+  where
+    by : (k : Key) (b : Bool) → same_key (key_of c) k ≡ b → (e : Bool) → same_key (key_of d) k ≡ e
+        → rows_after (rows_after rows (c ∷ [])) (d ∷ []) k ≡ rows_after (rows_after rows (d ∷ [])) (c ∷ []) k
+    by k true x true y = absurd (apart ((keys_compare (key_of c) k).0 x ∙ sym ((keys_compare (key_of d) k).0 y)))
+    by k true x false y = rw (x, y) refl
+    by k false x true y = rw (x, y) refl
+    by k false x false y = rw (x, y) refl
 
 -- a local number below which all items are is free
 pub number_free : (rows : Rows) (number : ℕ) → ((k : Key) → IsOfKind k (rows k)) → ((local : LocalItem) → HasLocal rows number local → ⊥)
@@ -125,33 +132,29 @@ module _ (server : Rows) (name : Bytes) (n : ℕ) (a : Account) (d : Device) (ow
 
   -- ---- one change of an item's row
 
-  away : (p : Progress) (change : Change) (number : ℕ) → key_of change ≡ key.Local number → (k : Key) → key.Local number ≢ k
-      → rows_after p.rows (change ∷ []) k ≡ p.rows k
-  away p change number of k apart = past_key p.rows change (key.Local number) k of apart
-
-  sets_after : (p : Progress) (change : Change) (number : ℕ) → key_of change ≡ key.Local number → HasSets p.rows owner sets
-      → HasSets (rows_after p.rows (change ∷ [])) owner sets
-  sets_after p change number of h = record {
-    owned = away p change number of key.Owner (λ e. cc) ∙ h.owned;
+  pub sets_after : (rows : Rows) (change : Change) (number : ℕ) → key_of change ≡ key.Local number → HasSets rows owner sets
+      → HasSets (rows_after rows (change ∷ [])) owner sets
+  sets_after rows change number of h = record {
+    owned = past_key rows change (key.Local number) key.Owner of (λ e. cc) ∙ h.owned;
     in_use = slot Present (Some sets.present) h.in_use;
     before = slot Older sets.older h.before;
     wanted = slot Asked sets.asked h.wanted;
   }
     where
-      slot : (at : Slot) (found : Option KeySet) → IsInSlot p.rows owner.identifier at found → IsInSlot (rows_after p.rows (change ∷ [])) owner.identifier at found
-      slot at None k = away p change number of (key.Set at) (λ e. cc) ∙ k
-      slot at (Some set) k = (k.0, away p change number of (key.Set at) (λ e. cc) ∙ k.1, k.2)
+      slot : (at : Slot) (found : Option KeySet) → IsInSlot rows owner.identifier at found → IsInSlot (rows_after rows (change ∷ [])) owner.identifier at found
+      slot at None k = past_key rows change (key.Local number) (key.Set at) of (λ e. cc) ∙ k
+      slot at (Some set) k = (k.0, past_key rows change (key.Local number) (key.Set at) of (λ e. cc) ∙ k.1, k.2)
 
-  -- the change, with the moves that it says
-  pub took_one : (p q : Progress) (s : Ideal) (moves : List Move) (change : Change) (number : ℕ) → AlongHere p s → key_of change ≡ key.Local number
-      → q.rows ≡ rows_after p.rows (change ∷ []) → q.changes ≡ p.changes ++ change ∷ [] → AreStanding q.next q.rows
-      → NoneStale (rows_after p.rows (change ∷ [])) → LegalFrom s moves → Reached (end_from s moves) → (end_from s moves).accounts ≡ s.accounts → (end_from s moves).devices ≡ s.devices
-      → ShowsDevice (rows_after p.rows (change ∷ [])) (end_from s moves) name
+  -- the changes, with the moves that they say
+  pub took_changes : (p q : Progress) (s : Ideal) (moves : List Move) (made : List Change) → AlongHere p s
+      → q.rows ≡ rows_after p.rows made → q.changes ≡ p.changes ++ made → AreStanding q.next q.rows → HasSets (rows_after p.rows made) owner sets
+      → NoneStale (rows_after p.rows made) → LegalFrom s moves → Reached (end_from s moves) → (end_from s moves).accounts ≡ s.accounts
+      → (end_from s moves).devices ≡ s.devices → ShowsDevice (rows_after p.rows made) (end_from s moves) name
       → ((at : Rows) (other : Bytes) → other ≢ name → ShowsDevice at s other → ShowsDevice at (end_from s moves) other)
       → ((other : Bytes) → NumbersOf (end_from s moves) other)
-      → ((j : Item) → LiveItem (server (key.Item j.uuid)) p.rows n j → LiveItem (server (key.Item j.uuid)) (rows_after p.rows (change ∷ [])) n j)
+      → ((j : Item) → LiveItem (server (key.Item j.uuid)) p.rows n j → LiveItem (server (key.Item j.uuid)) (rows_after p.rows made) n j)
       → TookHere p q s moves
-  took_one p q s moves change number h of rows changes standing fresh legal reached accounts devices shows others numbers live = record {
+  took_changes p q s moves made h rows changes standing holds fresh legal reached accounts devices shows others numbers live = record {
     legal = legal;
     along = record {
       reached = reached;
@@ -162,20 +165,32 @@ module _ (server : Rows) (name : Bytes) (n : ℕ) (a : Account) (d : Device) (ow
         account = ap (find (is_account d.account)) accounts ∙ h.has.account;
       };
       shows = subst (λ (r : Rows). ShowsDevice r (end_from s moves) name) (sym rows) shows;
-      holds = subst (λ (r : Rows). HasSets r owner sets) (sym rows) (sets_after p change number of h.holds);
+      holds = subst (λ (r : Rows). HasSets r owner sets) (sym rows) holds;
       standing = standing;
       unstale = subst (λ (r : Rows). NoneStale r) (sym rows) fresh;
-      kinds = λ k. subst (λ (r : Rows). IsOfKind k (r k)) (sym rows) (kind_after (p.rows k) k (change ∷ []) (h.kinds k));
+      kinds = λ k. subst (λ (r : Rows). IsOfKind k (r k)) (sym rows) (kind_after (p.rows k) k made (h.kinds k));
       numbers = numbers;
     };
     accounts = accounts;
     devices = devices;
     others = others;
-    made = change ∷ [];
+    made = made;
     changes = changes;
     rows = rows;
     live = λ j k. subst (λ (r : Rows). LiveItem (server (key.Item j.uuid)) r n j) (sym rows) (live j k);
   }
+
+  -- the change
+  pub took_one : (p q : Progress) (s : Ideal) (moves : List Move) (change : Change) (number : ℕ) → AlongHere p s → key_of change ≡ key.Local number
+      → q.rows ≡ rows_after p.rows (change ∷ []) → q.changes ≡ p.changes ++ change ∷ [] → AreStanding q.next q.rows
+      → NoneStale (rows_after p.rows (change ∷ [])) → LegalFrom s moves → Reached (end_from s moves) → (end_from s moves).accounts ≡ s.accounts
+      → (end_from s moves).devices ≡ s.devices → ShowsDevice (rows_after p.rows (change ∷ [])) (end_from s moves) name
+      → ((at : Rows) (other : Bytes) → other ≢ name → ShowsDevice at s other → ShowsDevice at (end_from s moves) other)
+      → ((other : Bytes) → NumbersOf (end_from s moves) other)
+      → ((j : Item) → LiveItem (server (key.Item j.uuid)) p.rows n j → LiveItem (server (key.Item j.uuid)) (rows_after p.rows (change ∷ [])) n j)
+      → TookHere p q s moves
+  took_one p q s moves change number h of rows changes standing fresh legal reached accounts devices shows others numbers live =
+      took_changes p q s moves (change ∷ []) h rows changes standing (sets_after p.rows change number of h.holds) fresh legal reached accounts devices shows others numbers live
 
   -- where the drafts are as they were
   pub took_clean : (p q : Progress) (s : Ideal) (change : Change) (number : ℕ) → AlongHere p s → key_of change ≡ key.Local number

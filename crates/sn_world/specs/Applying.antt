@@ -1,11 +1,12 @@
--- An answer to a sync is applied, where no draft meets another's version; and the moves that this says.
-use Rattle.std.specs.Prelude.{◌≡◌, ◌⊎◌, ℕ, Bool, true, false, List, [], ◌∷◌, ◌++◌, Option, Some, None}
+-- An answer to a sync is applied; and the moves that this says.
+use Rattle.std.specs.Prelude.{◌≡◌, ◌⊎◌, ℕ, Bool, true, false, List, [], ◌∷◌, ◌++◌, length, Option, Some, None}
+use Rattle.std.proofs.Common.{inl, inr}
 use Rattle.std.specs.List.{Contains}
 use Rattle.rand_chacha.specs.ChaCha.{ChaCha}
 use Rattle.sn_account.specs.Tells.{TellsRows}
 use Rattle.sn_client.specs.States.{HasItem, HasSets, IsFree, owner_columns}
 use Rattle.sn_client.specs.Steps.{PutsOwner, start, with_tokens}
-use Rattle.sn_client.specs.Taking.{MakesRow, Meets, Progress, Told, is_conflict, is_retrieved, is_saved, told_by}
+use Rattle.sn_client.specs.Taking.{Copies, MakesRow, Meets, Progress, Renames, TakesVersion, Told, is_conflict, is_retrieved, is_saved, told_by}
 use Rattle.sn_conflict.specs.Meetings.{MeetsAs}
 use Rattle.sn_conflict.specs.declared.meeting.Meeting.{Meeting}
 use Rattle.sn_conflict.specs.declared.meeting.Meeting.TheVariants as meeting
@@ -15,15 +16,19 @@ use Rattle.sn_laws.specs.declared.ideal.Account.{Account}
 use Rattle.sn_laws.specs.declared.ideal.Device.{Device}
 use Rattle.sn_laws.specs.declared.ideal.Ideal.{Ideal}
 use Rattle.sn_laws.specs.declared.moves.Move.{Move}
-use Rattle.sn_laws.specs.declared.moves.Move.TheVariants.{Settle}
+use Rattle.sn_laws.specs.declared.moves.Move.TheVariants.{Drop, Fork, GiveWay, Rename, Settle, SettlePosted}
 use Rattle.sn_rows.specs.Table.{Rows}
+use Rattle.sn_rows.specs.declared.body.RowBody.{RowBody}
+use Rattle.sn_rows.specs.declared.body.RowBody.TheVariants as row
 use Rattle.sn_rows.specs.declared.change.Change.{Change}
 use Rattle.sn_rows.specs.declared.device_rows.LocalItem.{LocalItem}
 use Rattle.sn_rows.specs.declared.device_rows.OwnerRow.{OwnerRow}
 use Rattle.sn_sets.specs.declared.sets.Sets.{Sets}
 use Rattle.sn_shows.specs.Servers.{account_at}
+use Rattle.sn_shows.specs.Sets.{set_at}
+use Rattle.sn_string.specs.declared.params.KeySet.{KeySet}
 use Rattle.sn_string.specs.declared.params.Params.{Params}
-use Rattle.sn_sync.specs.Versions.{uuids}
+use Rattle.sn_sync.specs.Versions.{NamesStamp, uuids}
 use Rattle.sn_sync.specs.declared.answer.Answer.{Answer}
 use Rattle.sn_sync.specs.declared.answer.Answer.TheVariants as answer
 use Rattle.sn_sync.specs.declared.answer.Conflict.{Conflict}
@@ -35,27 +40,49 @@ use Rattle.sn_world.specs.Making.{IsPostedOf}
 
 -- ---- one version
 
--- a row without a draft takes it without a move; a draft that it has the content of is settled. What becomes of any other draft is no move yet
-abbrev pub SaysMeeting : Bytes → Bytes → Meeting → List Move → Type 0
-SaysMeeting name uuid meeting.Same moves = moves ≡ []
-SaysMeeting name uuid meeting.Take moves = moves ≡ []
-SaysMeeting name uuid (meeting.Own true) moves = moves ≡ Settle name uuid ∷ []
-SaysMeeting name uuid (meeting.Own false) moves = ⊥
-SaysMeeting name uuid meeting.GiveWay moves = ⊥
-SaysMeeting name uuid meeting.Fork moves = ⊥
+-- what is done where it meets a row, and the moves that this says: a row without a draft takes it without a move; a draft that it has the content of is
+-- settled, and so is what was sent of a draft; a deletion gives way; any other draft that can be read forks, under the uuid that its copy gets
+abbrev pub SaysMeets : Bytes → Sets → Progress → ℕ → LocalItem → Item → Meeting → Progress → List Move → Type 0
+SaysMeets name sets p number local i meeting.Same q moves = Meets sets p number local i meeting.Same q × (moves ≡ [])
+SaysMeets name sets p number local i meeting.Take q moves = Meets sets p number local i meeting.Take q × (moves ≡ [])
+SaysMeets name sets p number local i (meeting.Own true) q moves = Meets sets p number local i (meeting.Own true) q × (moves ≡ Settle name i.uuid ∷ [])
+SaysMeets name sets p number local i (meeting.Own false) q moves =
+    Meets sets p number local i (meeting.Own false) q × ((stamp : ℕ) × NamesStamp i stamp × (moves ≡ SettlePosted name i.uuid stamp ∷ []))
+SaysMeets name sets p number local i meeting.GiveWay q moves = Meets sets p number local i meeting.GiveWay q × (moves ≡ GiveWay name i.uuid ∷ [])
+SaysMeets name sets p number local i meeting.Fork q moves =
+    (r : Progress) × (copies : Copies sets p local r) × TakesVersion sets r number i None None q × (moves ≡ Fork name i.uuid copies.uuid ∷ [])
 
 -- it meets the row of its item, or makes one
 abbrev pub SaysServer : Bytes → Sets → Progress → Item → Bool → Progress → List Move → Type 0
 SaysServer name sets p i saved q moves =
     ((number : ℕ) × (local : LocalItem) × (how : Meeting) × HasItem p.rows i.uuid number local × MeetsAs sets local i saved how
-    × Meets sets p number local i how q × SaysMeeting name i.uuid how moves)
+    × SaysMeets name sets p number local i how q moves)
     ⊎ (IsFree p.rows i.uuid × MakesRow sets p i i.body q × (moves ≡ []))
 
--- of all that an answer tells; a retrieved version that the answer saves too is passed over
+-- ---- another account has the uuid
+
+-- what this says: a deletion is dropped, a draft that can be read goes on under the uuid that is drawn, and any other stays
+abbrev pub renaming : Bytes → (sets : Sets) (p : Progress) (number : ℕ) (local : LocalItem) (latest : Option RowBody) (q : Progress)
+    → Renames sets p number local latest q → List Move
+renaming name sets p number local None q same = []
+renaming name sets p number local (Some row.Deleted) q gone = Drop name local.uuid ∷ []
+renaming name sets p number local (Some (row.Sealed strings)) q (inl closed) = []
+renaming name sets p number local (Some (row.Sealed strings)) q (inr anew) = Rename name local.uuid anew.1 ∷ []
+
+abbrev pub SaysForeign : Bytes → Sets → Progress → Bytes → Progress → List Move → Type 0
+SaysForeign name sets p uuid q moves =
+    ((number : ℕ) × (local : LocalItem) × HasItem p.rows uuid number local × (how : Renames sets p number local local.latest q)
+    × (moves ≡ renaming name sets p number local local.latest q how))
+    ⊎ (IsFree p.rows uuid × (q ≡ p) × (moves ≡ []))
+
+-- ---- all of them
+
+-- of all that an answer tells; a retrieved version that the answer saves too is passed over. That what was sent isn't of the account's present set is no
+-- move: the server that is told answers so of nothing that a device sends
 abbrev pub SaysTold : Bytes → Sets → List Item → Progress → Told → Progress → List Move → Type 0
 SaysTold name sets saved p (is_saved i) q moves = SaysServer name sets p i true q moves
 SaysTold name sets saved p (is_conflict (conflict.Sync server)) q moves = SaysServer name sets p server false q moves
-SaysTold name sets saved p (is_conflict (conflict.Uuid unsaved)) q moves = ⊥
+SaysTold name sets saved p (is_conflict (conflict.Uuid unsaved)) q moves = SaysForeign name sets p unsaved.uuid q moves
 SaysTold name sets saved p (is_conflict (conflict.Content unsaved)) q moves = ⊥
 SaysTold name sets saved p (is_retrieved i) q moves =
     (Contains (uuids saved) i.uuid × (q ≡ p) × (moves ≡ [])) ⊎ (¬ (Contains (uuids saved) i.uuid) × SaysServer name sets p i false q moves)
@@ -103,7 +130,9 @@ pub record Tells (server rows : Rows) (s : Ideal) (name : Bytes) (sent : List It
   pub named : device_named s name ≡ Some device
   pub own : account.identifier ≡ device.account
   pub posted : Each (IsPostedOf rows) sent
+  -- the parameters of the account's last set
   pub present : Params
+  pub params_are : (set : KeySet) → set_at (length account.sets) account.sets ≡ Some set → present ≡ set.params
   pub above : ℕ
   pub first : Bool
   pub tells : TellsRows server number present sent above first conflicts cursor retrieved saved token

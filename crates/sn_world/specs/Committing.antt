@@ -1,5 +1,5 @@
 -- A commit of a device, when it may be made, and the moves that it says.
-use Rattle.std.specs.Prelude.{◌≡◌, ◌≢◌, ℕ, List, [], ◌∷◌, length, Some, None}
+use Rattle.std.specs.Prelude.{◌≡◌, ◌≢◌, ◌⊎◌, ℕ, List, [], ◌∷◌, length, Some, None}
 use Rattle.std.specs.List.{AllZip}
 use Rattle.rand_chacha.specs.ChaCha.{ChaCha}
 use Rattle.sn_account.specs.Sessions.{account_uuid, session_token}
@@ -11,7 +11,7 @@ use Rattle.sn_laws.specs.declared.ideal.Content.TheVariants as content
 use Rattle.sn_laws.specs.declared.ideal.Device.{Device}
 use Rattle.sn_laws.specs.declared.ideal.Ideal.{Ideal}
 use Rattle.sn_laws.specs.declared.moves.Move.{Move}
-use Rattle.sn_laws.specs.declared.moves.Move.TheVariants.{Edit, Join, Post}
+use Rattle.sn_laws.specs.declared.moves.Move.TheVariants.{Drop, Edit, Join, Post}
 use Rattle.sn_rows.specs.Table.{Rows}
 use Rattle.sn_rows.specs.declared.change.Change.{Change}
 use Rattle.sn_rows.specs.declared.device_rows.LocalItem.{LocalItem}
@@ -51,28 +51,23 @@ pub record MayRenew (secret : Bytes) (s : Ideal) (name token : Bytes) : Type 0 w
   pub own : account.identifier ≡ device.account
   pub token_is : token ≡ session_token secret number (greatest 0 device.held)
 
--- some server may know of the item: one of which none knows goes without a trace, which is no move
-abbrev pub MayDelete : Rows → Bytes → Type 0
-MayDelete rows uuid = (number : ℕ) (local : LocalItem) → HasItem rows uuid number local → ¬ (IsUnknown local)
-
 -- none stands twice
 abbrev pub AreDifferent : List ℕ → Type 0
 AreDifferent [] = Unit {0}
 AreDifferent (number ∷ numbers) = Each (λ other. number ≢ other) numbers × AreDifferent numbers
 
--- by what is done; an answer is to tell the rows as they are, and to have moves
-abbrev pub MayCommit : Bytes → Rows → Rows → Ideal → Bytes → What → List Change → Type 0
-MayCommit secret server rows s name (begins set uuid token) changes = MayBegin secret s set uuid token
-MayCommit secret server rows s name (renews token) changes = MayRenew secret s name token
-MayCommit secret server rows s name (puts uuid kind text) changes = Unit {0}
-MayCommit secret server rows s name (edits uuid text) changes = Unit {0}
-MayCommit secret server rows s name (deletes uuid) changes = MayDelete rows uuid
-MayCommit secret server rows s name (posts numbers) changes = AreDifferent numbers
-MayCommit secret server rows s name (applies request given) changes =
-    MayApply server rows s name request given × ((moves : List Move) × SaysAnswer rows name given changes moves)
-MayCommit secret server rows s name (asks set) changes = ⊥
-MayCommit secret server rows s name (adopts set token) changes = ⊥
-MayCommit secret server rows s name forgets changes = ⊥
+-- by what is done; an answer is to tell the server's rows as they are
+abbrev pub MayCommit : Bytes → Rows → Rows → Ideal → Bytes → What → Type 0
+MayCommit secret server rows s name (begins set uuid token) = MayBegin secret s set uuid token
+MayCommit secret server rows s name (renews token) = MayRenew secret s name token
+MayCommit secret server rows s name (puts uuid kind text) = Unit {0}
+MayCommit secret server rows s name (edits uuid text) = Unit {0}
+MayCommit secret server rows s name (deletes uuid) = Unit {0}
+MayCommit secret server rows s name (posts numbers) = AreDifferent numbers
+MayCommit secret server rows s name (applies request given) = MayApply server rows s name request given
+MayCommit secret server rows s name (asks set) = ⊥
+MayCommit secret server rows s name (adopts set token) = ⊥
+MayCommit secret server rows s name forgets = ⊥
 
 -- ---- the moves of a commit, by what is done and the rows before it
 
@@ -85,6 +80,12 @@ abbrev pub SaysEdit : Rows → Bytes → Bytes → Content → List Move → Typ
 SaysEdit rows name uuid latest moves = (number : ℕ) × (local : LocalItem) × HasItem rows uuid number local
     × (moves ≡ Edit name uuid local.kind local.base latest ∷ [])
 
+-- so has it a deletion; but an item of which no server knows is dropped
+abbrev pub SaysDeletion : Rows → Bytes → Bytes → List Move → Type 0
+SaysDeletion rows name uuid moves = (number : ℕ) × (local : LocalItem) × HasItem rows uuid number local
+    × ((IsUnknown local × (moves ≡ Drop name local.uuid ∷ []))
+    ⊎ (¬ (IsUnknown local) × (moves ≡ Edit name uuid local.kind local.base content.Deleted ∷ [])))
+
 -- the draft of this local number is posted
 abbrev pub IsPostOf : Rows → Bytes → ℕ → Move → Type 0
 IsPostOf rows name number move = (local : LocalItem) × HasLocal rows number local × (move ≡ Post name local.uuid)
@@ -95,7 +96,7 @@ SaysCommit rows s name (begins set uuid token) changes moves = SaysJoin s name s
 SaysCommit rows s name (renews token) changes moves = moves ≡ []
 SaysCommit rows s name (puts uuid kind text) changes moves = moves ≡ Edit name uuid kind None (content.Plain text) ∷ []
 SaysCommit rows s name (edits uuid text) changes moves = SaysEdit rows name uuid (content.Plain text) moves
-SaysCommit rows s name (deletes uuid) changes moves = SaysEdit rows name uuid content.Deleted moves
+SaysCommit rows s name (deletes uuid) changes moves = SaysDeletion rows name uuid moves
 SaysCommit rows s name (posts numbers) changes moves = AllZip (IsPostOf rows name) numbers moves
 SaysCommit rows s name (applies request given) changes moves = SaysAnswer rows name given changes moves
 SaysCommit rows s name (asks set) changes moves = ⊥

@@ -29,7 +29,7 @@ abbrev pub Does : Bytes → World → Ideal → Happens → World → Type 0
 Does secret w s (starts changes true) next = Starts w next secret changes
 Does secret w s (makes m) next = Makes w next m
 Does secret w s (serves m now changes given true) next = Serves w next m now changes given
-Does secret w s (commits name what changes true) next = Commits w next name what changes × MayCommit secret w.server (w.devices name) s name what changes
+Does secret w s (commits name what changes true) next = Commits w next name what changes × MayCommit secret w.server (w.devices name) s name what
 Does secret w s (starts changes false) next = next ≡ w
 Does secret w s (serves m now changes given false) next = next ≡ w
 Does secret w s (commits name what changes false) next = next ≡ w

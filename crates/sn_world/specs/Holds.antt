@@ -13,6 +13,7 @@ use Rattle.sn_laws.specs.declared.ideal.Draft.{Draft}
 use Rattle.sn_laws.specs.declared.ideal.Ideal.{Ideal}
 use Rattle.sn_laws.specs.declared.ideal.Posted.{Posted}
 use Rattle.sn_laws.specs.declared.moves.Move.{Move}
+use Rattle.sn_laws.specs.declared.moves.Move.TheVariants.{Change}
 use Rattle.sn_rows.specs.Table.{Rows}
 use Rattle.sn_rows.specs.declared.device_rows.LocalItem.{LocalItem}
 use Rattle.sn_rows.specs.declared.device_rows.OwnerRow.{OwnerRow}
@@ -39,10 +40,16 @@ TokensDiffer secret = (n g h : ℕ) → n ≤ most_accounts → g ≤ most_gener
 
 -- ---- the ideal state
 
+-- no account gets another set: no password is changed yet
+abbrev pub ChangesNoSet : Move → Type 0
+ChangesNoSet (Change identifier number set) = ⊥
+ChangesNoSet m = Unit {0}
+
 -- it comes of legal moves: so each law of lists of moves is a law of the state
 pub record Reached (s : Ideal) : Type 0 where
   pub moves : List Move
   pub legal : Legal moves
+  pub no_change : Each ChangesNoSet moves
   pub is : s ≡ end moves
 
 -- no more accounts, and no more sets of one, than a server has

@@ -1,5 +1,5 @@
 -- What each step keeps.
-use Rattle.std.specs.Prelude.{◌≡◌, ℕ, List, [], ◌∷◌, length, true, Option, Some}
+use Rattle.std.specs.Prelude.{◌≡◌, ℕ, List, [], ◌∷◌, length, true, Option, Some, None}
 use Rattle.sn_account.specs.Tells.{AreApart, IsSavedOf, uuids}
 use Rattle.sn_laws.specs.Each.{Each}
 use Rattle.sn_account.specs.Lookups.{IsNamed}
@@ -109,7 +109,7 @@ SendsArePosted = (rows : Rows) (numbers : List ℕ) (posted : List Change) (r : 
 -- a commit, of any of these kinds
 abbrev pub KeepsCommitting : Type 0
 KeepsCommitting = (secret : Bytes) (w next : World) (s : Ideal) (name : Bytes) (what : What) (changes : List Change) (moves : List Move)
-    → TokensDiffer secret → Holds secret w s → Commits w next name what changes → MayCommit secret w.server (w.devices name) s name what changes
+    → TokensDiffer secret → Holds secret w s → Commits w next name what changes → MayCommit secret w.server (w.devices name) s name what
     → SaysCommit (w.devices name) s name what changes moves → KeptBy secret next s moves
 
 -- ---- all of it
@@ -141,7 +141,7 @@ pub record Settles (w next : World) (s : Ideal) (name : Bytes) (change : Change)
   pub sent : Item
   pub sends : SendsPosted local sent
   pub saved : IsSavedOf sent i
-  pub takes : TakesLast change number i
+  pub takes : TakesLast change number i None
   pub sound : IsSound (rows_after (w.devices name) (change ∷ []))
   pub on : OnDevice w next name (change ∷ [])
 

@@ -10,7 +10,6 @@ use Rattle.sn_rows.specs.Table.{rows_after}
 use Rattle.sn_rows.specs.declared.change.Change.{Change}
 use Rattle.sn_sync.specs.Fits.{FitsRequest}
 use Rattle.sn_sync.specs.declared.request.Request.{Request}
-use Rattle.sn_world.specs.Applying.{SaysAnswer}
 use Rattle.sn_world.specs.Happens.{Happens, Trace, commits, makes, serves}
 use Rattle.sn_world.specs.Holds.{Holds, TokensDiffer}
 use Rattle.sn_world.specs.World.{Made, World}
@@ -39,10 +38,9 @@ pub record GoesRound (secret : Bytes) (w : World) (s : Ideal) (name : Bytes) (ro
   pub server : next.server ≡ rows_after w.server changes
   pub device : next.devices name ≡ after.rows
 
--- a round whose request is within its bounds, and the server answers it by its rule, and in whose answer no draft meets another's version
+-- a round whose request is within its bounds, and that the server answers by its rule
 abbrev pub RoundsGo : Type 0
 RoundsGo = (secret : Bytes) (w : World) (s : Ideal) (name : Bytes) (at : Standing) (round : Round) (after : Standing) (now : ℕ) (changes : List Change)
     → TokensDiffer secret → Holds secret w s → FitsRequest round.request → w.devices name ≡ at.rows
     → IsRound at round after → Rule w.server round.request now changes round.given
-    → ((moves : List Move) × SaysAnswer (rows_after at.rows round.posted) name round.given round.applied moves)
     → GoesRound secret w s name round after now changes

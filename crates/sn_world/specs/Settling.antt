@@ -1,5 +1,5 @@
 -- A version of the server's that has a draft's content: the draft ends.
-use Rattle.std.specs.Prelude.{◌≡◌, ℕ, ◌≤◌, List, [], ◌∷◌, Some, None, IsTrue}
+use Rattle.std.specs.Prelude.{◌≡◌, ℕ, ◌≤◌, List, [], ◌∷◌, Option, Some, None, IsTrue}
 use Rattle.rand_chacha.specs.ChaCha.{ChaCha}
 use Rattle.sn_account.specs.Tells.{IsSavedOf, IsStored}
 use Rattle.sn_conflict.specs.Meetings.{HasContent}
@@ -36,8 +36,8 @@ use Rattle.sn_client.specs.Taking.{StandsOn}
 abbrev pub OneSet : List KeySet → Type 0
 OneSet sets = (sealed : Sealed) (uuid : Bytes) (k m : ℕ) (a b : Bytes) → OpensUnder sets k uuid sealed a → OpensUnder sets m uuid sealed b → k ≡ m
 
--- the item of account n as the server has it now, the device's row of it, and the row's draft, which has its content
-pub record MeetsOwnLast (server device : Rows) (s : Ideal) (name : Bytes) (n number : ℕ) (a : Account) (d : Device) (local : LocalItem) (i : Item) : Type 0 where
+-- the item of account n as the server has it now, the device's row of it, and the row's draft
+pub record MeetsStored (server device : Rows) (s : Ideal) (name : Bytes) (n number : ℕ) (a : Account) (d : Device) (local : LocalItem) (i : Item) : Type 0 where
   pub one_set : OneSet a.sets
   pub accounts : ShowsAccounts server s.accounts
   pub at : account_at n s.accounts ≡ Some a
@@ -49,11 +49,15 @@ pub record MeetsOwnLast (server device : Rows) (s : Ideal) (name : Bytes) (n num
   pub stands : HasItem device i.uuid number local
   pub latest : RowBody
   pub latest_is : local.latest ≡ Some latest
-  pub same : HasContent sets local latest i
   pub stored : IsStored server n i
 
--- the change puts the row with the item's strings, as it gives them, and without a draft
-pub record TakesLast (change : Change) (number : ℕ) (i : Item) : Type 0 where
+-- and the draft has its content
+pub record MeetsOwnLast (server device : Rows) (s : Ideal) (name : Bytes) (n number : ℕ) (a : Account) (d : Device) (local : LocalItem) (i : Item) : Type 0 where
+  pub meets : MeetsStored server device s name n number a d local i
+  pub same : HasContent meets.sets local meets.latest i
+
+-- the change puts the row with the item's strings, as it gives them, with this draft or without one, and with nothing sent of it
+pub record TakesLast (change : Change) (number : ℕ) (i : Item) (latest : Option RowBody) : Type 0 where
   pub content : Bytes
   pub enc : Bytes
   pub body_is : i.body ≡ body.Strings content enc
@@ -62,7 +66,7 @@ pub record TakesLast (change : Change) (number : ℕ) (i : Item) : Type 0 where
   pub sets : Sets
   pub no_older : sets.older ≡ None
   pub columns_then : Columns
-  pub stands_on : StandsOn sets words i content enc None None columns_then left
+  pub stands_on : StandsOn sets words i content enc latest None columns_then left
   pub puts : PutsColumns change number columns_then
 
 -- ---- up to a stamp the rows are the account's last versions
@@ -85,7 +89,7 @@ pub record PulledAt (rows : Rows) (a : Account) (upto : ℕ) (uuid : Bytes) : Ty
 -- the draft may be settled, the rows then show the state after it, and the item's row is the last version, up to any stamp
 abbrev pub SettlesOwn : Type 0
 SettlesOwn = (server device : Rows) (s : Ideal) (name : Bytes) (n number : ℕ) (a : Account) (d : Device) (local : LocalItem) (i : Item) (change : Change)
-    → MeetsOwnLast server device s name n number a d local i → TakesLast change number i
+    → MeetsOwnLast server device s name n number a d local i → TakesLast change number i None
     → IsTrue (allows s (Settle name i.uuid)) × ShowsDevice (rows_after device (change ∷ [])) (after s (Settle name i.uuid)) name
     × ((upto : ℕ) → PulledAt (rows_after device (change ∷ [])) a upto i.uuid)
 

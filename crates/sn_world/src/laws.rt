@@ -5,13 +5,15 @@ ghost use Rattle.sn_world.specs.Laws.{HoldsFirst, Keeps, KeepsCommitting, KeepsM
 ghost use Rattle.sn_world.specs.Making.{MakesLive};
 ghost use Rattle.sn_world.specs.Rounds.{RoundsGo};
 
-use crate::settling_laws::{applies_live, settles_gone, settles_own};
+use crate::settling_laws::applies_live;
 use sn_account::answer_laws::syncs_tell;
 use sn_account::rule_laws::stays_sound;
 use sn_client::{fresh_is_sound, stay_standing, steps_stay_sound};
+use sn_items::one_content;
+use sn_laws::state_laws::deletions_stay;
 use sn_shows::device_laws::{
     edit_keeps, edited_shows, join_keeps, joined_shows, post_keeps, posted_shows, settle_keeps,
-    tokens_show,
+    settled_shows, tokens_show,
 };
 use sn_shows::server_laws::{
     accept_keeps, accepted_last, accepted_shows, accounts_apart, register_keeps, registered_shows,
@@ -96,8 +98,7 @@ pub fn served_tells()
 }
 
 /// A device commits its first rows, a renewed session token, a new item, an edit, a deletion, drafts that
-/// it posts, or an answer where no draft meets another's version: the moves are legal, and the invariant
-/// holds after them.
+/// it posts, or the answer to a sync: the moves are legal, and the invariant holds after them.
 pub fn keeps_committing()
     ensures { KeepsCommitting }
 {
@@ -112,10 +113,11 @@ pub fn keeps_committing()
     steps_stay_sound();
     stay_standing();
     one_stamp();
-    settles_own();
-    settles_gone();
+    one_content();
+    deletions_stay();
     applies_live();
     settle_keeps();
+    settled_shows();
 }
 
 /// Each step of the world keeps the invariant, and its moves are legal.
@@ -144,11 +146,11 @@ pub fn trace_keeps()
     keeps();
 }
 
-/// A round of a device's sync, over a server that answers by its rule, is such steps, where in its answer
-/// no draft meets another's version.
+/// A round of a device's sync, over a server that answers by its rule, is such steps.
 pub fn rounds_go()
     ensures { RoundsGo }
 {
+    accounts_apart();
     keeps_committing();
     keeps_making();
     keeps_serving();

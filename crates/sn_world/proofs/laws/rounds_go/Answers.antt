@@ -3,6 +3,7 @@ use Rattle.sn_world.proofs.laws.rounds_go.Goals as goal
 
 pub returns : goal.returns
 returns c = rounds_go (record {
+  apart = c.accounts_apart.ensures;
   commit = c.keeps_committing.ensures;
   make = c.keeps_making.ensures;
   serve = c.keeps_serving.ensures;

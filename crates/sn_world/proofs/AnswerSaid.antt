@@ -1,0 +1,222 @@
+-- An answer that a device applies says its moves.
+use Rattle.std.proofs.Common.{◌≡◌, ◌⊎◌, ◌<◌, ◌≤◌, ℕ, List, [], ◌∷◌, ◌++◌, length, map, Option, Some, None, Bool, true, false, refl, sym, ap, ◌∙◌, subst, inl, inr, arith}
+use Rattle.std.specs.List.{Contains}
+use Rattle.rand_chacha.specs.ChaCha.{ChaCha}
+use Rattle.sn_account.specs.Incoming.{IsOwnBody}
+use Rattle.sn_account.specs.Tells.{IsStored}
+use Rattle.sn_client.specs.States.{IsInSlot}
+use Rattle.sn_client.specs.Steps.{Applies, AppliesTo, Retires, start}
+use Rattle.sn_client.specs.Taking.{Meets, Progress, Takes, TakesAll, TakesOwn, TakesServer, Told, is_conflict, is_retrieved, is_saved, told_by}
+use Rattle.sn_conflict.specs.declared.meeting.Meeting.{Meeting}
+use Rattle.sn_conflict.specs.declared.meeting.Meeting.TheVariants as meeting
+use Rattle.sn_laws.proofs.Facts.{devices_all_hold, one_there}
+use Rattle.sn_laws.specs.Each.{Each}
+use Rattle.sn_laws.specs.Lookups.{Bytes, account_of, device_named, greatest}
+use Rattle.sn_laws.specs.Reached.{HoldsSets, IsOneOrTwo}
+use Rattle.sn_laws.specs.declared.ideal.Account.{Account}
+use Rattle.sn_laws.specs.declared.ideal.Device.{Device}
+use Rattle.sn_laws.specs.declared.ideal.Ideal.{Ideal}
+use Rattle.sn_laws.specs.declared.moves.Move.{Move}
+use Rattle.sn_rows.specs.Table.{Rows}
+use Rattle.sn_rows.specs.declared.change.Change.{Change}
+use Rattle.sn_rows.specs.declared.device_rows.LocalItem.{LocalItem}
+use Rattle.sn_rows.specs.declared.key.Key.TheVariants as key
+use Rattle.sn_rows.specs.declared.key.Slot.TheVariants.{Older}
+use Rattle.sn_rows.specs.declared.value.Value.{Value}
+use Rattle.sn_sets.specs.declared.sets.Sets.{Sets}
+use Rattle.sn_shows.proofs.Facts.{holder_of}
+use Rattle.sn_shows.specs.Devices.{ShowsHolder, ShowsOlder}
+use Rattle.sn_shows.specs.Laws.{AccountsApart, HasAccount}
+use Rattle.sn_shows.specs.Sets.{set_at}
+use Rattle.sn_string.specs.declared.params.KeySet.{KeySet}
+use Rattle.sn_string.specs.declared.params.Params.{Params}
+use Rattle.sn_sync.specs.Versions.{NamesStamp, uuids}
+use Rattle.sn_sync.specs.declared.answer.Answer.{Answer}
+use Rattle.sn_sync.specs.declared.answer.Answer.TheVariants as answer
+use Rattle.sn_sync.specs.declared.answer.Conflict.{Conflict}
+use Rattle.sn_sync.specs.declared.answer.Conflict.TheVariants as conflict
+use Rattle.sn_sync.specs.declared.item.Item.{Item}
+use Rattle.sn_sync.specs.declared.request.Request.{Request}
+use Rattle.sn_sync.specs.declared.request.Request.TheVariants as request
+use Rattle.sn_world.proofs.DeviceSets.{account_is}
+use Rattle.sn_world.proofs.Lists.{each_both, each_contained, each_map, of_each}
+use Rattle.sn_world.proofs.OneSets.{one_number, one_only}
+use Rattle.sn_world.proofs.OwnStrings.{sent_own}
+use Rattle.sn_world.proofs.Tokens.{device_account}
+use Rattle.sn_world.specs.Applying.{MayApply, SaysAllTold, SaysAnswer, SaysApplied, SaysForeign, SaysMeets, SaysServer, SaysTold, Tells}
+use Rattle.sn_world.specs.Holds.{Holds}
+use Rattle.sn_world.specs.Making.{IsPostedOf}
+use Rattle.sn_world.specs.World.{World}
+
+-- ---- each meeting
+
+meets_said : (name : Bytes) (sets : Sets) (p q : Progress) (number : ℕ) (local : LocalItem) (i : Item) (how : Meeting) → ((stamp : ℕ) × NamesStamp i stamp)
+    → Meets sets p number local i how q → (moves : List Move) × SaysMeets name sets p number local i how q moves
+meets_said name sets p q number local i meeting.Same stamp does = (_, (does, refl))
+meets_said name sets p q number local i meeting.Take stamp does = (_, (does, refl))
+meets_said name sets p q number local i (meeting.Own true) stamp does = (_, (does, refl))
+meets_said name sets p q number local i (meeting.Own false) stamp does = (_, (does, (stamp.0, stamp.1, refl)))
+meets_said name sets p q number local i meeting.GiveWay stamp does = (_, (does, refl))
+meets_said name sets p q number local i meeting.Fork stamp (r, copies, takes) = (_, (r, copies, takes, refl))
+
+stamped : (server : Rows) (n : ℕ) (i : Item) → IsStored server n i → (stamp : ℕ) × NamesStamp i stamp
+stamped server n i stored = (stored.0.updated, (stored.3.stamp, stored.3.spelled, stored.3.updated))
+
+server_said : (name : Bytes) (sets : Sets) (p q : Progress) (i : Item) (flag : Bool) → ((stamp : ℕ) × NamesStamp i stamp) → TakesServer sets p i flag q
+    → (moves : List Move) × SaysServer name sets p i flag q moves
+server_said name sets p q i flag stamp (inl (number, local, how, stands, met, does)) =
+    let m = meets_said name sets p q number local i how stamp does in
+    (m.0, inl (number, local, how, stands, met, m.1))
+server_said name sets p q i flag stamp (inr (nobody, makes)) = (_, inr (nobody, makes, refl))
+
+foreign_said : (name : Bytes) (sets : Sets) (p q : Progress) (i : Item) → TakesOwn sets p i.uuid (conflict.Uuid i) q
+    → (moves : List Move) × SaysForeign name sets p i.uuid q moves
+foreign_said name sets p q i (inl (number, local, stands, how)) = (_, inl (number, local, stands, how, refl))
+foreign_said name sets p q i (inr (nobody, same)) = (_, inr (nobody, same, refl))
+
+-- ---- all of them
+
+-- it is the server's, and no string is of another set
+abbrev Sayable : Rows → ℕ → List Item → Told → Type 0
+Sayable server n saved (is_saved i) = IsStored server n i
+Sayable server n saved (is_conflict (conflict.Sync i)) = IsStored server n i
+Sayable server n saved (is_conflict (conflict.Uuid i)) = Unit {0}
+Sayable server n saved (is_conflict (conflict.Content i)) = ⊥
+Sayable server n saved (is_retrieved i) = IsStored server n i ⊎ Contains (uuids saved) i.uuid
+
+told_said : (server : Rows) (n : ℕ) (name : Bytes) (sets : Sets) (saved : List Item) (p q : Progress) (t : Told) → Sayable server n saved t → Takes sets saved p t q
+    → (moves : List Move) × SaysTold name sets saved p t q moves
+told_said server n name sets saved p q (is_saved i) stored takes = server_said name sets p q i true (stamped server n i stored) takes
+told_said server n name sets saved p q (is_conflict (conflict.Sync i)) stored takes = server_said name sets p q i false (stamped server n i stored) takes
+told_said server n name sets saved p q (is_conflict (conflict.Uuid i)) is takes = foreign_said name sets p q i takes
+told_said server n name sets saved p q (is_conflict (conflict.Content i)) is takes = absurd is
+told_said server n name sets saved p q (is_retrieved i) is (inl (has, same)) = (_, inl (has, same, refl))
+told_said server n name sets saved p q (is_retrieved i) (inl stored) (inr (apart, takes)) =
+    let m = server_said name sets p q i false (stamped server n i stored) takes in
+    (m.0, inr (apart, m.1))
+told_said server n name sets saved p q (is_retrieved i) (inr has) (inr (apart, takes)) = absurd (apart has)
+
+all_said : (server : Rows) (n : ℕ) (name : Bytes) (sets : Sets) (saved : List Item) (ts : List Told) (p q : Progress) → Each (Sayable server n saved) ts
+    → TakesAll sets saved p ts q → (moves : List Move) × SaysAllTold name sets saved p ts q moves
+all_said server n name sets saved [] p q all same = (_, (same, refl))
+all_said server n name sets saved (t ∷ ts) p q all (r, takes, rest) =
+    let first = told_said server n name sets saved p r t all.0 takes in
+    let later = all_said server n name sets saved ts r q all.1 rest in
+    (_, (r, first.0, later.0, first.1, later.1, refl))
+
+-- ---- a device with one set
+
+older_none : (a : Account) (found : Option Value) (n : ℕ) (held : List ℕ) → n ≡ 1 → IsOneOrTwo n held → ShowsOlder a found held → found ≡ None
+older_none a found n [] one is h = h
+older_none a found n (g ∷ []) one is h = h
+older_none a found n (o ∷ g ∷ []) one is h =
+    let low : 1 ≤ o = is.0 in
+    let above : o < g = is.1 in
+    let within : g ≤ n = is.2 in
+    absurd (omega (arith, low, above, within, one))
+older_none a found n (o ∷ g ∷ m ∷ more) one is h = h
+
+slot_none : (rows : Rows) (identifier : Bytes) (found : Option KeySet) → rows (key.Set Older) ≡ None → IsInSlot rows identifier Older found → found ≡ None
+slot_none rows identifier None none h = refl
+slot_none rows identifier (Some set) none h = let some = h.1 in absurd (cc)
+
+none_retired : (rows : Rows) (cursor : Option Bytes) (found : Option KeySet) (changes : List Change) → found ≡ None → Retires rows cursor found changes → changes ≡ []
+none_retired rows cursor None changes none h = h
+none_retired rows cursor (Some set) changes none h = absurd (cc)
+
+module _ (apart : AccountsApart) (secret : Bytes) (w : World) (s : Ideal) (h : Holds secret w s) (name : Bytes) (words left : ChaCha) (sent : List Item)
+    (conflicts : List Conflict) (cursor : Option Bytes) (retrieved saved : List Item) (token : Bytes) (changes : List Change)
+    (x : Applies (w.devices name) words sent conflicts cursor retrieved saved token changes left)
+    (may : Tells w.server (w.devices name) s name sent conflicts cursor retrieved saved token) where
+  abbrev rows : Rows
+  rows = w.devices name
+
+  abbrev n : ℕ
+  n = may.number
+
+  abbrev a : Account
+  a = may.account
+
+  abbrev d : Device
+  d = may.device
+
+  has : HasAccount s name d a
+  has = device_account apart secret w s h name n a d may.at may.named may.own
+
+  holder : ShowsHolder rows s name d a
+  holder = holder_of rows s name d a (h.devices name) has
+
+  -- no older set is held
+  held : IsOneOrTwo (length a.sets) d.held
+  held =
+      let r = h.reached in
+      let holds : HoldsSets (account_of s name) d =
+      subst (λ (t : Ideal). HoldsSets (account_of t name) d) (sym r.is)
+      (devices_all_hold r.moves name d r.legal (subst (λ (t : Ideal). device_named t name ≡ Some d) r.is may.named)) in
+      subst (λ (b : Account). IsOneOrTwo (length b.sets) d.held) (one_there holds.account a (account_of s name) holds.has (account_is s name d a has)) holds.held
+
+  no_older : x.sets.older ≡ None
+  no_older =
+      slot_none rows x.owner.identifier x.sets.older
+      (older_none a (rows (key.Set Older)) (length a.sets) d.held (one_only s h.reached n a may.at) held holder.older) x.holds.before
+
+  -- what was sent is of the present set
+  own : (unsaved : Item) → Contains sent unsaved → IsOwnBody unsaved.uuid may.present unsaved.body
+  own unsaved among =
+      let row : IsPostedOf rows unsaved = of_each (IsPostedOf rows) sent may.posted unsaved among in
+      let last : KeySet = holder.present.is.set in
+      let g : set_at (greatest 0 d.held) a.sets ≡ Some last = holder.present.is.at in
+      let number : greatest 0 d.held ≡ length a.sets = one_number s h.reached n a may.at (greatest 0 d.held) last g in
+      let params : may.present ≡ last.params = may.params_are last (subst (λ (k : ℕ). set_at k a.sets ≡ Some last) number g) in
+      subst (λ (p : Params). IsOwnBody unsaved.uuid p unsaved.body) (sym params) (sent_own rows s name d a holder last g row.0 row.1 unsaved row.2 row.3)
+
+  conflict_sayable : (c : Conflict) → Contains conflicts c → Sayable w.server n saved (is_conflict c)
+  conflict_sayable (conflict.Sync i) among = (may.tells.conflicts_are (conflict.Sync i) among).0
+  conflict_sayable (conflict.Uuid i) among = tt
+  conflict_sayable (conflict.Content i) among =
+      let told = may.tells.conflicts_are (conflict.Content i) among in
+      told.1 (own i told.0)
+
+  sayable : Each (Sayable w.server n saved) (told_by saved conflicts retrieved)
+  sayable =
+      each_both (Sayable w.server n saved) (map is_saved saved) (map is_conflict conflicts ++ map is_retrieved retrieved)
+      (each_map is_saved (Sayable w.server n saved) saved
+      (each_contained (λ (i : Item). Sayable w.server n saved (is_saved i)) saved (λ i among. (may.tells.saved_are i among).0)))
+      (each_both (Sayable w.server n saved) (map is_conflict conflicts) (map is_retrieved retrieved)
+      (each_map is_conflict (Sayable w.server n saved) conflicts
+      (each_contained (λ (c : Conflict). Sayable w.server n saved (is_conflict c)) conflicts conflict_sayable))
+      (each_map is_retrieved (Sayable w.server n saved) retrieved
+      (each_contained (λ (i : Item). Sayable w.server n saved (is_retrieved i)) retrieved may.tells.retrieved_are)))
+
+  pub applied_said : (moves : List Move) × SaysApplied rows name conflicts cursor retrieved saved token changes moves
+  applied_said =
+      let all = all_said w.server n name x.sets saved (told_by saved conflicts retrieved) (start rows x.owner words) x.end sayable x.taken in (
+        all.0,
+        record {
+          owner = x.owner;
+          sets = x.sets;
+          holds = x.holds;
+          no_older = no_older;
+          words = words;
+          end = x.end;
+          told = all.1;
+          counted = x.counted;
+          counted_is = x.counted_is;
+          changes_are = x.changes_are
+              ∙ ap (λ (later : List Change). x.end.changes ++ x.counted ∷ later) (none_retired x.end.rows cursor x.sets.older x.retired no_older x.retires);
+        },
+      )
+
+-- by the request that is answered
+pub answer_said : AccountsApart → (secret : Bytes) (w : World) (s : Ideal) → Holds secret w s → (name : Bytes) (words left : ChaCha) (r : Request) (given : Answer)
+    (changes : List Change) → AppliesTo (w.devices name) words r given changes left → MayApply w.server (w.devices name) s name r given
+    → (moves : List Move) × SaysAnswer (w.devices name) name given changes moves
+answer_said apart secret w s h name words left (request.Sync token items limit sync_token cursor_token) (answer.Sync conflicts cursor retrieved saved next_token) changes step may =
+    applied_said apart secret w s h name words left items conflicts cursor retrieved saved next_token changes step may
+answer_said apart secret w s h name words left (request.Sync token items limit sync_token cursor_token) (answer.Account other identifier uuid) changes step may = absurd step
+answer_said apart secret w s h name words left (request.Sync token items limit sync_token cursor_token) (answer.Params params) changes step may = absurd step
+answer_said apart secret w s h name words left (request.Sync token items limit sync_token cursor_token) (answer.Refused status tag more) changes step may = absurd step
+answer_said apart secret w s h name words left (request.Register params pw) given changes step may = absurd step
+answer_said apart secret w s h name words left (request.Params identifier) given changes step may = absurd step
+answer_said apart secret w s h name words left (request.SignIn identifier pw) given changes step may = absurd step
+answer_said apart secret w s h name words left (request.ChangePw token current pw cost nonce) given changes step may = absurd step

@@ -1,0 +1,124 @@
+-- Accepted versions leave each account's sets; and which parameters are an account's present ones.
+use Rattle.std.proofs.Common.{◌≡◌, ℕ, List, [], ◌∷◌, length, Option, Some, None, Bool, true, false, refl, sym, ap, ◌∙◌, subst}
+use Rattle.std.proofs.lemmas.List.Concat.{flat_map-cons}
+use Rattle.std.specs.Prelude.{if◌then◌else◌}
+use Rattle.sn_account.specs.Rules.{IsPresent}
+use Rattle.sn_laws.specs.Each.{Each}
+use Rattle.sn_laws.specs.Lookups.{Bytes, account_of, draft_at, is_account}
+use Rattle.sn_laws.specs.Moves.{accepted, after, changed_where, version_of}
+use Rattle.sn_laws.specs.Runs.{end_from}
+use Rattle.sn_laws.specs.declared.ideal.Account.{Account}
+use Rattle.sn_laws.specs.declared.ideal.Draft.{Draft}
+use Rattle.sn_laws.specs.declared.ideal.Ideal.{Ideal}
+use Rattle.sn_laws.specs.declared.moves.Move.{Move}
+use Rattle.sn_laws.specs.declared.moves.Move.TheVariants.{Accept}
+use Rattle.sn_rows.specs.Table.{Rows}
+use Rattle.sn_rows.specs.declared.change.Change.{Change}
+use Rattle.sn_rows.specs.declared.change.Change.TheVariants.{Put, Remove}
+use Rattle.sn_rows.specs.declared.key.Key.{Key}
+use Rattle.sn_rows.specs.declared.key.Key.TheVariants as key
+use Rattle.sn_rows.specs.declared.server_rows.AccountRow.{AccountRow}
+use Rattle.sn_rows.specs.declared.server_rows.GenerationRow.{GenerationRow}
+use Rattle.sn_rows.specs.declared.value.Value.{Value}
+use Rattle.sn_rows.specs.declared.value.Value.TheVariants as value
+use Rattle.sn_shows.specs.Servers.{ShowsAccounts, ShowsGeneration, ShowsIdentity, account_at}
+use Rattle.sn_shows.specs.Sets.{set_at}
+use Rattle.sn_string.proofs.Facts.{same_params}
+use Rattle.sn_string.specs.declared.params.KeySet.{KeySet}
+use Rattle.sn_string.specs.declared.params.Params.{Params}
+use Rattle.sn_world.proofs.Lists.{each_both}
+use Rattle.sn_world.proofs.ShowsLemmas.{ChangedFrom, account_changed, more}
+use Rattle.sn_world.proofs.Tokens.{one_account}
+use Rattle.sn_world.specs.Serving.{accept_of, accepts_in, move_of}
+
+-- ---- the moves of a batch of items
+
+abbrev pub IsAccept : Move → Type 0
+IsAccept (Accept device uuid stamp under) = Unit {0}
+IsAccept m = ⊥
+
+accept_only : (server : Rows) (name : Bytes) (at : Key) (v : Value) → Each IsAccept (accept_of server name at v)
+accept_only server name (key.Item uuid) (value.Item row) = (tt, tt)
+accept_only server name (key.Item uuid) (value.Store row) = tt
+accept_only server name (key.Item uuid) (value.Account row) = tt
+accept_only server name (key.Item uuid) (value.Generation row) = tt
+accept_only server name (key.Item uuid) (value.Owner row) = tt
+accept_only server name (key.Item uuid) (value.Set row) = tt
+accept_only server name (key.Item uuid) (value.Local row) = tt
+accept_only server name key.Store v = tt
+accept_only server name (key.Account number) v = tt
+accept_only server name (key.Generation number generation) v = tt
+accept_only server name key.Owner v = tt
+accept_only server name (key.Set slot) v = tt
+accept_only server name (key.Local number) v = tt
+
+move_only : (server : Rows) (name : Bytes) (change : Change) → Each IsAccept (move_of server name change)
+move_only server name (Put row) = accept_only server name row.key row.value
+move_only server name (Remove at) = tt
+
+pub accepts_only : (server : Rows) (name : Bytes) (changes : List Change) → Each IsAccept (accepts_in server name changes)
+accepts_only server name [] = tt
+accepts_only server name (c ∷ cs) =
+    subst (λ (ms : List Move). Each IsAccept ms) (sym (flat_map-cons (move_of server name) c cs))
+    (each_both IsAccept (move_of server name c) (accepts_in server name cs) (move_only server name c) (accepts_only server name cs))
+
+-- ---- sets
+
+-- the account of this number had these sets before
+abbrev HadSets : List Account → ℕ → Account → Type 0
+HadSets accounts n b = (a : Account) × (account_at n accounts ≡ Some a) × (b.sets ≡ a.sets)
+
+sets_changed : (p : Account → Bool) (f : Account → Account) → ((x : Account) → (f x).sets ≡ x.sets) → (accounts : List Account) (n : ℕ) (b : Account)
+    → account_at n (changed_where p f accounts) ≡ Some b → HadSets accounts n b
+sets_changed p f same accounts n b at =
+    let from : ChangedFrom p f accounts n b = account_changed p f accounts n b at in
+    (from.account, from.at, subst (λ (x : Account). x.sets ≡ from.account.sets) from.is (by from.account (p from.account)))
+  where
+    by : (x : Account) (q : Bool) → (if q then f x else x).sets ≡ x.sets
+    by x true = same x
+    by x false = refl
+
+sets_accepted : (accounts : List Account) (a : Option Account) (d : Option Draft) (stamp n : ℕ) (b : Account) → account_at n (accepted accounts a d stamp) ≡ Some b
+    → HadSets accounts n b
+sets_accepted accounts None d stamp n b at = (b, at, refl)
+sets_accepted accounts (Some a) None stamp n b at = (b, at, refl)
+sets_accepted accounts (Some a) (Some d) stamp n b at =
+    sets_changed (is_account a.identifier) (more (version_of stamp (length a.sets) d)) (λ x. refl) accounts n b at
+
+sets_step : (s : Ideal) (m : Move) → IsAccept m → (n : ℕ) (b : Account) → account_at n (after s m).accounts ≡ Some b → HadSets s.accounts n b
+sets_step s (Accept device uuid stamp under) is n b at = sets_accepted s.accounts (account_of s device) (draft_at s device uuid) stamp n b at
+sets_step s m is n b at = absurd is
+
+sets_before : (s : Ideal) (ms : List Move) → Each IsAccept ms → (n : ℕ) (b : Account) → account_at n (end_from s ms).accounts ≡ Some b
+    → (a : Account) × (account_at n s.accounts ≡ Some a) × (b.sets ≡ a.sets)
+sets_before s [] all n b at = (b, at, refl)
+sets_before s (m ∷ ms) all n b at =
+    let mid = sets_before (after s m) ms all.1 n b at in
+    let first = sets_step s m all.0 n mid.0 mid.1 in
+    (first.0, first.1, mid.2 ∙ first.2)
+
+-- ---- parameters
+
+one_generation : (x y : GenerationRow) (found : Option Value) → found ≡ Some (value.Generation x) → found ≡ Some (value.Generation y) → x ≡ y
+one_generation x y found e k = cc
+
+-- the present ones are those of the account's last set
+pub present_params : (server : Rows) (accounts : List Account) (n : ℕ) (a : Account) (present : Params) (last : KeySet) → ShowsAccounts server accounts
+    → account_at n accounts ≡ Some a → IsPresent server n present → set_at (length a.sets) a.sets ≡ Some last → present ≡ last.params
+present_params server accounts n a present last shows at is last_is =
+    let its : ShowsIdentity server n a = (shows.each n a at).identity in
+    let set : ShowsGeneration server n a (length a.sets) last = (shows.each n a at).generations (length a.sets) last last_is in
+    let row : is.account ≡ its.row = one_account is.account its.row (server (key.Account n)) is.there its.stands in
+    let number : is.account.generation ≡ length a.sets = ap (λ (z : AccountRow). z.generation) row ∙ its.generation in
+    let generation : is.generation ≡ set.row =
+    one_generation is.generation set.row (server (key.Generation n (length a.sets)))
+    (ap (λ (g : ℕ). server (key.Generation n g)) (sym number) ∙ is.stands) set.stands in
+    same_params present last.params (is.identifier ∙ ap (λ (z : AccountRow). z.identifier) row ∙ its.identifier ∙ sym set.identifier)
+    (is.cost ∙ ap (λ (g : GenerationRow). g.pw_cost) generation ∙ set.cost) (is.nonce ∙ ap (λ (g : GenerationRow). g.pw_nonce) generation ∙ set.nonce)
+
+-- so they are after accepted versions too
+pub params_after : (server : Rows) (s : Ideal) (ms : List Move) (n : ℕ) (a : Account) (present : Params) → ShowsAccounts server s.accounts → Each IsAccept ms
+    → account_at n (end_from s ms).accounts ≡ Some a → IsPresent server n present → (last : KeySet) → set_at (length a.sets) a.sets ≡ Some last → present ≡ last.params
+params_after server s ms n a present shows all at is last last_is =
+    let was = sets_before s ms all n a at in
+    present_params server s.accounts n was.0 present last shows was.1 is (subst (λ (sets : List KeySet). set_at (length sets) sets ≡ Some last) was.2 last_is)
