@@ -1,0 +1,207 @@
+// A server in memory and two devices that ask it, of which tests say step by step what is done and what is told.
+use crate::ServerLink;
+use crate::tests::client::Client;
+use crate::tests::{accepted, server, with_uuid};
+use sn_items::Words;
+use std::alloc::Global;
+use std::process::Abort;
+use std::test::Fail;
+use uuid::Uuid;
+
+#[derive(Clone, Copy)]
+pub(crate) enum Who {
+    Ann,
+    Ben,
+}
+
+/// What a device does. The item is the one that a device put last.
+#[derive(Clone, Copy)]
+pub(crate) enum Does {
+    Nothing,
+    /// Registers, with this identifier, password and cost.
+    Registers(&'static str, &'static str, u32),
+    /// Signs in, with this identifier and password.
+    SignsIn(&'static str, &'static str),
+    /// Puts a note.
+    Puts(&'static str),
+    /// Puts a tag.
+    PutsTag(&'static str),
+    /// Puts the longest note.
+    PutsLongest,
+    /// Puts a note that is a byte longer.
+    PutsLonger,
+    Edits(&'static str),
+    EditsLonger,
+    Deletes,
+    Syncs,
+    /// Syncs, and what has this number is lost: of the requests from here on, number n has 2 n, and its answer 2 n + 1.
+    SyncsAtLossOf(u64),
+    /// Shows the mark and the content of each item.
+    Shows,
+    /// Shows its list.
+    Lists,
+    /// Shows the item's content.
+    Reads,
+    /// Shows the item's content where it isn't that of the longest note.
+    ReadsLongest,
+}
+
+/// Who does what, and what is told then: nothing of a call that is answered, else a refusal, or what is shown. A `#` is the
+/// item's uuid.
+pub(crate) type Step = (Who, Does, &'static str);
+
+/// A server, the words that its devices draw, and the item that a device put last.
+#[derive(Drop)]
+struct Around {
+    link: ServerLink,
+    words: Words,
+    item: Uuid,
+}
+
+impl Around {
+    fn new(alloc: Global, seed: [u8; 32]) -> Result<Around, Fail> {
+        Ok(Around {
+            link: server(alloc)?,
+            words: Words::from_seed(seed),
+            item: Uuid::from_bytes([0; 16]),
+        })
+    }
+}
+
+/// A server, and two devices.
+#[derive(Drop)]
+pub(crate) struct Scene {
+    alloc: Global,
+    around: Around,
+    ann: Client,
+    ben: Client,
+}
+
+impl Scene {
+    /// A fresh server and fresh devices, which draw the words of this seed.
+    pub(crate) fn new(alloc: Global, seed: [u8; 32]) -> Result<Scene, Fail> {
+        Ok(Scene {
+            alloc,
+            ann: Client::fresh(alloc)?,
+            ben: Client::fresh(alloc)?,
+            around: Around::new(alloc, seed)?,
+        })
+    }
+
+    /// Does a step, and gives what is told.
+    pub(crate) fn act(&mut self, who: Who, does: Does) -> Result<String, Fail> {
+        match who {
+            Who::Ann => done(self.alloc, &mut self.ann, &mut self.around, does),
+            Who::Ben => done(self.alloc, &mut self.ben, &mut self.around, does),
+        }
+    }
+
+    /// Does a step, and ends the test where something else is told.
+    pub(crate) fn step(&mut self, step: &Step) -> Result<(), Fail> {
+        let (who, does, told) = *step;
+        if self.act(who, does)? == self.filled(told)? {
+            Ok(())
+        } else {
+            Err("something else is told".into())
+        }
+    }
+
+    /// Does steps, and asserts what is told at each.
+    pub(crate) fn play(&mut self, rt: &impl Abort, name: &str, steps: &[Step]) -> Result<(), Fail> {
+        for (who, does, told) in steps {
+            self.tell(rt, name, *who, *does, told)?;
+        }
+        Ok(())
+    }
+
+    /// Does a step, and asserts what is told.
+    pub(crate) fn tell(
+        &mut self,
+        rt: &impl Abort,
+        name: &str,
+        who: Who,
+        does: Does,
+        told: &str,
+    ) -> Result<(), Fail> {
+        let text = self.act(who, does)?;
+        let expected = self.filled(told)?;
+        assert_eq!(rt; text, expected, "{name}");
+        Ok(())
+    }
+
+    /// A text with the item's uuid for each `#`.
+    pub(crate) fn filled(&self, text: &str) -> Result<String, Fail> {
+        with_uuid(self.alloc, text, self.around.item)
+    }
+
+    /// The one device, apart from the server.
+    pub(crate) fn into_ann(self) -> Client {
+        self.ann
+    }
+
+    /// The stamps of the items that the server has, in order, each with whether the item is deleted.
+    pub(crate) fn accepted(self) -> Result<String, Fail> {
+        accepted(self.alloc, self.around.link)
+    }
+}
+
+// What is told of what a device does.
+fn done(
+    alloc: Global,
+    client: &mut Client,
+    around: &mut Around,
+    does: Does,
+) -> Result<String, Fail> {
+    let Around { link, words, item } = around;
+    match does {
+        Does::Nothing => Ok(String::new(alloc)),
+        Does::Registers(identifier, password, cost) => {
+            client.register(link, words, identifier, password, cost)
+        }
+        Does::SignsIn(identifier, password) => client.sign_in(link, words, identifier, password),
+        Does::Puts(text) => client.put(words, "Note", text, item),
+        Does::PutsTag(text) => client.put(words, "Tag", text, item),
+        Does::PutsLongest => client.put(words, "Note", &longest(alloc)?, item),
+        Does::PutsLonger => client.put(words, "Note", &longer(alloc)?, item),
+        Does::Edits(text) => client.edit(words, *item, text),
+        Does::EditsLonger => client.edit(words, *item, &longer(alloc)?),
+        Does::Deletes => client.delete(*item),
+        Does::Syncs => client.sync(link, words),
+        Does::SyncsAtLossOf(lost) => {
+            link.lose([lost].to_vec(alloc)?);
+            client.sync(link, words)
+        }
+        Does::Shows => client.shown(),
+        Does::Lists => client.listed(),
+        Does::Reads => client.content(*item),
+        Does::ReadsLongest => unless_longest(alloc, client.content(*item)?),
+    }
+}
+
+// So many times 5,147 are 699,992.
+const PIECE: &str =
+    "xxxxxxxxxxxxxxxxxxxxxxxxxxxxxxxxxxxxxxxxxxxxxxxxxxxxxxxxxxxxxxxxxxxxxxxxxxxxxxxxxxxxxxxxxxxxxxxxxxxxxxxxxxxxxxxxxxxxxxxxxxxxxxxxxxxxxxxx";
+
+// An object text as long as a content may be: 700,000 bytes.
+fn longest(alloc: Global) -> Result<String, Fail> {
+    let mut text = "{\"a\":\"".to_string(alloc)?;
+    for _ in 0..5_147 {
+        text.push_str(PIECE)?;
+    }
+    text.push_str("\"}")?;
+    Ok(text)
+}
+
+fn longer(alloc: Global) -> Result<String, Fail> {
+    let mut text = longest(alloc)?;
+    text.push('x')?;
+    Ok(text)
+}
+
+fn unless_longest(alloc: Global, text: String) -> Result<String, Fail> {
+    if text == longest(alloc)? {
+        Ok(String::new(alloc))
+    } else {
+        Ok(text)
+    }
+}
