@@ -7,7 +7,7 @@ use Rattle.rand_chacha.specs.ChaCha.{ChaCha}
 use Rattle.sn_account.specs.Sessions.{IsSession}
 use Rattle.sn_account.specs.Tells.{AreApart, IsStored}
 use Rattle.sn_client.specs.Laws.{AreStanding}
-use Rattle.sn_client.specs.States.{HasLocal, IsSound, OwnerColumns}
+use Rattle.sn_client.specs.States.{HasLocal, HasOwner, IsSound, OwnerColumns}
 use Rattle.sn_client.specs.Steps.{Applies, start}
 use Rattle.sn_client.specs.Taking.{Progress, Told, is_conflict, is_retrieved, is_saved, told_by}
 use Rattle.sn_conflict.specs.Checks.{HasItsStrings, IsConflict, IsRetrieved, IsSaved}
@@ -34,15 +34,20 @@ use Rattle.sn_sync.specs.declared.answer.Conflict.TheVariants as conflict
 use Rattle.sn_sync.specs.declared.item.Item.{Item}
 use Rattle.sn_world.proofs.DeviceRows.{local_past, one_local, one_owner, posted_same, unstale_same}
 use Rattle.sn_world.proofs.DeviceSets.{identifier_of}
-use Rattle.sn_world.proofs.Frames.{DeviceFrame, device_kept, live_kept}
-use Rattle.sn_world.proofs.Lists.{each_apart, each_both, each_contained, each_map, each_right, of_each}
+use Rattle.sn_world.proofs.Frames.{DeviceFrame, HasPulled, device_kept, live_kept}
+use Rattle.sn_laws.proofs.Facts.{each_back, each_front}
+use Rattle.sn_world.proofs.AppliedPulled.{pulled_up, token_some}
+use Rattle.sn_world.proofs.Lists.{each_apart, each_both, each_contained, each_map, each_right, each_unmap, of_each}
+use Rattle.sn_world.proofs.PulledAll.{Keeps, MetAt, all_pulled}
+use Rattle.sn_world.proofs.Pulls.{stays_on, stays_same}
+use Rattle.sn_world.specs.Pulled.{PulledAt, PulledTo}
 use Rattle.sn_world.proofs.TakenAll.{Good, LinkedAt, NoneSaved, NotSaved, ToldApart, all_told}
-use Rattle.sn_world.proofs.TakenFrames.{Took}
+use Rattle.sn_world.proofs.TakenFrames.{Along, Took}
 use Rattle.sn_world.proofs.TakenMet.{TakingLaws}
 use Rattle.sn_client.specs.States.{text_of_token, token_of}
 use Rattle.sn_laws.specs.Lookups.{greatest}
 use Rattle.sn_rows.specs.declared.value.Value.{Value}
-use Rattle.sn_shows.specs.Servers.{ShowsStore, stamps_in}
+use Rattle.sn_shows.specs.Servers.{ShowsStore, account_at, stamps_in}
 use Rattle.sn_sync.specs.Tokens.{IsToken}
 use Rattle.sn_world.proofs.Started.{nobody}
 use Rattle.sn_world.specs.Holds.{IsTokenBelow, TokensBelow}
@@ -162,21 +167,23 @@ module _ (laws : TakingLaws) (tokens_law : TokensShow) (secret : Bytes) (w next 
     items = (h.sound name).locals.items;
   }
 
+  along : Along w.server name n a d says.owner says.sets p s
+  along = record {
+    reached = h.reached;
+    accounts = h.server.all;
+    at = may.at;
+    has = has;
+    shows = h.devices name;
+    holds = says.holds;
+    standing = standing;
+    unstale = h.unstale name;
+    kinds = λ k v e. (h.sound name).device.kinds k v e;
+    numbers = h.numbers;
+  }
+
   took : Took w.server name n a d says.owner says.sets p says.end s moves
   took =
-      all_told laws w.server name n a d says.owner says.sets says.no_older saved (told_by saved conflicts retrieved) p says.end s moves
-      (record {
-        reached = h.reached;
-        accounts = h.server.all;
-        at = may.at;
-        has = has;
-        shows = h.devices name;
-        holds = says.holds;
-        standing = standing;
-        unstale = h.unstale name;
-        kinds = λ k v e. (h.sound name).device.kinds k v e;
-        numbers = h.numbers;
-      })
+      all_told laws w.server name n a d says.owner says.sets says.no_older saved (told_by saved conflicts retrieved) p says.end s moves along
       all_good (told_apart saved conflicts retrieved may.tells.saved_apart) says.told
 
   -- ---- and the device's own row behind them
@@ -246,6 +253,43 @@ module _ (laws : TakingLaws) (tokens_law : TokensShow) (secret : Bytes) (w next 
             (subst (λ (c : Bytes). (token_of c ≡ None) ⊎ (token_of c ≡ token_of token)) page (cursor_same cursor may.tells.cursor_is)),
       )
 
+  -- ---- how far it has pulled
+
+  pulled_all : Keeps a rows mid × Each (MetAt mid a saved) (told_by saved conflicts retrieved)
+  pulled_all =
+      all_pulled laws w.server name n a d says.owner says.sets says.no_older saved (told_by saved conflicts retrieved) p says.end s moves along
+      all_good (told_apart saved conflicts retrieved may.tells.saved_apart) says.told
+
+  pulled_mid : (uuid : Bytes) → PulledAt mid a may.tells.stamp uuid
+  pulled_mid =
+      pulled_up secret w s h name sent conflicts cursor retrieved saved token may says.owner says.holds.owned mid pulled_all.0
+      (each_unmap is_saved (MetAt mid a saved) saved (each_front (MetAt mid a saved) (map is_saved saved) (map is_conflict conflicts ++ map is_retrieved retrieved) pulled_all.1))
+      (each_unmap is_retrieved (MetAt mid a saved) retrieved
+      (each_back (MetAt mid a saved) (map is_conflict conflicts) (map is_retrieved retrieved)
+      (each_back (MetAt mid a saved) (map is_saved saved) (map is_conflict conflicts ++ map is_retrieved retrieved) pulled_all.1)))
+
+  token_now : (holder : OwnerRow) → HasOwner (rows_after mid (says.counted ∷ [])) holder → token_of holder.sync_token ≡ Some token
+  token_now holder has_owner =
+      let is : holder ≡ new = one_owner holder new (rows_after mid (says.counted ∷ []) key.Owner) has_owner here in
+      ap token_of (ap (λ (o : OwnerRow). o.sync_token) is ∙ ap (λ (c : OwnerColumns). c.sync_token) says.counted_is.columns_are)
+      ∙ token_some token may.tells.stamp may.tells.token_is
+
+  pulls : HasPulled (rows_after mid (says.counted ∷ [])) s.accounts (device_named later name)
+  pulls = (λ holder has_owner none uuid. let some : token_of holder.sync_token ≡ Some token = token_now holder has_owner in absurd (cc), pulled)
+    where
+      pulled : PulledTo (rows_after mid (says.counted ∷ [])) s.accounts (device_named later name)
+      pulled e number b holder text stamp named at own has_owner is spelled uuid =
+          let device : d ≡ e = one_there d e (device_named s name) may.named (sym (same_device name) ∙ named) in
+          let number_same : n ≡ number =
+          apart_of laws.apart s h.reached n number a b may.at at (may.own ∙ ap (λ (z : Device). z.account) device ∙ sym own) in
+          let account : a ≡ b = one_there a b (account_at number s.accounts) (subst (λ (k : ℕ). account_at k s.accounts ≡ Some a) number_same may.at) at in
+          let same : token ≡ text = one_there token text (token_of holder.sync_token) (token_now holder has_owner) is in
+          let stamp_is : may.tells.stamp ≡ stamp =
+          laws.one_token text may.tells.stamp stamp (subst (λ (t : Bytes). IsToken t may.tells.stamp) same may.tells.token_is) spelled in
+          stays_on mid (rows_after mid (says.counted ∷ [])) b stamp uuid
+          (stays_same mid (rows_after mid (says.counted ∷ [])) (local_past mid says.counted (value.Owner new) says.counted_is.puts_it) uuid)
+          (subst (λ (k : ℕ). PulledAt mid b k uuid) stamp_is (subst (λ (c : Account). PulledAt mid c may.tells.stamp uuid) account (pulled_mid uuid)))
+
   -- a request of this device that is alive is of its account
   number_is : (t : Bytes) (k : ℕ) → HasToken secret s.accounts (device_named s name) t → IsSession w.server t k → n ≡ k
   number_is t k tok session =
@@ -270,6 +314,7 @@ module _ (laws : TakingLaws) (tokens_law : TokensShow) (secret : Bytes) (w next 
     numbers = took.along.numbers;
     own_token = token_after;
     sync_tokens = tokens_after;
+    pulls = pulls;
     tokens = λ t k. subst (λ (o : Option Device). HasToken secret s.accounts o t) (sym (same_device name)) k;
     live = λ t k tok session i was.
         let same : n ≡ k = number_is t k tok session in

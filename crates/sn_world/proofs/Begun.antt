@@ -199,6 +199,14 @@ module _ (apart : AccountsApart) (law : JoinedShows) (keeps : JoinKeeps) (secret
     unstale = λ at local there. let nothing : rows (key.Local at) ≡ None = no_local at in absurd (cc);
     numbers = numbers;
     own_token = token_after;
+    pulls = (
+      λ owner has none item at local there. let nothing : rows (key.Local at) ≡ None = no_local at in let some : rows (key.Local at) ≡ Some (value.Local local) = there.0 in absurd (cc),
+      λ d n b owner text stamp named_so at own has token is.
+          let same : owner ≡ new = one_owner owner new (rows key.Owner) has here in
+          let empty : owner.sync_token ≡ [] = ap (λ (o : OwnerRow). o.sync_token) same ∙ ap (λ (c : OwnerColumns). c.sync_token) x.owner_is.columns_are in
+          let none : None ≡ Some text = sym (ap token_of empty) ∙ token in
+          absurd (cc),
+    );
     sync_tokens = λ owner has.
         let is : owner ≡ new = one_owner owner new (rows key.Owner) has here in
         let sync : [] ≡ owner.sync_token = sym (ap (λ (o : OwnerRow). o.sync_token) is ∙ ap (λ (c : OwnerColumns). c.sync_token) x.owner_is.columns_are) in

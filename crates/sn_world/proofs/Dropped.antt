@@ -4,7 +4,7 @@ use Rattle.std.specs.Prelude.{IsSome, IsTrue}
 use Rattle.sn_client.specs.States.{HasLocal, IsSound}
 use Rattle.sn_client.specs.Steps.{IsUnknown}
 use Rattle.sn_laws.proofs.Facts.{allowed_to}
-use Rattle.sn_laws.specs.Lookups.{Bytes, draft_at, greatest}
+use Rattle.sn_laws.specs.Lookups.{Bytes, device_named, draft_at, greatest}
 use Rattle.sn_laws.specs.Moves.{after, allows}
 use Rattle.sn_laws.specs.declared.ideal.Account.{Account}
 use Rattle.sn_laws.specs.declared.ideal.Device.{Device}
@@ -28,6 +28,7 @@ use Rattle.sn_world.proofs.DeviceRows.{sync_tokens_same, token_same, unstale_rem
 use Rattle.sn_world.proofs.DeviceSets.{account_is, row_draft}
 use Rattle.sn_world.proofs.DraftMoves.{numbers_kept}
 use Rattle.sn_world.proofs.Frames.{DeviceFrame, device_kept, live_kept}
+use Rattle.sn_world.proofs.Pulls.{alike_removed, pulls_kept}
 use Rattle.sn_world.proofs.Settled.{draft_before}
 use Rattle.sn_world.proofs.ShowsLemmas.{holder_from}
 use Rattle.sn_world.proofs.Steps.{reached_more}
@@ -99,6 +100,7 @@ module _ (keeps : SettleKeeps) (secret : Bytes) (w next : World) (s : Ideal) (h 
 
   frame : DeviceFrame secret w rows s later name
   frame = record {
+    pulls = pulls_kept was rows s.accounts (device_named s name) (alike_removed was change number local stands gone unknown.0) (h.bases_pulled name) (h.pulled name);
     reached = reached_more s (Drop name local.uuid) tt h.reached legal;
     accounts = refl;
     others = λ other off. refl;

@@ -4,7 +4,7 @@ use Rattle.std.specs.Prelude.{IsSome, IsTrue, find}
 use Rattle.std.specs.Str.{bytes_eq}
 use Rattle.sn_laws.proofs.Facts.{allowed_to, clash, one_there, same_text, text_same}
 use Rattle.sn_laws.specs.Each.{One}
-use Rattle.sn_laws.specs.Lookups.{Bytes, draft_at, greatest, is_draft}
+use Rattle.sn_laws.specs.Lookups.{Bytes, device_named, draft_at, greatest, is_draft}
 use Rattle.sn_laws.specs.Moves.{after, allows, changed_where, edited}
 use Rattle.sn_laws.specs.Relation.{HasLive, IsAllowed, IsLive, IsLiveAt, IsOnLast}
 use Rattle.sn_laws.specs.declared.ideal.Account.{Account}
@@ -31,6 +31,7 @@ use Rattle.sn_shows.specs.Sets.{OpensUnder}
 use Rattle.sn_shows.specs.Servers.{stamps_in}
 use Rattle.sn_world.proofs.DeviceRows.{one_local, owner_past, posted_put, sync_tokens_same, token_same, unstale_put}
 use Rattle.sn_world.proofs.Frames.{DeviceFrame, device_kept, live_kept}
+use Rattle.sn_world.proofs.Pulls.{alike_row, pulls_kept}
 use Rattle.sn_world.proofs.ShowsLemmas.{IsPut, asks_nothing, draft_is, draft_passes, find_changed, find_past_changed, holder_from, not_of_device, not_of_item, put_asks, put_holder, shows_alike, shows_of}
 use Rattle.sn_world.proofs.Steps.{reached_more}
 use Rattle.sn_world.specs.Holds.{Holds, NumbersOf}
@@ -279,6 +280,8 @@ module _ (secret : Bytes) (w next : World) (s : Ideal) (h : Holds secret w s) (n
 
     frame : DeviceFrame secret w rows s then name
     frame = record {
+      pulls = pulls_kept (w.devices name) rows s.accounts (device_named s name)
+          (alike_row (w.devices name) change number local new stands puts.puts uuid_is base_is) (h.bases_pulled name) (h.pulled name);
       reached = reached_more s move tt h.reached legal;
       accounts = refl;
       others = λ other off. refl;

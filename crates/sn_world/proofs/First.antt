@@ -22,6 +22,8 @@ holds_first fresh secret = record {
   numbers = λ name d a has. let none : None ≡ Some d = has.device in absurd (cc);
   own_tokens = λ name d named. absurd (cc);
   sync_tokens = λ name owner has. absurd (cc);
+  bases_pulled = λ name owner has. absurd (cc);
+  pulled = λ name d number a owner text stamp named at. absurd (no_account number a at);
   syncs = λ m token items one is. absurd one;
   no_change = λ m token current pw cost nonce one is. one;
   registers = λ m params pw one is. absurd one;

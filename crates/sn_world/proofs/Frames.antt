@@ -7,7 +7,7 @@ use Rattle.sn_account.specs.Sessions.{IsSession}
 use Rattle.sn_account.specs.Sound.{IsSound as IsSoundServer}
 use Rattle.sn_laws.proofs.Facts.{clash, same_text, text_same}
 use Rattle.sn_laws.specs.Each.{Each}
-use Rattle.sn_laws.specs.Lookups.{Bytes, device_named, greatest, is_device}
+use Rattle.sn_laws.specs.Lookups.{Bytes, device_named, greatest, is_device, last_of}
 use Rattle.sn_laws.specs.declared.ideal.Account.{Account}
 use Rattle.sn_laws.specs.declared.ideal.Device.{Device}
 use Rattle.sn_laws.specs.declared.ideal.Ideal.{Ideal}
@@ -20,6 +20,10 @@ use Rattle.sn_rows.specs.declared.value.Value.{Value}
 use Rattle.sn_shows.specs.Devices.{ShowsDevice}
 use Rattle.sn_shows.specs.Servers.{ShowsServer, account_at, stamps_in}
 use Rattle.sn_sync.specs.declared.item.Item.{Item}
+use Rattle.sn_sync.specs.Laws.{HasOneToken}
+use Rattle.sn_sync.specs.Tokens.{IsToken}
+use Rattle.sn_laws.specs.declared.ideal.Version.{Version}
+use Rattle.sn_world.specs.Pulled.{BasesPulled, PulledAt, PulledTo}
 use Rattle.sn_world.specs.Holds.{AreFew, DeviceToken, HasToken, Holds, HoldsSync, IsSync, IsTokenBelow, NoneStale, NumbersOf, Reached, TokensBelow}
 use Rattle.sn_world.specs.Live.{KnownBelow, LiveItem, LiveItems}
 use Rattle.sn_client.specs.Sending.{SaysBase}
@@ -41,6 +45,12 @@ same_world secret next s server devices made server_is devices_are made_is h =
 abbrev pub StillAt : List Account → ℕ → Account → Type 0
 StillAt accounts n a = (b : Account) × (account_at n accounts ≡ Some b) × (b.identifier ≡ a.identifier) × (b.sets ≡ a.sets)
 
+-- a last version up to the greatest stamp was there, the last of its item in the account
+abbrev pub LastsBefore : List Account → List Account → Type 0
+LastsBefore accounts later = (n : ℕ) (b : Account) (uuid : Bytes) (v : Version) → account_at n later ≡ Some b → last_of uuid b.versions ≡ Some v
+    → v.stamp ≤ greatest 0 (stamps_in accounts)
+    → (a : Account) × (account_at n accounts ≡ Some a) × (a.identifier ≡ b.identifier) × (last_of uuid a.versions ≡ Some v)
+
 pub record ServerFrame (secret : Bytes) (w : World) (server : Rows) (s later : Ideal) : Type 0 where
   pub reached : Reached later
   pub few : AreFew later.accounts
@@ -53,6 +63,7 @@ pub record ServerFrame (secret : Bytes) (w : World) (server : Rows) (s later : I
   pub accounts : (n : ℕ) (a : Account) → account_at n s.accounts ≡ Some a → StillAt later.accounts n a
   pub last : greatest 0 (stamps_in s.accounts) ≤ greatest 0 (stamps_in later.accounts)
   pub session : (name token : Bytes) (n : ℕ) → HasToken secret s.accounts (device_named s name) token → IsSession server token n → IsSession w.server token n
+  pub lasts : LastsBefore s.accounts later.accounts
   pub live : (rows : Rows) (n : ℕ) (i : Item) → KnownBelow (greatest 0 (stamps_in s.accounts)) i → LiveItem (w.server (key.Item i.uuid)) rows n i
       → LiveItem (server (key.Item i.uuid)) rows n i
 
@@ -90,7 +101,7 @@ token_still secret accounts now found token still x =
       is = x.is;
     }
 
-module _ (secret : Bytes) (w : World) (server : Rows) (s later : Ideal) (h : Holds secret w s) (f : ServerFrame secret w server s later) where
+module _ (one_token : HasOneToken) (secret : Bytes) (w : World) (server : Rows) (s later : Ideal) (h : Holds secret w s) (f : ServerFrame secret w server s later) where
   same_device : (name : Bytes) → device_named later name ≡ device_named s name
   same_device name = ap (find (is_device name)) f.devices
 
@@ -113,6 +124,30 @@ module _ (secret : Bytes) (w : World) (server : Rows) (s later : Ideal) (h : Hol
             (x.live n (f.session m.device token n x.of_device session));
       }
 
+  -- no device has pulled what is new
+  pulled : (name : Bytes) → PulledTo (w.devices name) later.accounts (device_named later name)
+  pulled name d number b owner text stamp named at own has token is uuid =
+      let within : stamp ≤ greatest 0 (stamps_in s.accounts) = token_within (token_of owner.sync_token) text stamp token is (h.sync_tokens name owner has).0 in
+      record {
+        live = λ v last low alive.
+            let was = f.lasts number b uuid v at last (omega arith) in
+            (before was.0 was.1 (was.2 ∙ own)).live v was.3 low alive;
+        gone = λ v last low dead.
+            let was = f.lasts number b uuid v at last (omega arith) in
+            (before was.0 was.1 (was.2 ∙ own)).gone v was.3 low dead;
+      }
+    where
+      before : (a : Account) → account_at number s.accounts ≡ Some a → a.identifier ≡ d.account → PulledAt (w.devices name) a stamp uuid
+      before a there names = h.pulled name d number a owner text stamp (sym (same_device name) ∙ named) there names has token is uuid
+
+      token_within : (found : Option Bytes) (t : Bytes) (k : ℕ) → found ≡ Some t → IsToken t k → IsTokenBelow found (greatest 0 (stamps_in s.accounts))
+          → k ≤ greatest 0 (stamps_in s.accounts)
+      token_within None t k e spelled low = absurd (cc)
+      token_within (Some u) t k e spelled low =
+          let same : u ≡ t = cc in
+          let number_is : low.0 ≡ k = one_token u low.0 k low.1 (subst (λ (x : Bytes). IsToken x k) (sym same) spelled) in
+          subst (λ (x : ℕ). x ≤ greatest 0 (stamps_in s.accounts)) number_is low.2
+
   pub server_kept : Holds secret (record { server = server; devices = w.devices; made = w.made }) later
   server_kept = record {
     reached = f.reached;
@@ -126,12 +161,18 @@ module _ (secret : Bytes) (w : World) (server : Rows) (s later : Ideal) (h : Hol
     numbers = λ name. f.numbers (w.devices name) name (h.devices name) (h.numbers name);
     own_tokens = own_token;
     sync_tokens = λ name. tokens_later (w.devices name) (greatest 0 (stamps_in s.accounts)) (greatest 0 (stamps_in later.accounts)) f.last (h.sync_tokens name);
+    bases_pulled = h.bases_pulled;
+    pulled = pulled;
     syncs = sync_still;
     no_change = h.no_change;
     registers = h.registers;
   }
 
 -- ---- a commit of a device
+
+-- how far it has pulled
+abbrev pub HasPulled : Rows → List Account → Option Device → Type 0
+HasPulled rows accounts found = BasesPulled rows × PulledTo rows accounts found
 
 pub record DeviceFrame (secret : Bytes) (w : World) (rows : Rows) (s later : Ideal) (name : Bytes) : Type 0 where
   pub reached : Reached later
@@ -143,6 +184,7 @@ pub record DeviceFrame (secret : Bytes) (w : World) (rows : Rows) (s later : Ide
   pub unstale : NoneStale rows
   pub numbers : (other : Bytes) → NumbersOf later other
   pub sync_tokens : TokensBelow rows (greatest 0 (stamps_in s.accounts))
+  pub pulls : HasPulled rows s.accounts (device_named later name)
   pub own_token : (d : Device) → device_named later name ≡ Some d → DeviceToken secret rows s.accounts d
   pub tokens : (token : Bytes) → HasToken secret s.accounts (device_named s name) token → HasToken secret s.accounts (device_named later name) token
   pub live : (token : Bytes) (n : ℕ) → HasToken secret s.accounts (device_named s name) token → IsSession w.server token n → (i : Item)
@@ -217,6 +259,11 @@ module _ (secret : Bytes) (w next : World) (s later : Ideal) (name : Bytes) (cha
         sync_tokens = λ other.
             of_accounts (λ accounts. TokensBelow (next.devices other) (greatest 0 (stamps_in accounts)))
             (of_each (λ o r. TokensBelow r (greatest 0 (stamps_in s.accounts))) f.sync_tokens (λ o apart. h.sync_tokens o) other);
+        bases_pulled = of_each (λ o r. BasesPulled r) f.pulls.0 (λ o apart. h.bases_pulled o);
+        pulled = λ other.
+            of_accounts (λ accounts. PulledTo (next.devices other) accounts (device_named later other))
+            (of_each (λ o r. PulledTo r s.accounts (device_named later o)) f.pulls.1
+            (λ o apart. subst (λ (found : Option Device). PulledTo (w.devices o) s.accounts found) (sym (f.others o apart)) (h.pulled o)) other);
         syncs = λ m token items made is. sync_after token items m made is;
         no_change = h.no_change;
         registers = h.registers;

@@ -9,7 +9,7 @@ use Rattle.sn_account.specs.Incoming.{PutsVersion as RulePuts}
 use Rattle.sn_rows.specs.Table.{Puts}
 use Rattle.sn_laws.proofs.Facts.{end_from-append, number_same, same_number, same_text}
 use Rattle.sn_laws.specs.Each.{Each}
-use Rattle.sn_laws.specs.Lookups.{Bytes}
+use Rattle.sn_laws.specs.Lookups.{Bytes, greatest}
 use Rattle.sn_laws.specs.Moves.{after}
 use Rattle.sn_laws.specs.Runs.{LegalFrom, end_from}
 use Rattle.sn_laws.specs.declared.ideal.Account.{Account}
@@ -35,10 +35,11 @@ use Rattle.sn_world.specs.Serving.{number_of}
 use Rattle.sn_world.proofs.Saying.{AreAccepts}
 use Rattle.sn_world.proofs.Accepting.{move_under, said_is, same_row}
 use Rattle.sn_world.proofs.Lasts.{above_last}
-use Rattle.sn_world.proofs.Steps.{Below, counted, few_after, legal, move, numbered, numbers_kept, serving, version}
+use Rattle.sn_world.proofs.Steps.{Below, counted, few_after, lasts, legal, move, numbered, numbers_kept, serving, version}
 use Rattle.sn_world.proofs.ShowsLemmas.{more}
-use Rattle.sn_shows.specs.Servers.{ShowsAccounts, account_at}
+use Rattle.sn_shows.specs.Servers.{ShowsAccounts, account_at, stamps_in}
 use Rattle.sn_shows.specs.Devices.{ShowsDevice}
+use Rattle.sn_world.proofs.Frames.{LastsBefore}
 
 -- what an accepted row makes of any item of any request, of this account or another
 
@@ -115,6 +116,7 @@ pub record Ran (p q : Progress) (device : Rows) (s : Ideal) (name : Bytes) (n : 
   pub counted : length (end_from s moves).accounts ≡ length s.accounts
   pub few : AreFew s.accounts → AreFew (end_from s moves).accounts
   pub later : p.last ≤ q.last
+  pub lasts : LastsBefore s.accounts (end_from s moves).accounts
   pub live : (j : Item) (rows : Rows) (m : ℕ) → KnownBelow p.last j → LiveItem (p.rows (key.Item j.uuid)) rows m j → LiveItem (q.rows (key.Item j.uuid)) rows m j
 
 stays : (p q : Progress) (device : Rows) (s : Ideal) (name : Bytes) (n : ℕ) (a : Account) (d : Device) → IsAlive p device s name n a d → q.rows ≡ p.rows
@@ -146,6 +148,7 @@ stays p q device s name n a d v rows last changes = record {
   counted = refl;
   few = λ f. f;
   later = omega arith;
+  lasts = λ m b uuid y at found within. (b, at, refl, found);
   live = λ j others m known h. subst (λ (r : Rows). LiveItem (r (key.Item j.uuid)) others m j) (sym rows) h;
 }
 
@@ -185,6 +188,7 @@ accepts low p q device s name n now present a d i v x free within row change put
       few = few_after low p device s name n now present a d i v x free within row change puts;
       counted = counted low p device s name n now present a d i v x free within row change puts;
       later = omega arith;
+      lasts = lasts low p device s name n now present a d i v x free within row change puts;
       live = λ j others m known h.
           subst (λ (r : Rows). LiveItem (r (key.Item j.uuid)) others m j) (sym rows)
           (live_after p n (stamp_of now p.last) i j row change others m puts above known h);
@@ -208,6 +212,13 @@ takes low p q device s name n now present a d i v h (inr (inr (inr (inr (free, w
 
 -- all of them
 
+lasts_both : (first mid later : List Account) → greatest 0 (stamps_in first) ≤ greatest 0 (stamps_in mid) → LastsBefore first mid → LastsBefore mid later
+    → LastsBefore first later
+lasts_both first mid later up x y n b uuid v at found within =
+    let b_mid = y n b uuid v at found (omega arith) in
+    let a_first = x n b_mid.0 uuid v b_mid.1 b_mid.3 within in
+    (a_first.0, a_first.1, a_first.2 ∙ b_mid.2, a_first.3)
+
 pub legal_both : (s : Ideal) (xs ys : List Move) → LegalFrom s xs → LegalFrom (end_from s xs) ys → LegalFrom s (xs ++ ys)
 legal_both s [] ys h k = k
 legal_both s (x ∷ xs) ys h k = (h.0, legal_both (after s x) xs ys h.1 k)
@@ -219,9 +230,9 @@ accepts_both name n k [] ys (m ∷ ms) ns h r = absurd h
 accepts_both name n k (x ∷ xs) ys [] ns h r = absurd h
 accepts_both name n k (x ∷ xs) ys (m ∷ ms) ns h r = (h.0, accepts_both name n k xs ys ms ns h.1 r)
 
-then_ran : (p q r : Progress) (device : Rows) (s : Ideal) (name : Bytes) (n : ℕ) (a : Account) (d : Device) (x : Ran p q device s name n a d)
-    → Ran q r device (end_from s x.moves) name n x.account d → Ran p r device s name n a d
-then_ran p q r device s name n a d x y =
+then_ran : (p q r : Progress) (device : Rows) (s : Ideal) (name : Bytes) (n : ℕ) (a : Account) (d : Device) → p.last ≡ greatest 0 (stamps_in s.accounts)
+    → (x : Ran p q device s name n a d) → Ran q r device (end_from s x.moves) name n x.account d → Ran p r device s name n a d
+then_ran p q r device s name n a d before x y =
     let joined : end_from s (x.moves ++ y.moves) ≡ end_from (end_from s x.moves) y.moves = end_from-append s x.moves y.moves in
     let up : p.last ≤ q.last = x.later in
     let upper : q.last ≤ r.last = y.later in
@@ -248,6 +259,10 @@ then_ran p q r device s name n a d x y =
       counted = subst (λ (t : Ideal). length t.accounts ≡ length s.accounts) (sym joined) (y.counted ∙ x.counted);
       few = λ f. subst (λ (t : Ideal). AreFew t.accounts) (sym joined) (y.few (x.few f));
       later = omega arith;
+      lasts = subst (λ (t : Ideal). LastsBefore s.accounts t.accounts) (sym joined)
+          (lasts_both s.accounts (end_from s x.moves).accounts (end_from (end_from s x.moves) y.moves).accounts
+          (let from : p.last ≡ greatest 0 (stamps_in s.accounts) = before in
+          let to : q.last ≡ greatest 0 (stamps_in (end_from s x.moves).accounts) = x.serving.last in omega arith) x.lasts y.lasts);
       live = λ j rows m known h. y.live j rows m (λ text stamp is spelled. let low : stamp ≤ p.last = known text stamp is spelled in omega arith) (x.live j rows m known h);
     }
 
@@ -271,6 +286,6 @@ takes_all low (i ∷ is) p q device s name n now present a d v known live (inl (
     stays p q device s name n a d v (ap (λ (x : Progress). x.rows) t) (ap (λ (x : Progress). x.last) t) (ap (λ (x : Progress). x.changes) t)
 takes_all low (i ∷ is) p q device s name n now present a d v known live (inr (room, (r, first, rest))) =
     let ran = takes low p r device s name n now present a d i v live.0 first in
-    then_ran p r q device s name n a d ran
+    then_ran p r q device s name n a d v.last ran
     (takes_all low is r q device (end_from s ran.moves) name n now present ran.account d ran.serving (still_known p r is ran.later known.1)
     (still_live p r device n is (λ j k h. ran.live j device n k h) known.1 live.1) rest)

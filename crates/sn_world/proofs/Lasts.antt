@@ -15,7 +15,7 @@ use Rattle.sn_shows.specs.Servers.{account_at, stamps_in}
 
 -- the last version of a list with one more in front
 
-last_cons : (uuid : Bytes) (v : Version) (vs : List Version) → last_of uuid (v ∷ vs) ≡ option_or (last_of uuid vs) (find (is_of uuid) (v ∷ []))
+pub last_cons : (uuid : Bytes) (v : Version) (vs : List Version) → last_of uuid (v ∷ vs) ≡ option_or (last_of uuid vs) (find (is_of uuid) (v ∷ []))
 last_cons uuid v vs = ap (find (is_of uuid)) (reverse-cons v vs) ∙ find-append (is_of uuid) (reverse vs) (v ∷ [])
 
 -- a list without a last version of the item has none of it

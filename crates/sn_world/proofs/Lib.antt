@@ -1,10 +1,16 @@
 pub mod Accepting
+pub mod AccountCalls
 pub mod Alive
 pub mod AnswerSaid
 pub mod Applied
 pub mod AppliedAnswer
+pub mod AppliedPulled
+pub mod AskLemmas
+pub mod AtLast
 pub mod Based
 pub mod Begun
+pub mod CallFronts
+pub mod CallLemmas
 pub mod Committed
 pub mod DeviceRows
 pub mod DeviceSets
@@ -22,6 +28,9 @@ pub mod Making
 pub mod OneSets
 pub mod OwnStrings
 pub mod Posted
+pub mod PulledAll
+pub mod Pulling
+pub mod Pulls
 pub mod PutNew
 pub mod Removing
 pub mod Renewed
@@ -42,6 +51,9 @@ pub mod SignedIn
 pub mod Standing
 pub mod Started
 pub mod Steps
+pub mod SyncCalls
+pub mod Synced
+pub mod SyncsEnd
 pub mod TakenAll
 pub mod TakenClean
 pub mod TakenEnded
@@ -54,3 +66,4 @@ pub mod TakenPosted
 pub mod TakenRenamed
 pub mod Tokens
 pub mod Traced
+pub mod Whole

@@ -51,3 +51,7 @@ each_apart name b (x ∷ xs) none = (
   λ e. none (subst (λ y. Contains (map name (x ∷ xs)) y) e (at_head (name x) (map name xs))),
   each_apart name b xs (λ has. none (behind_head (name x) (map name xs) b has)),
 )
+
+pub each_unmap : {A B : Type 0} (f : A → B) (P : B → Type 0) (xs : List A) → Each P (map f xs) → Each (λ (x : A). P (f x)) xs
+each_unmap f P [] h = tt
+each_unmap f P (x ∷ xs) h = (h.0, each_unmap f P xs h.1)

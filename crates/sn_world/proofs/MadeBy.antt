@@ -135,6 +135,8 @@ module _ (apart : AccountsApart) (live_law : MakesLive) (secret : Bytes) (w next
         numbers = h.numbers;
         own_tokens = h.own_tokens;
         sync_tokens = h.sync_tokens;
+        bases_pulled = h.bases_pulled;
+        pulled = h.pulled;
         syncs = λ o token items one is.
             which (λ z. IsSync z token items → HoldsSync secret w.server (w.devices z.device) s z.device token items)
             (λ k. sync_case m.request x.of token items k.limit k.sync_token k.cursor_token k.is)

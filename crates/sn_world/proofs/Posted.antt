@@ -30,6 +30,7 @@ use Rattle.sn_shows.specs.Servers.{stamps_in}
 use Rattle.sn_world.proofs.DeviceRows.{first_change, one_local, owner_past, posted_put, then_others, sync_tokens_same, token_same, unstale_put, with_device, with_own}
 use Rattle.sn_world.proofs.DeviceSets.{account_is}
 use Rattle.sn_world.proofs.Frames.{DeviceFrame, device_kept, live_kept}
+use Rattle.sn_world.proofs.Pulls.{alike_row, pulls_kept}
 use Rattle.sn_world.proofs.ShowsLemmas.{draft_is, find_changed, find_past_changed, holder_from, not_of_device, not_of_item}
 use Rattle.sn_world.proofs.Steps.{reached_more}
 use Rattle.sn_world.specs.Committing.{AreDifferent, IsPostOf}
@@ -159,6 +160,9 @@ module _ (shows : PostedShows) (keeps : PostKeeps) (secret : Bytes) (w next : Wo
 
   frame : DeviceFrame secret w rows s later name
   frame = record {
+    pulls = pulls_kept (w.devices name) rows s.accounts (device_named s name)
+        (alike_row (w.devices name) change number local new x.stands x.puts.puts (ap (λ (c : Columns). c.uuid) x.puts.columns_are)
+        (ap (λ (c : Columns). c.base) x.puts.columns_are)) (h.bases_pulled name) (h.pulled name);
     reached = reached_more s (Post name local.uuid) tt h.reached legal;
     accounts = refl;
     others = λ other off. refl;
@@ -226,6 +230,7 @@ nothing_changed secret w next s name h on = device_kept secret w next s s name [
   numbers = h.numbers;
   own_token = h.own_tokens name;
   sync_tokens = h.sync_tokens name;
+  pulls = (h.bases_pulled name, h.pulled name);
   tokens = λ t k. k;
   live = λ t n tok session i k. k;
 })

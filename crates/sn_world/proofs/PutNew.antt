@@ -28,6 +28,7 @@ use Rattle.sn_shows.specs.Servers.{stamps_in}
 use Rattle.sn_world.proofs.DeviceRows.{local_past, one_owner, posted_both, posted_put, posted_same, puts_new, sync_tokens_kept, unstale_put, unstale_same}
 use Rattle.sn_world.proofs.DeviceSets.{account_is, free_undrafted, identifier_of, next_is_free, present_at}
 use Rattle.sn_world.proofs.Frames.{DeviceFrame, KeepsPosted, device_kept, live_kept}
+use Rattle.sn_world.proofs.Pulls.{alike_put, pulls_kept, stays_both, stays_put, stays_same}
 use Rattle.sn_world.proofs.ShowsLemmas.{holder_from}
 use Rattle.sn_world.proofs.Steps.{reached_more}
 use Rattle.sn_world.specs.Holds.{DeviceToken, Holds, NumbersOf}
@@ -176,6 +177,16 @@ module _ (edit_law : EditedShows) (tokens_law : TokensShow) (keeps : EditKeeps) 
 
   frame : DeviceFrame secret w rows s later name
   frame = record {
+    pulls = pulls_kept before rows s.accounts (device_named s name)
+        (record {
+          stays = λ item.
+              stays_both before mid rows item
+              (stays_put before x.item x.owner.next local item x.item_is.puts
+              (λ was stands own. let free = next_is_free before x.owner (h.sound name) x.holds.owned in absurd (cc))
+              (λ own none. ap (λ (c : Columns). c.base) x.item_is.columns_are))
+              (stays_same mid rows (local_past mid x.counted (value.Owner new) x.counted_is.puts_it) item);
+          token = alike_put before rows x.owner new x.holds.owned here (ap (λ (c : OwnerColumns). c.sync_token) x.counted_is.columns_are);
+        }) (h.bases_pulled name) (h.pulled name);
     reached = reached_more s (Edit name uuid kind None (content.Plain text)) tt h.reached legal;
     accounts = refl;
     others = λ other off. refl;

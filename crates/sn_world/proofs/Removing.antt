@@ -12,7 +12,7 @@ use Rattle.sn_rows.specs.declared.value.Value.TheVariants as value
 use Rattle.sn_shows.proofs.Facts.{none_left}
 use Rattle.sn_shows.specs.Devices.{ShowsDevice}
 use Rattle.sn_shows.specs.Laws.{HasAccount}
-use Rattle.sn_world.specs.Settling.{HasNoBase}
+use Rattle.sn_world.specs.Pulled.{HasNoBase}
 
 -- so none stands on a version
 pub no_row : (rows : Rows) (s : Ideal) (name : Bytes) (local : ℕ) (item : LocalItem) (d : Device) (a : Account) (change : Change) → ShowsDevice rows s name

@@ -18,6 +18,7 @@ use Rattle.sn_shows.specs.Laws.{AccountsApart, HasAccount, TokensShow}
 use Rattle.sn_shows.specs.Servers.{stamps_in}
 use Rattle.sn_world.proofs.DeviceRows.{local_past, one_owner, posted_same, sync_tokens_kept, unstale_same}
 use Rattle.sn_world.proofs.Frames.{DeviceFrame, device_kept, live_kept}
+use Rattle.sn_world.proofs.Pulls.{alike_put, pulls_kept, stays_same}
 use Rattle.sn_world.proofs.ShowsLemmas.{holder_from}
 use Rattle.sn_world.proofs.Tokens.{apart_of}
 use Rattle.sn_world.specs.Committing.{MayRenew}
@@ -77,6 +78,11 @@ module _ (apart : AccountsApart) (law : TokensShow) (secret : Bytes) (w next : W
         });
         shows_others = λ at other off k. k;
         sound = sound;
+        pulls = pulls_kept (w.devices name) rows s.accounts (device_named s name)
+            (record {
+              stays = stays_same (w.devices name) rows (local_past (w.devices name) x.change (value.Owner new) x.renewed.puts_it);
+              token = alike_put (w.devices name) rows x.owner new x.owned here (ap (λ (c : OwnerColumns). c.sync_token) x.renewed.columns_are);
+            }) (h.bases_pulled name) (h.pulled name);
         unstale = unstale_same (w.devices name) rows (local_past (w.devices name) x.change (value.Owner new) x.renewed.puts_it) (h.unstale name);
         numbers = h.numbers;
         own_token = token_after;

@@ -3,7 +3,7 @@ use Rattle.std.proofs.Common.{◌≡◌, ℕ, List, [], ◌∷◌, ◌++◌, Opt
 use Rattle.rand_chacha.specs.ChaCha.{ChaCha}
 use Rattle.sn_account.specs.Rule.{Rule}
 use Rattle.sn_account.specs.Tells.{AreApart, uuids}
-use Rattle.sn_client.specs.Runs.{IsRound, Round, Standing, items_of}
+use Rattle.sn_client.specs.Runs.{IsRound, Round, Sends, Standing, items_of}
 use Rattle.sn_client.specs.Sending.{PostsAll}
 use Rattle.sn_client.specs.States.{HasLocal, IsSound}
 use Rattle.sn_client.specs.Steps.{Step, applies, posts}
@@ -29,7 +29,7 @@ use Rattle.sn_world.specs.Committing.{AreDifferent, Commits}
 use Rattle.sn_world.specs.Happens.{Trace, commits, makes, serves}
 use Rattle.sn_world.specs.Holds.{Holds, TokensDiffer}
 use Rattle.sn_world.specs.Laws.{KeepsCommitting, KeepsMaking, KeepsServing, SendsArePosted, ServedTells}
-use Rattle.sn_world.specs.Making.{Makes, MakesOf}
+use Rattle.sn_world.specs.Making.{Makes, MakesOf, SendsTokens}
 use Rattle.sn_world.specs.Rounds.{GoesRound, RoundsGo, made_by, posting_steps}
 use Rattle.sn_world.specs.Serving.{Serves, moves_for}
 use Rattle.sn_world.specs.World.{Made, OnDevice, World}
@@ -42,7 +42,7 @@ pub record RoundLaws : Type 0 where
   pub tells : ServedTells
   pub sends : SendsArePosted
 
-changed_device : (w : World) (name : Bytes) (changes : List Change) → OnDevice w (with_device w name (rows_after (w.devices name) changes)) name changes
+pub changed_device : (w : World) (name : Bytes) (changes : List Change) → OnDevice w (with_device w name (rows_after (w.devices name) changes)) name changes
 changed_device w name changes = record {
   server = refl;
   own = with_own w name (rows_after (w.devices name) changes);
@@ -73,9 +73,9 @@ module _ (laws : RoundLaws) (secret : Bytes) (differ : TokensDiffer secret) (nam
   abbrev last : Request → World
   last r = with_device (served r) name (rows_after (w.devices name) applied)
 
-  pub goes_on : (r : Request) (given : Answer) → FitsRequest r → MakesOf (w.devices name) None r → AreApart (uuids (items_of r)) → Rule w.server r now changes given
+  pub goes_on : (r : Request) (given : Answer) → FitsRequest r → MakesOf (w.devices name) None r → AreApart (uuids (items_of r)) → SendsTokens (w.devices name) r → Rule w.server r now changes given
       → Step (w.devices name) words (applies r given) applied left → GoesOn secret name w s now changes applied r given
-  goes_on (request.Sync token items limit sync_token cursor_token) (answer.Sync conflicts cursor retrieved saved next_token) fits makes_it apart rule step =
+  goes_on (request.Sync token items limit sync_token cursor_token) (answer.Sync conflicts cursor retrieved saved next_token) fits makes_it apart tokens rule step =
       let r : Request = request.Sync token items limit sync_token cursor_token in
       let given : Answer = answer.Sync conflicts cursor retrieved saved next_token in
       let makes_so : Makes w (made r) (m r) = record { of = makes_it; server = refl; devices = refl; made = refl } in
@@ -85,7 +85,7 @@ module _ (laws : RoundLaws) (secret : Bytes) (differ : TokensDiffer secret) (nam
       let first : List Move = moves_for w.server name None r changes in
       let told =
       laws.tells secret (made r) (served r) s (m r) token items now changes first conflicts cursor retrieved saved next_token differ h_made
-      (record { limit = limit; sync_token = sync_token; cursor_token = cursor_token; is = refl }) makes_it.from apart serves_so refl in
+      (record { limit = limit; sync_token = sync_token; cursor_token = cursor_token; is = refl }) makes_it.from tokens apart serves_so refl in
       let h_served : Holds secret (served r) (end_from s first) = (laws.serve secret (made r) (served r) s (m r) now changes given first differ h_made serves_so refl).1 in
       let says = answer_said laws.apart secret (served r) (end_from s first) h_served name words left r given applied step told in
       record {
@@ -119,19 +119,31 @@ module _ (laws : RoundLaws) (secret : Bytes) (differ : TokensDiffer secret) (nam
           refl,
         );
       }
-  goes_on (request.Sync token items limit sync_token cursor_token) (answer.Account other identifier uuid) fits makes_it apart rule step = absurd step
-  goes_on (request.Sync token items limit sync_token cursor_token) (answer.Params params) fits makes_it apart rule step = absurd step
-  goes_on (request.Sync token items limit sync_token cursor_token) (answer.Refused status tag more) fits makes_it apart rule step = absurd step
-  goes_on (request.Register params pw) given fits makes_it apart rule step = absurd step
-  goes_on (request.Params identifier) given fits makes_it apart rule step = absurd step
-  goes_on (request.SignIn identifier pw) given fits makes_it apart rule step = absurd step
-  goes_on (request.ChangePw token current pw cost nonce) given fits makes_it apart rule step = absurd step
+  goes_on (request.Sync token items limit sync_token cursor_token) (answer.Account other identifier uuid) fits makes_it apart tokens rule step = absurd step
+  goes_on (request.Sync token items limit sync_token cursor_token) (answer.Params params) fits makes_it apart tokens rule step = absurd step
+  goes_on (request.Sync token items limit sync_token cursor_token) (answer.Refused status tag more) fits makes_it apart tokens rule step = absurd step
+  goes_on (request.Register params pw) given fits makes_it apart tokens rule step = absurd step
+  goes_on (request.Params identifier) given fits makes_it apart tokens rule step = absurd step
+  goes_on (request.SignIn identifier pw) given fits makes_it apart tokens rule step = absurd step
+  goes_on (request.ChangePw token current pw cost nonce) given fits makes_it apart tokens rule step = absurd step
 
 -- ---- a round
 
 posted_none : (rows : Rows) (posted : List Change) → PostsAll rows [] posted → posted ≡ []
 posted_none rows [] all = refl
 posted_none rows (c ∷ cs) all = absurd all
+
+-- what is posted and sent of the rows of a world that holds
+pub sent_of : SendsArePosted → (secret : Bytes) (w : World) (s : Ideal) (name : Bytes) (rows : Rows) → Holds secret w s → w.devices name ≡ rows
+    → (numbers : List ℕ) (posted : List Change) (r : Request) (ready : Rows) → Sends rows numbers posted r ready
+    → AreDifferent numbers × ((begins : Option KeySet) → MakesOf ready begins r) × AreApart (uuids (items_of r)) × SendsTokens ready r
+sent_of are_posted secret w s name rows h rows_are numbers posted r ready sends =
+    are_posted rows numbers posted r ready (subst (λ (r : Rows). IsSound r) rows_are (h.sound name)) none_stale sends
+  where
+    none_stale : (number : ℕ) (local : LocalItem) → HasLocal rows number local → ¬ (local.stale ≡ true)
+    none_stale number local there stale =
+        let fresh : local.stale ≡ false = h.unstale name number local (ap (λ (r : Rows). r (key.Local number)) rows_are ∙ there) in
+        cc
 
 module _ (laws : RoundLaws) (secret : Bytes) (w : World) (s : Ideal) (name : Bytes) (at : Standing) (round : Round) (after : Standing) (now : ℕ)
     (changes : List Change) (differ : TokensDiffer secret) (h : Holds secret w s) (fits : FitsRequest round.request) (rows_are : w.devices name ≡ at.rows)
@@ -140,14 +152,9 @@ module _ (laws : RoundLaws) (secret : Bytes) (w : World) (s : Ideal) (name : Byt
   ready_is : x.ready ≡ rows_after at.rows round.posted
   ready_is = x.sends.ready_is
 
-  none_stale : (number : ℕ) (local : LocalItem) → HasLocal at.rows number local → ¬ (local.stale ≡ true)
-  none_stale number local there stale =
-      let fresh : local.stale ≡ false = h.unstale name number local (ap (λ (r : Rows). r (key.Local number)) rows_are ∙ there) in
-      cc
-
   sends : AreDifferent round.numbers × ((begins : Option KeySet) → MakesOf x.ready begins round.request) × AreApart (uuids (items_of round.request))
-  sends =
-      laws.sends at.rows round.numbers round.posted round.request x.ready (subst (λ (r : Rows). IsSound r) rows_are (h.sound name)) none_stale x.sends
+      × SendsTokens x.ready round.request
+  sends = sent_of laws.sends secret w s name at.rows h rows_are round.numbers round.posted round.request x.ready x.sends
 
   -- from the rows that the posting leaves
   behind : (v : World) (t : Ideal) → Holds secret v t → v.server ≡ w.server → v.devices name ≡ x.ready
@@ -155,6 +162,7 @@ module _ (laws : RoundLaws) (secret : Bytes) (w : World) (s : Ideal) (name : Byt
   behind v t k server device =
       goes_on laws secret differ name v t k at.words x.left now changes round.applied round.request round.given fits
       (subst (λ (r : Rows). MakesOf r None round.request) (sym device) (sends.1 None)) sends.2
+      (subst (λ (r : Rows). SendsTokens r round.request) (sym device) sends.3)
       (subst (λ (r : Rows). Rule r round.request now changes round.given) (sym server) rule)
       (subst (λ (r : Rows). Step r at.words (applies round.request round.given) round.applied x.left) (sym device) x.step)
 

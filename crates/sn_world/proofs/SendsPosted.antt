@@ -12,7 +12,7 @@ use Rattle.std.specs.Prelude.{IsSome}
 use Rattle.sn_account.specs.Tells.{AreApart, uuids}
 use Rattle.sn_client.specs.Runs.{items_of}
 use Rattle.sn_client.specs.Sending.{AreSentAs, AreUnsent, IsSentAs, IsUnsent, IsWaiting, Numbered, Posts, PostsAll, SaysBase, as_posted, first_some}
-use Rattle.sn_client.specs.States.{Columns, HasLocal, IsSound, columns}
+use Rattle.sn_client.specs.States.{Columns, HasLocal, IsSound, columns, token_of}
 use Rattle.sn_laws.specs.Each.{Each}
 use Rattle.sn_laws.specs.Lookups.{Bytes}
 use Rattle.sn_rows.specs.Facts.{put_elsewhere, put_here}
@@ -24,12 +24,13 @@ use Rattle.sn_rows.specs.declared.key.Key.TheVariants as key
 use Rattle.sn_rows.specs.declared.value.Value.TheVariants as value
 use Rattle.sn_sync.specs.declared.item.Item.{Item}
 use Rattle.sn_sync.specs.declared.request.Request.{Request}
-use Rattle.sn_world.proofs.DeviceRows.{one_local, owner_past}
+use Rattle.sn_world.proofs.DeviceRows.{one_local, one_owner, owner_past}
 use Rattle.sn_world.proofs.Lists.{each_contained, each_map, of_each}
 use Rattle.sn_world.proofs.Posted.{all_past}
 use Rattle.sn_world.specs.Committing.{AreDifferent}
 use Rattle.sn_world.specs.Laws.{SendsArePosted}
-use Rattle.sn_world.specs.Making.{IsPostedOf, MakesOf, SendsPosted}
+use Rattle.sn_world.specs.Making.{IsPostedOf, MakesOf, SendsPosted, SendsTokens}
+use Rattle.sn_rows.specs.declared.device_rows.OwnerRow.{OwnerRow}
 
 -- ---- numbers that rise
 
@@ -251,4 +252,9 @@ sends_are_posted rows numbers posted r ready sound none_stale x =
           }),
       subst (λ (q : Request). AreApart (uuids (items_of q))) (sym request.request_is)
           (items_apart rows sound x.chosen request.items distinct waits request.items_are),
+      subst (λ (q : Request). SendsTokens ready q) (sym request.request_is)
+          (λ owner has.
+          let same : x.owner ≡ owner =
+          one_owner x.owner owner (ready key.Owner) (ap (λ (f : Rows). f key.Owner) x.ready_is ∙ owner_stays rows numbers posted x.posts_them differ ∙ x.owned) has in
+          (ap (λ (o : OwnerRow). token_of o.sync_token) (sym same), ap (λ (o : OwnerRow). token_of o.cursor_token) (sym same))),
     )

@@ -33,7 +33,7 @@ module _ (low : Below) (stays : StaysSound) (register_law : RegisteredShows) (ke
 
   by_route : (r : Request) → m.request ≡ r → (store : StoreRow) → HasStore w.server store → RuleOf w.server store r now changes given → KeptFor r
   by_route (request.Register params pw) is store stands rule =
-      registers low.store register_law keeps_law secret w next s h store stands params pw changes given m.begins (h.registers m params pw x.made is) x.on sound rule
+      registers low.one_token low.store register_law keeps_law secret w next s h store stands params pw changes given m.begins (h.registers m params pw x.made is) x.on sound rule
   by_route (request.Params identifier) is store stands rule = unchanged secret w next s changes h x.on rule.0
   by_route (request.SignIn identifier pw) is store stands rule = unchanged secret w next s changes h x.on rule.0
   by_route (request.ChangePw token current pw cost nonce) is store stands rule = absurd (h.no_change m token current pw cost nonce x.made is)

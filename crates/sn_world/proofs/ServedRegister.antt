@@ -12,7 +12,7 @@ use Rattle.sn_account.specs.Sound.{IsSound as IsSoundServer, most_accounts, most
 use Rattle.sn_keys.specs.Keys.{check_value}
 use Rattle.sn_laws.proofs.Facts.{allowed_to, each_front, find_before, one_there}
 use Rattle.sn_laws.specs.Each.{Each}
-use Rattle.sn_laws.specs.Lookups.{Bytes, account_named, device_named, greatest, is_account}
+use Rattle.sn_laws.specs.Lookups.{Bytes, account_named, device_named, greatest, is_account, last_of}
 use Rattle.sn_laws.specs.Moves.{after, allows}
 use Rattle.sn_laws.specs.Relation.{IsOnLast}
 use Rattle.sn_laws.specs.declared.ideal.Account.{Account}
@@ -50,6 +50,7 @@ use Rattle.sn_world.specs.Laws.{KeptBy, RegisteredBegins}
 use Rattle.sn_world.specs.Live.{LiveItem}
 use Rattle.sn_world.specs.Serving.{registers_in}
 use Rattle.sn_world.specs.World.{OnServer, World}
+use Rattle.sn_sync.specs.Laws.{HasOneToken}
 
 -- a new account has no stamps
 same_stamps : (accounts : List Account) (identifier : Bytes) (set : KeySet) → stamps_in (accounts ++ new_account identifier set ∷ []) ≡ stamps_in accounts
@@ -58,7 +59,7 @@ same_stamps accounts identifier set =
     ∙ ap (λ (xs : List ℕ). stamps_in accounts ++ xs) (flat_map-cons (λ (a : Account). map (λ (v : Version). v.stamp) a.versions) (new_account identifier set) [])
     ∙ append-nil (stamps_in accounts)
 
-module _ (store_law : StoreShows) (register_law : RegisteredShows) (keeps_law : RegisterKeeps) (secret : Bytes) (w next : World) (s : Ideal) (h : Holds secret w s)
+module _ (one_token : HasOneToken) (store_law : StoreShows) (register_law : RegisteredShows) (keeps_law : RegisterKeeps) (secret : Bytes) (w next : World) (s : Ideal) (h : Holds secret w s)
     (store : StoreRow) (stands : HasStore w.server store) (params : Params) (pw : Bytes) (changes : List Change) (given : Answer)
     (unknown : IsUnknown w.server params.identifier) (room : store.accounts < most_accounts) (x : Begins store params pw changes given)
     (set : KeySet) (params_are : params ≡ set.params) (pw_is : pw ≡ set.pw) (on : OnServer w next changes) (sound : IsSoundServer (rows_after w.server changes)) where
@@ -195,6 +196,11 @@ module _ (store_law : StoreShows) (register_law : RegisteredShows) (keeps_law : 
     accounts = λ k a at. (a, account_before s.accounts new k a at, refl, refl);
     last = let same : greatest 0 (stamps_in s.accounts) ≡ greatest 0 (stamps_in later.accounts) = last_same in omega arith;
     session = session_before;
+    lasts = λ k b uuid v at found within.
+        ⊎_elim (λ (old : account_at k s.accounts ≡ Some b). (b, old, refl, found))
+        (λ (added : (k ≡ length s.accounts + 1) × (new ≡ b)).
+        let none : None ≡ Some v = ap (λ (c : Account). last_of uuid c.versions) added.1 ∙ found in absurd (cc))
+        (account_cases s.accounts new k b at);
     live = λ rows k i below live. subst (λ (found : Option Value). LiveItem found rows k i) (sym (item_row i.uuid)) live;
   }
 
@@ -202,7 +208,7 @@ module _ (store_law : StoreShows) (register_law : RegisteredShows) (keeps_law : 
   registered = (
     (legal, tt),
     same_world secret next later server w.devices w.made (on.server ∙ ap (rows_after w.server) x.changes_are) on.devices on.made
-        (server_kept secret w server s later h frame),
+        (server_kept one_token secret w server s later h frame),
   )
 
 idle : (secret : Bytes) (w next : World) (s : Ideal) (identifier : Bytes) (begins : Option KeySet) (changes : List Change) → Holds secret w s
@@ -216,18 +222,18 @@ idle secret w next s identifier begins changes h on none =
     of_none (Some set) = refl
 
 -- a registration that is served
-pub registers : StoreShows → RegisteredShows → RegisterKeeps → (secret : Bytes) (w next : World) (s : Ideal) → Holds secret w s
+pub registers : HasOneToken → StoreShows → RegisteredShows → RegisterKeeps → (secret : Bytes) (w next : World) (s : Ideal) → Holds secret w s
     → (store : StoreRow) → HasStore w.server store → (params : Params) (pw : Bytes) (changes : List Change) (given : Answer) (begins : Option KeySet)
     → BeginsSet begins params pw → OnServer w next changes → IsSoundServer (rows_after w.server changes) → Registers w.server store params pw changes given
     → KeptBy secret next s (registers_in params.identifier begins changes)
-registers store_law register_law keeps_law secret w next s h store stands params pw changes given begins b on sound (inl (taken, refused)) =
+registers one_token store_law register_law keeps_law secret w next s h store stands params pw changes given begins b on sound (inl (taken, refused)) =
     idle secret w next s params.identifier begins changes h on refused.0
-registers store_law register_law keeps_law secret w next s h store stands params pw changes given begins b on sound (inr (inl (unknown, full, refused))) =
+registers one_token store_law register_law keeps_law secret w next s h store stands params pw changes given begins b on sound (inr (inl (unknown, full, refused))) =
     idle secret w next s params.identifier begins changes h on refused.0
-registers store_law register_law keeps_law secret w next s h store stands params pw changes given begins b on sound (inr (inr (unknown, room, x))) =
+registers one_token store_law register_law keeps_law secret w next s h store stands params pw changes given begins b on sound (inr (inr (unknown, room, x))) =
     subst (λ (o : Option KeySet). KeptBy secret next s (registers_in params.identifier o changes)) (sym b.is)
     (subst (λ (c : List Change). KeptBy secret next s (registers_in params.identifier (Some b.set) c)) (sym x.changes_are)
-    (registered store_law register_law keeps_law secret w next s h store stands params pw changes given unknown room x b.set b.params_are b.pw_is on sound))
+    (registered one_token store_law register_law keeps_law secret w next s h store stands params pw changes given unknown room x b.set b.params_are b.pw_is on sound))
 
 -- the answer to it gives what a device may begin with
 pub registered_begins : RegisteredBegins

@@ -166,6 +166,7 @@ module _ (low : Below) (secret : Bytes) (w next : World) (s : Ideal) (differ : T
           there = sym (elsewhere (key.Account k) refl ∙ ran.spares k) ∙ z.there;
           is = z.is ∙ ap (λ (c : Bytes). session_token c k z.account.generation) (ap (λ (c : StoreRow). c.secret) (store_is z.store z.stands) ∙ secret_is);
         };
+        lasts = ran.lasts;
         live = λ rows k j below live.
             subst (λ (found : Option Value). LiveItem found rows k j) (sym (elsewhere (key.Item j.uuid) refl))
             (ran.live j rows k (subst (λ (c : ℕ). KnownBelow c j) (sym counts.last) below) live);
@@ -179,7 +180,7 @@ module _ (low : Below) (secret : Bytes) (w next : World) (s : Ideal) (differ : T
       kept : Kept
       kept =
           subst (λ (moves : List Move). KeptBy secret next s moves) (sym said)
-          (ran.legal, same_world secret next later server w.devices w.made server_is on.devices on.made (server_kept secret w server s later h frame))
+          (ran.legal, same_world secret next later server w.devices w.made server_is on.devices on.made (server_kept low.one_token secret w server s later h frame))
 
     synced : Kept
     synced =

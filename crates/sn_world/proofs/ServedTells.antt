@@ -1,14 +1,15 @@
 -- What a sync is answered with is what its device may apply.
-use Rattle.std.proofs.Common.{◌≡◌, ℕ, List, Some, sym, ap, ◌∙◌, subst}
+use Rattle.std.proofs.Common.{◌≡◌, ℕ, List, Option, Some, sym, ap, ◌∙◌, subst}
 use Rattle.sn_account.specs.Rule.{Rule}
 use Rattle.sn_account.specs.Sessions.{IsSession, session_token}
-use Rattle.sn_account.specs.Syncs.{above_of, is_first}
+use Rattle.sn_account.specs.Syncs.{IsStampOf, above_of, is_first}
 use Rattle.sn_account.specs.Tells.{SyncsTell, TellsRows}
 use Rattle.sn_laws.specs.Each.{Each}
 use Rattle.sn_laws.specs.Lookups.{Bytes, device_named}
 use Rattle.sn_laws.specs.Runs.{end_from}
 use Rattle.sn_laws.specs.declared.moves.Move.{Move}
 use Rattle.sn_rows.specs.Table.{Rows}
+use Rattle.sn_rows.specs.declared.key.Key.TheVariants as key
 use Rattle.sn_shows.specs.Laws.{AccountsApart}
 use Rattle.sn_shows.specs.Servers.{account_at}
 use Rattle.sn_sync.specs.declared.answer.Answer.TheVariants as answer
@@ -23,7 +24,7 @@ use Rattle.sn_world.specs.Serving.{moves_for}
 use Rattle.sn_world.specs.World.{IsMade, Made}
 
 pub served_tells : AccountsApart → SyncsTell → KeepsServing → ServedTells
-served_tells apart tell keeps secret w next s m token items now changes moves conflicts cursor retrieved saved next_token differ h is posted items_apart x says =
+served_tells apart tell keeps secret w next s m token items now changes moves conflicts cursor retrieved saved next_token differ h is posted from_tokens items_apart x says =
     let holds_next : Holds secret next (end_from s moves) =
     (keeps secret w next s m now changes (answer.Sync conflicts cursor retrieved saved next_token) moves differ h x says).1 in
     let made_next : IsMade next m = subst (λ (xs : List Made). IsMade (record { server = next.server; devices = next.devices; made = xs }) m) (sym x.on.made) x.made in
@@ -54,7 +55,10 @@ served_tells apart tell keeps secret w next s m token items now changes moves co
       posted = subst (λ (f : Bytes → Rows). Each (IsPostedOf (f m.device)) items) (sym x.on.devices) posted;
       present = told.1;
       params_are = params_after w.server s moves told.0 tok.account told.1 h.server.all accepts at_now told.5;
-      above = above_of told.2 told.3;
-      first = is_first told.2 told.3;
+      sync = told.2;
+      from = told.3;
+      since = λ owner has.
+          let tokens = from_tokens owner (ap (λ (f : Bytes → Rows). f m.device key.Owner) (sym x.on.devices) ∙ has) in
+          (subst (λ (o : Option Bytes). IsStampOf o told.2) (sym tokens.0) told.6, subst (λ (o : Option Bytes). IsStampOf o told.3) (sym tokens.1) told.7);
       tells = subst (λ (r : Rows). TellsRows r told.0 told.1 items (above_of told.2 told.3) (is_first told.2 told.3) conflicts cursor retrieved saved next_token) (sym x.on.server) told.8;
     }

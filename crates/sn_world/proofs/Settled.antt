@@ -1,5 +1,5 @@
 -- A saved item that is applied to its row keeps the invariant.
-use Rattle.std.proofs.Common.{◌≡◌, ℕ, [], ◌∷◌, Option, Some, None, Bool, true, false, refl, sym, ap, ◌∙◌, subst}
+use Rattle.std.proofs.Common.{◌≡◌, ◌≢◌, ℕ, [], ◌∷◌, Option, Some, None, Bool, true, false, refl, sym, ap, ◌∙◌, subst}
 use Rattle.std.specs.Prelude.{IsTrue}
 use Rattle.std.specs.Str.{bytes_eq}
 use Rattle.sn_account.specs.Sessions.{IsSession}
@@ -22,16 +22,19 @@ use Rattle.sn_shows.specs.Laws.{AccountsApart, SettleKeeps}
 use Rattle.sn_sync.specs.declared.item.Item.{Item}
 use Rattle.sn_world.proofs.Based.{takes_fresh}
 use Rattle.sn_laws.specs.Lookups.{greatest}
-use Rattle.sn_shows.specs.Servers.{stamps_in}
-use Rattle.sn_world.proofs.DeviceRows.{owner_past, sync_tokens_same, token_same, unstale_put}
-use Rattle.sn_world.proofs.Frames.{DeviceFrame, device_kept}
+use Rattle.sn_client.specs.States.{Columns}
+use Rattle.sn_shows.specs.Servers.{account_at, stamps_in}
+use Rattle.sn_world.proofs.DeviceRows.{one_local, owner_past, sync_tokens_same, token_same, unstale_put}
+use Rattle.sn_world.proofs.Frames.{DeviceFrame, HasPulled, device_kept}
+use Rattle.sn_world.proofs.Pulls.{StaysAt, stays_on, stays_put}
 use Rattle.sn_world.proofs.ShowsLemmas.{draft_is, find_past_without, find_without, not_of_device, not_of_item}
 use Rattle.sn_world.proofs.Steps.{reached_more}
 use Rattle.sn_world.proofs.Tokens.{apart_of, named_identifier, token_session}
 use Rattle.sn_world.specs.Holds.{HasToken, Holds, TokensDiffer}
 use Rattle.sn_world.specs.Laws.{KeepsSettling, KeptBy, Settles}
 use Rattle.sn_world.specs.Live.{LiveItem}
-use Rattle.sn_world.specs.Settling.{AppliesLive, PulledAt, SettlesOwn}
+use Rattle.sn_world.specs.Pulled.{PulledAt, PulledTo}
+use Rattle.sn_world.specs.Settling.{AppliesLive, SettlesOwn}
 use Rattle.sn_world.specs.World.{World}
 
 -- a move of drafts leaves what stands on last versions
@@ -87,8 +90,42 @@ module _ (apart : AccountsApart) (own_law : SettlesOwn) (live_law : AppliesLive)
       (live_law w.server (w.devices name) x.n x.number local x.sent i j change x.meets.meets.stands.0 x.sends x.meets.meets.stored x.saved x.takes.puts.puts.key_is
       (subst (λ (o : ℕ). LiveItem (w.server (key.Item j.uuid)) (w.devices name) o j) (sym same) was))
 
+  owner_same : rows key.Owner ≡ w.devices name key.Owner
+  owner_same = owner_past (w.devices name) change x.number (value.Local x.takes.puts.local) x.takes.puts.puts
+
+  -- each other row stays
+  other_stays : (uuid : Bytes) → uuid ≢ i.uuid → StaysAt (w.devices name) rows uuid
+  other_stays uuid off =
+      stays_put (w.devices name) change x.number x.takes.puts.local uuid x.takes.puts.puts
+      (λ was there is.
+      let same : was ≡ local = one_local was local (w.devices name (key.Local x.number)) there x.meets.meets.stands.0 in
+      absurd (off (sym is ∙ ap (λ (l : LocalItem). l.uuid) same ∙ x.meets.meets.stands.1)))
+      (λ is. absurd (off (sym is ∙ ap (λ (c : Columns). c.uuid) x.takes.puts.columns_are ∙ x.takes.stands_on.uuid_is)))
+
+  pulls : HasPulled rows s.accounts (device_named s name)
+  pulls = (λ owner there none. absurd (x.synced owner (sym owner_same ∙ there) none), pulled)
+    where
+      pulled : PulledTo rows s.accounts (device_named s name)
+      pulled d number a owner text stamp named at names there token is uuid = by (bytes_eq uuid i.uuid) refl
+        where
+          same_account : x.account ≡ a
+          same_account =
+              let device : x.device ≡ d = one_there x.device d (device_named s name) x.meets.meets.has.device named in
+              let own_name : x.account.identifier ≡ a.identifier =
+              named_identifier s x.device.account x.account x.meets.meets.has.account ∙ ap (λ (z : Device). z.account) device ∙ sym names in
+              let number_same : x.n ≡ number = apart_of apart s h.reached x.n number x.account a x.meets.meets.at at own_name in
+              one_there x.account a (account_at number s.accounts) (subst (λ (k : ℕ). account_at k s.accounts ≡ Some x.account) number_same x.meets.meets.at) at
+
+          by : (b : Bool) → bytes_eq uuid i.uuid ≡ b → PulledAt rows a stamp uuid
+          by true same =
+              subst (λ (u : Bytes). PulledAt rows a stamp u) (sym (same_text uuid i.uuid same)) (subst (λ (b : Account). PulledAt rows b stamp i.uuid) same_account (own.2 stamp))
+          by false off =
+              stays_on (w.devices name) rows a stamp uuid (other_stays uuid (λ e. clash (bytes_eq uuid i.uuid) (text_same uuid i.uuid e) off))
+              (h.pulled name d number a owner text stamp named at names (sym owner_same ∙ there) token is uuid)
+
   frame : DeviceFrame secret w rows s later name
   frame = record {
+    pulls = pulls;
     reached = reached_more s (Settle name i.uuid) tt h.reached own.0;
     accounts = refl;
     others = λ other off. refl;

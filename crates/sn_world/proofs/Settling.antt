@@ -9,10 +9,9 @@ use Rattle.sn_items.specs.declared.sealed.Sealed.{Sealed}
 use Rattle.sn_laws.proofs.Facts.{allowed_to, one_there}
 use Rattle.sn_laws.specs.Lookups.{Bytes, draft_at, greatest, last_of}
 use Rattle.sn_laws.specs.Moves.{after, allows}
-use Rattle.sn_laws.specs.Relation.{IsContentOf, IsLive}
+use Rattle.sn_laws.specs.Relation.{IsContentOf}
 use Rattle.sn_laws.specs.declared.ideal.Account.{Account}
 use Rattle.sn_laws.specs.declared.ideal.Body.{Body}
-use Rattle.sn_laws.specs.declared.ideal.Body.TheVariants.{Gone}
 use Rattle.sn_laws.specs.declared.ideal.Content.{Content}
 use Rattle.sn_laws.specs.declared.ideal.Content.TheVariants as content
 use Rattle.sn_laws.specs.declared.ideal.Device.{Device}
@@ -43,11 +42,13 @@ use Rattle.sn_sync.specs.Laws.{HasOneStamp}
 use Rattle.sn_sync.specs.declared.item.Body.{Body as Sent}
 use Rattle.sn_sync.specs.declared.item.Body.TheVariants as body
 use Rattle.sn_sync.specs.declared.item.Item.{Item}
+use Rattle.sn_world.proofs.AtLast.{IsAtLast, LastTold, at_gone, at_live, last_told}
 use Rattle.sn_world.proofs.Based.{Based, based_on, given_gone, given_strings, gone_version, live_version, sealed_same}
 use Rattle.sn_world.proofs.DeviceSets.{account_is, identifier_of, one_set_row, present_at, row_draft, set_of_row}
 use Rattle.sn_world.proofs.Removing.{no_row}
 use Rattle.sn_world.proofs.Standing.{its_last}
-use Rattle.sn_world.specs.Settling.{HasNoBase, MeetsStored, OneSet, PulledAt, SettlesGone, SettlesOwn, TakesLast}
+use Rattle.sn_world.specs.Pulled.{HasNoBase}
+use Rattle.sn_world.specs.Settling.{MeetsStored, OneSet, SettlesGone, SettlesOwn, TakesLast}
 use Rattle.sn_client.specs.States.{Columns, IsInSlot}
 
 -- under whatever sets of the account strings open, they open to one text
@@ -102,6 +103,9 @@ module _ (server device : Rows) (s : Ideal) (name : Bytes) (n number : ℕ) (a :
 
   pub version : (v : Version) × (last_of i.uuid a.versions ≡ Some v) × ShowsStrings a.sets i.uuid row v.body × (row.updated ≡ v.stamp) × (row.kind ≡ v.kind)
   version = its_last server s.accounts n a i.uuid row x.accounts x.at x.stored.1 x.stored.2
+
+  told : LastTold a i
+  told = last_told one_stamp server s.accounts n a i x.accounts x.at x.stored
 
   -- the row's draft in the ideal state, and what is shown of it
   pub drafted : (draft : Draft) × (draft_at s name i.uuid ≡ Some draft) × ShowsDraft a.sets g local draft × ShowsContent a.sets g i.uuid x.latest draft.latest
@@ -178,30 +182,18 @@ module _ (server device : Rows) (s : Ideal) (name : Bytes) (n number : ℕ) (a :
         (law device s name number local p.stands_on.stamp d a change x.shows x.has x.stands.0 puts_settled)
 
     -- and up to any stamp this row is the last version
-    pub pulled : (upto : ℕ) → PulledAt (rows_after device (change ∷ [])) a upto i.uuid
-    pulled upto = record {
-      live = λ v last within is. (
-        number,
-        new,
-        (put_here device change (key.Local number) (value.Local new) p.puts.puts, based.uuid_is),
-        based.base_is ∙ ap Some (sym based.stamp_is ∙ ap (λ (w : Version). w.stamp) (one_there version.0 v (last_of i.uuid a.versions) version.1 last)),
-      );
-      gone = λ v last within not_live.
-          absurd (not_live (subst (λ (w : Version). IsLive w.body) (one_there version.0 v (last_of i.uuid a.versions) version.1 last)
-          (subst (λ (b : Body). IsLive b) (sym based.live.2) tt)));
-    }
+    pub pulled : IsAtLast (rows_after device (change ∷ [])) a i.uuid
+    pulled =
+        at_live (rows_after device (change ∷ [])) a i told (told.alive p.content p.enc p.body_is) (
+          number,
+          new,
+          (put_here device change (key.Local number) (value.Local new) p.puts.puts, based.uuid_is),
+          based.base_is ∙ ap Some (sym (told.stamp_is p.stands_on.stamp p.stands_on.stamped)),
+        )
 
   -- of a deletion the row goes
-  pub gone_pulled : i.body ≡ body.Deleted → (rows : Rows) → HasNoBase rows i.uuid → (upto : ℕ) → PulledAt rows a upto i.uuid
-  gone_pulled deleted rows none upto =
-      let gone : row.deleted ≡ true = given_gone row row.deleted (sym gives.body ∙ deleted) in
-      let is : version.0.body ≡ Gone = gone_version a.sets i.uuid row version.0.body version.2 gone in
-      record {
-        live = λ v last within alive.
-            absurd (subst (λ (b : Body). IsLive b) is
-            (subst (λ (w : Version). IsLive w.body) (sym (one_there version.0 v (last_of i.uuid a.versions) version.1 last)) alive));
-        gone = λ v last within dead. none;
-      }
+  pub gone_pulled : i.body ≡ body.Deleted → (rows : Rows) → HasNoBase rows i.uuid → IsAtLast rows a i.uuid
+  gone_pulled deleted rows none = at_gone rows a i told (told.dead deleted) none
 
 pub settles_own : HasOneStamp → OneContent → SettledShows → SettlesOwn
 settles_own one_stamp one_text law server device s name n number a d local i change x p = (

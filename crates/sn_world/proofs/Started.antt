@@ -16,6 +16,7 @@ use Rattle.sn_rows.specs.declared.server_rows.StoreRow.{StoreRow}
 use Rattle.sn_rows.specs.declared.value.Value.{Value}
 use Rattle.sn_rows.specs.declared.value.Value.TheVariants as value
 use Rattle.sn_shows.specs.Laws.{StoreShows}
+use Rattle.sn_sync.specs.Laws.{HasOneToken}
 use Rattle.sn_shows.specs.Servers.{HasCause, ShowsStore, account_at, stamps_in}
 use Rattle.sn_world.proofs.Frames.{ServerFrame, same_world, server_kept}
 use Rattle.sn_world.specs.Laws.{KeptBy}
@@ -47,7 +48,7 @@ no_store : (found : Option Value) → ((store : StoreRow) → ¬ (found ≡ Some
 no_store None none accounts shown v e = cc
 no_store (Some w) none accounts shown v e = none shown.0 (ap Some shown.1)
 
-module _ (law : StoreShows) (secret : Bytes) (w next : World) (s : Ideal) (changes : List Change) (h : Holds secret w s) (x : Starts w next secret changes) where
+module _ (one_token : HasOneToken) (law : StoreShows) (secret : Bytes) (w next : World) (s : Ideal) (changes : List Change) (h : Holds secret w s) (x : Starts w next secret changes) where
   abbrev server : Rows
   server = rows_after w.server (x.is.change ∷ [])
 
@@ -96,6 +97,7 @@ module _ (law : StoreShows) (secret : Bytes) (w next : World) (s : Ideal) (chang
     accounts = λ n a at. absurd (nobody n s.accounts a empty at);
     last = let same : greatest 0 (stamps_in s.accounts) ≡ greatest 0 (stamps_in s.accounts) = refl in omega arith;
     session = λ name token n tok session. absurd (nobody tok.number s.accounts tok.account empty tok.at);
+    lasts = λ n a uuid v at found within. (a, at, refl, found);
     live = λ rows n i below live.
         subst (λ (found : Option Value). LiveItem found rows n i)
         (sym (put_apart w.server x.is.change key.Store (key.Item i.uuid) (value.Store x.is.store) x.is.puts refl)) live;
@@ -104,5 +106,5 @@ module _ (law : StoreShows) (secret : Bytes) (w next : World) (s : Ideal) (chang
   pub started : KeptBy secret next s []
   started = (
     tt,
-    same_world secret next s server w.devices w.made (x.on.server ∙ ap (rows_after w.server) x.is.changes_are) x.on.devices x.on.made (server_kept secret w server s s h frame),
+    same_world secret next s server w.devices w.made (x.on.server ∙ ap (rows_after w.server) x.is.changes_are) x.on.devices x.on.made (server_kept one_token secret w server s s h frame),
   )

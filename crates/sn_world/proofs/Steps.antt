@@ -34,10 +34,12 @@ use Rattle.sn_world.proofs.ShowsLemmas.{account_changed, change_account, each_at
 use Rattle.sn_world.proofs.Lists.{each_both}
 use Rattle.sn_world.specs.Holds.{AreFew, ChangesNoSet, NumbersOf, PostedNumber, Reached}
 use Rattle.sn_world.specs.Live.{IsPosted}
-use Rattle.sn_sync.specs.Laws.{HasOneStamp}
+use Rattle.sn_sync.specs.Laws.{HasOneStamp, HasOneToken}
 use Rattle.sn_world.proofs.Alive.{IsAlive}
 use Rattle.sn_world.proofs.Tokens.{apart_of}
 use Rattle.sn_world.proofs.Accepting.{account_is, allowed, at_item, move_under, new_stamp, puts_version, sent}
+use Rattle.sn_world.proofs.Frames.{LastsBefore}
+use Rattle.sn_world.proofs.Lasts.{above_last}
 
 -- legal moves, and one more
 
@@ -100,6 +102,7 @@ pub record Below : Type 0 where
   pub keeps : AcceptKeeps
   pub apart : AccountsApart
   pub one_stamp : HasOneStamp
+  pub one_token : HasOneToken
   pub store : StoreShows
 
 module _ (low : Below) (p : Progress) (device : Rows) (s : Ideal) (name : Bytes) (n now : ℕ) (present : Params) (a : Account) (d : Device) (i : Item)
@@ -264,6 +267,30 @@ module _ (low : Below) (p : Progress) (device : Rows) (s : Ideal) (name : Bytes)
           → (c : Account) × (account_at m next.accounts ≡ Some c) × (c.identifier ≡ b.identifier) × (c.sets ≡ b.sets)
       by true e = (more version b, e, refl, refl)
       by false e = (b, e, refl, refl)
+
+  -- and each last version up to the greatest stamp was the last
+  pub lasts : LastsBefore s.accounts next.accounts
+  lasts m b uuid y at found within =
+      let was = account_changed (is_account a.identifier) (more version) s.accounts m b (ap (account_at m) (sym accounts_are) ∙ at) in
+      (was.account, was.at, same (is_account a.identifier was.account) was.account was.is, by (is_account a.identifier was.account) was.account was.is (bytes_eq version.uuid uuid) refl)
+    where
+      same : (q : Bool) (c : Account) → (if q then more version c else c) ≡ b → c.identifier ≡ b.identifier
+      same true c e = ap (λ (z : Account). z.identifier) e
+      same false c e = ap (λ (z : Account). z.identifier) e
+
+      by : (q : Bool) (c : Account) → (if q then more version c else c) ≡ b → (r : Bool) → bytes_eq version.uuid uuid ≡ r → last_of uuid c.versions ≡ Some y
+      by false c e r k = ap (λ (z : Account). last_of uuid z.versions) e ∙ found
+      by true c e false off =
+          sym (last_other uuid c.versions version (λ is. clash (bytes_eq version.uuid uuid) (text_same version.uuid uuid is) off))
+          ∙ ap (λ (z : Account). last_of uuid z.versions) e ∙ found
+      by true c e true own =
+          let new : version ≡ y =
+          one_there version y (last_of uuid b.versions)
+          (ap (λ (z : Account). last_of uuid z.versions) (sym e) ∙ last_own uuid c.versions version (same_text version.uuid uuid own)) found in
+          let stamp_is : stamp ≡ y.stamp = ap (λ (z : Version). z.stamp) new in
+          let above : p.last < stamp = above_last now p.last in
+          let greatest_is : p.last ≡ greatest 0 (stamps_in s.accounts) = v.last in
+          absurd (omega arith)
 
   pub counted : length next.accounts ≡ length s.accounts
   counted = ap length accounts_are ∙ length-map s.accounts (λ x. if is_account a.identifier x then more version x else x)

@@ -91,13 +91,13 @@ good_left server n saved rows later (is_saved i) u past apart g = good_past serv
 good_left server n saved rows later (is_conflict c) u past none g = good_unsaved server n saved rows later u none g
 good_left server n saved rows later (is_retrieved i) u past none g = good_unsaved server n saved rows later u none g
 
-all_left : (server : Rows) (n : ℕ) (saved : List Item) (rows later : Rows) (t : Told) (ts : List Told) → Leaves t rows later → Each (Before t) ts
+pub all_left : (server : Rows) (n : ℕ) (saved : List Item) (rows later : Rows) (t : Told) (ts : List Told) → Leaves t rows later → Each (Before t) ts
     → Each (Good server n saved rows) ts → Each (Good server n saved later) ts
 all_left server n saved rows later t [] left apart g = tt
 all_left server n saved rows later t (u ∷ ts) left apart g =
     (good_left server n saved rows later t u left apart.0 g.0, all_left server n saved rows later t ts left apart.1 g.1)
 
-checked_of : (server : Rows) (n : ℕ) (saved : List Item) (rows : Rows) (t : Told) → Good server n saved rows t → IsChecked t
+pub checked_of : (server : Rows) (n : ℕ) (saved : List Item) (rows : Rows) (t : Told) → Good server n saved rows t → IsChecked t
 checked_of server n saved rows (is_saved i) g = g.1
 checked_of server n saved rows (is_conflict (conflict.Sync i)) g = g.1
 checked_of server n saved rows (is_conflict (conflict.Uuid i)) g = g.1
@@ -115,7 +115,7 @@ met_of name sets p q number local i (meeting.Own false) moves says = says.0
 met_of name sets p q number local i meeting.GiveWay moves says = says.0
 met_of name sets p q number local i meeting.Fork moves (r, copies, takes, said) = (r, copies, takes)
 
-server_of : (name : Bytes) (sets : Sets) (p q : Progress) (i : Item) (flag : Bool) (moves : List Move) → SaysServer name sets p i flag q moves → TakesServer sets p i flag q
+pub server_of : (name : Bytes) (sets : Sets) (p q : Progress) (i : Item) (flag : Bool) (moves : List Move) → SaysServer name sets p i flag q moves → TakesServer sets p i flag q
 server_of name sets p q i flag moves (inl (number, local, how, stands, met, says)) =
     inl (number, local, how, stands, met, met_of name sets p q number local i how moves says)
 server_of name sets p q i flag moves (inr (free, makes, none)) = inr (free, makes)
@@ -125,7 +125,7 @@ foreign_of : (name : Bytes) (sets : Sets) (p q : Progress) (i : Item) (moves : L
 foreign_of name sets p q i moves (inl (number, local, stands, how, said)) = inl (number, local, stands, how)
 foreign_of name sets p q i moves (inr (free, same, none)) = inr (free, same)
 
-takes_of : (name : Bytes) (sets : Sets) (saved : List Item) (p q : Progress) (t : Told) (moves : List Move) → SaysTold name sets saved p t q moves → Takes sets saved p t q
+pub takes_of : (name : Bytes) (sets : Sets) (saved : List Item) (p q : Progress) (t : Told) (moves : List Move) → SaysTold name sets saved p t q moves → Takes sets saved p t q
 takes_of name sets saved p q (is_saved i) moves says = server_of name sets p q i true moves says
 takes_of name sets saved p q (is_conflict (conflict.Sync i)) moves says = server_of name sets p q i false moves says
 takes_of name sets saved p q (is_conflict (conflict.Uuid i)) moves says = foreign_of name sets p q i moves says
@@ -152,7 +152,7 @@ module _ (laws : TakingLaws) (server : Rows) (name : Bytes) (n : ℕ) (a : Accou
   nothing : (p q : Progress) (s : Ideal) (moves : List Move) → AlongHere p s → q ≡ p → moves ≡ [] → TookHere p q s moves
   nothing p q s moves h same none = subst (λ (ms : List Move). TookHere p q s ms) (sym none) (took_nothing server name n a d owner sets p q s h same)
 
-  one_told : (t : Told) (p q : Progress) (s : Ideal) (moves : List Move) → AlongHere p s → Good server n saved p.rows t → SaysTold name sets saved p t q moves
+  pub one_told : (t : Told) (p q : Progress) (s : Ideal) (moves : List Move) → AlongHere p s → Good server n saved p.rows t → SaysTold name sets saved p t q moves
       → AreStanding q.next q.rows → AppliedTo t p q s moves
   one_told (is_saved i) p q s moves h good says standing =
       let both = version p q s i true moves h good.0 (λ e. good.2) standing says in

@@ -8,6 +8,7 @@ use Rattle.sn_client.specs.States.{Columns, HasItem}
 use Rattle.sn_client.specs.Taking.{Progress, StandsOn}
 use Rattle.sn_items.specs.ItemLaws.{OneContent}
 use Rattle.sn_laws.proofs.Facts.{one_there}
+use Rattle.sn_laws.specs.Laws.{VersionsRise}
 use Rattle.sn_laws.specs.Lookups.{Bytes, greatest}
 use Rattle.sn_laws.specs.Reached.{DeletionsStay}
 use Rattle.sn_laws.specs.declared.ideal.Account.{Account}
@@ -23,7 +24,7 @@ use Rattle.sn_shows.proofs.Facts.{holder_of}
 use Rattle.sn_shows.specs.Laws.{AccountsApart, SettleKeeps, SettledShows}
 use Rattle.sn_shows.specs.Sets.{set_at}
 use Rattle.sn_string.specs.declared.params.KeySet.{KeySet}
-use Rattle.sn_sync.specs.Laws.{HasOneStamp}
+use Rattle.sn_sync.specs.Laws.{HasOneStamp, HasOneToken}
 use Rattle.sn_sync.specs.declared.item.Body.TheVariants as body
 use Rattle.sn_sync.specs.declared.item.Item.{Item}
 use Rattle.sn_world.proofs.DeviceSets.{present_at}
@@ -34,6 +35,8 @@ use Rattle.sn_world.specs.Settling.{AppliesLive, MeetsStored, TakesLast}
 -- the laws that one version asks for
 pub record TakingLaws : Type 0 where
   pub one_stamp : HasOneStamp
+  pub one_token : HasOneToken
+  pub rise : VersionsRise
   pub apart : AccountsApart
   pub one_text : OneContent
   pub live : AppliesLive

@@ -78,7 +78,7 @@ module _ (laws : TakingLaws) (server : Rows) (name : Bytes) (n : ℕ) (a : Accou
   shown = holder.locals number local stands
 
   -- the row stands on no version
-  no_base : local.base ≡ None
+  pub no_base : local.base ≡ None
   no_base = by local.base refl shown.base
     where
       by : (base : Option ℕ) → local.base ≡ base → ShowsBase a local base → local.base ≡ None

@@ -32,7 +32,7 @@ keeps_each start make serve commit secret w next s (commits name what changes tr
     commit secret w next s name what changes moves differ h does.0 does.1 says
 keeps_each start make serve commit secret w next s (commits name what changes false) moves differ h does says = idle secret w next s moves h does says
 
-trace_from : Keeps → (secret : Bytes) → TokensDiffer secret → (steps : List Happens) (moves : List Move) (w next : World) (s : Ideal) → Holds secret w s
+pub trace_from : Keeps → (secret : Bytes) → TokensDiffer secret → (steps : List Happens) (moves : List Move) (w next : World) (s : Ideal) → Holds secret w s
     → Trace secret w s steps moves next → KeptBy secret next s moves
 trace_from keeps secret differ [] moves w next s h t = idle secret w next s moves h t.1 t.0
 trace_from keeps secret differ (step ∷ steps) moves w next s h (mid, first, later, does, says, rest, is) =

@@ -3,8 +3,9 @@ use Rattle.std.specs.Prelude.{◌≡◌, ◌⊎◌, ℕ, Bool, true, false, List
 use Rattle.std.proofs.Common.{inl, inr}
 use Rattle.std.specs.List.{Contains}
 use Rattle.rand_chacha.specs.ChaCha.{ChaCha}
+use Rattle.sn_account.specs.Syncs.{IsStampOf, above_of, is_first}
 use Rattle.sn_account.specs.Tells.{TellsRows}
-use Rattle.sn_client.specs.States.{HasItem, HasSets, IsFree, owner_columns}
+use Rattle.sn_client.specs.States.{HasItem, HasOwner, HasSets, IsFree, owner_columns, token_of}
 use Rattle.sn_client.specs.Steps.{PutsOwner, start, with_tokens}
 use Rattle.sn_client.specs.Taking.{Copies, MakesRow, Meets, Progress, Renames, TakesVersion, Told, is_conflict, is_retrieved, is_saved, told_by}
 use Rattle.sn_conflict.specs.Meetings.{MeetsAs}
@@ -133,9 +134,11 @@ pub record Tells (server rows : Rows) (s : Ideal) (name : Bytes) (sent : List It
   -- the parameters of the account's last set
   pub present : Params
   pub params_are : (set : KeySet) → set_at (length account.sets) account.sets ≡ Some set → present ≡ set.params
-  pub above : ℕ
-  pub first : Bool
-  pub tells : TellsRows server number present sent above first conflicts cursor retrieved saved token
+  -- it tells them from the stamps of the device's tokens on
+  pub sync : Option ℕ
+  pub from : Option ℕ
+  pub since : (owner : OwnerRow) → HasOwner rows owner → IsStampOf (token_of owner.sync_token) sync × IsStampOf (token_of owner.cursor_token) from
+  pub tells : TellsRows server number present sent (above_of sync from) (is_first sync from) conflicts cursor retrieved saved token
 
 -- an answer to a sync does; no other is applied
 abbrev pub TellsNow : Rows → Rows → Ideal → Bytes → List Item → Answer → Type 0

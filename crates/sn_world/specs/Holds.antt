@@ -27,6 +27,7 @@ use Rattle.sn_sync.specs.Tokens.{IsToken}
 use Rattle.sn_sync.specs.declared.item.Item.{Item}
 use Rattle.sn_sync.specs.declared.request.Request.TheVariants as request
 use Rattle.sn_world.specs.Live.{KnownBelow, LiveItems}
+use Rattle.sn_world.specs.Pulled.{BasesPulled, PulledTo}
 use Rattle.sn_client.specs.States.{HasLocal, HasOwner, IsSound, token_of}
 use Rattle.sn_world.specs.World.{IsMade, Made, World}
 
@@ -100,7 +101,7 @@ pub record HasToken (secret : Bytes) (accounts : List Account) (found : Option D
   pub held : generation ≤ greatest 0 device.held
   pub is : token ≡ session_token secret number generation
 
--- ---- how far a device has pulled
+-- ---- tokens of a sync
 
 -- a token of a sync is none, or of a stamp that was given
 abbrev pub IsTokenBelow : Option Bytes → ℕ → Type 0
@@ -152,6 +153,9 @@ pub record Holds (secret : Bytes) (w : World) (s : Ideal) : Type 0 where
   pub numbers : (name : Bytes) → NumbersOf s name
   pub own_tokens : (name : Bytes) (d : Device) → device_named s name ≡ Some d → DeviceToken secret (w.devices name) s.accounts d
   pub sync_tokens : (name : Bytes) → TokensBelow (w.devices name) (greatest 0 (stamps_in s.accounts))
+  -- how far it has pulled: without a sync token nothing, and with one up to its stamp
+  pub bases_pulled : (name : Bytes) → BasesPulled (w.devices name)
+  pub pulled : (name : Bytes) → PulledTo (w.devices name) s.accounts (device_named s name)
   -- each request that was made, whenever it comes: a sync, a registration, and no change of password yet
   pub syncs : (m : Made) (token : Bytes) (items : List Item) → IsMade w m → IsSync m token items
       → HoldsSync secret w.server (w.devices m.device) s m.device token items

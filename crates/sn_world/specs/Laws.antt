@@ -1,12 +1,13 @@
 -- What each step keeps.
-use Rattle.std.specs.Prelude.{◌≡◌, ℕ, List, [], ◌∷◌, length, true, Option, Some, None}
+use Rattle.std.specs.Prelude.{◌≡◌, ◌≢◌, ℕ, List, [], ◌∷◌, length, true, Option, Some, None}
 use Rattle.sn_account.specs.Tells.{AreApart, IsSavedOf, uuids}
 use Rattle.sn_laws.specs.Each.{Each}
 use Rattle.sn_account.specs.Lookups.{IsNamed}
 use Rattle.sn_account.specs.Rule.{Rule}
 use Rattle.sn_account.specs.Rules.{IsPresent}
 use Rattle.sn_keys.specs.Keys.{check_value}
-use Rattle.sn_laws.specs.Lookups.{Bytes, device_named, empty}
+use Rattle.sn_laws.specs.Lookups.{Bytes, device_named, draft_at, empty}
+use Rattle.sn_shows.specs.Laws.{HasAccount}
 use Rattle.sn_shows.specs.Servers.{account_at}
 use Rattle.sn_shows.specs.Sets.{set_at}
 use Rattle.sn_laws.specs.Runs.{Legal, LegalFrom, end, end_from}
@@ -17,6 +18,7 @@ use Rattle.sn_laws.specs.declared.moves.Move.{Move}
 use Rattle.sn_laws.specs.declared.moves.Move.TheVariants.{Register, Settle}
 use Rattle.sn_rows.specs.declared.change.Change.{Change}
 use Rattle.sn_rows.specs.declared.device_rows.LocalItem.{LocalItem}
+use Rattle.sn_rows.specs.declared.device_rows.OwnerRow.{OwnerRow}
 use Rattle.sn_laws.specs.Moves.{after}
 use Rattle.sn_string.specs.declared.params.KeySet.{KeySet}
 use Rattle.sn_string.specs.declared.params.Params.{Params}
@@ -30,13 +32,14 @@ use Rattle.sn_client.specs.Runs.{Sends, items_of}
 use Rattle.sn_rows.specs.Table.{Rows, rows_after}
 use Rattle.sn_world.specs.Committing.{AreDifferent, Commits, MayBegin, MayCommit, MayRenew, SaysCommit}
 use Rattle.sn_world.specs.Settling.{MeetsOwnLast, TakesLast}
-use Rattle.sn_client.specs.States.{HasLocal, IsSound}
-use Rattle.sn_client.specs.Steps.{What}
+use Rattle.sn_client.specs.States.{HasLocal, HasOwner, IsSound, token_of}
+use Rattle.sn_client.specs.Steps.{What, applies}
 use Rattle.sn_world.specs.First.{Starts}
 use Rattle.sn_world.specs.Happens.{Does, Happens, Says, Trace}
 use Rattle.sn_world.specs.Holds.{Holds, IsSync, TokensDiffer}
 use Rattle.sn_world.specs.Applying.{Tells}
-use Rattle.sn_world.specs.Making.{IsPostedOf, Makes, MakesOf, SendsPosted}
+use Rattle.sn_world.specs.Making.{HasTokens, IsPostedOf, Makes, MakesOf, SendsPosted, SendsTokens}
+use Rattle.sn_world.specs.Pulled.{HasAll, StandOnLasts}
 use Rattle.sn_world.specs.Serving.{SaysServed, Serves}
 use Rattle.sn_world.specs.World.{Made, OnDevice, World, at_first}
 
@@ -83,11 +86,12 @@ SignedInRenews = (secret : Bytes) (w : World) (s : Ideal) (identifier pw : Bytes
     → Holds secret w s → Rule w.server (request.SignIn identifier pw) now changes (answer.Account token account uuid)
     → device_named s name ≡ Some d → d.account ≡ identifier → MayRenew secret s name token
 
--- a sync of a device's rows, whose items have different uuids: where it is answered, the answer tells the device the rows as they are left
+-- a sync of a device's rows, from its tokens on, whose items have different uuids: where it is answered, the answer tells the device the rows as they are left
 abbrev pub ServedTells : Type 0
 ServedTells = (secret : Bytes) (w next : World) (s : Ideal) (m : Made) (token : Bytes) (items : List Item) (now : ℕ) (changes : List Change) (moves : List Move)
     (conflicts : List Conflict) (cursor : Option Bytes) (retrieved saved : List Item) (next_token : Bytes)
-    → TokensDiffer secret → Holds secret w s → IsSync m token items → Each (IsPostedOf (w.devices m.device)) items → AreApart (uuids items)
+    → TokensDiffer secret → Holds secret w s → (sync : IsSync m token items) → Each (IsPostedOf (w.devices m.device)) items
+    → HasTokens (w.devices m.device) sync.sync_token sync.cursor_token → AreApart (uuids items)
     → Serves w next m now changes (answer.Sync conflicts cursor retrieved saved next_token) → SaysServed w.server m changes moves
     → Tells next.server (next.devices m.device) (end_from s moves) m.device items conflicts cursor retrieved saved next_token
 
@@ -98,11 +102,11 @@ abbrev pub KeepsMaking : Type 0
 KeepsMaking = (secret : Bytes) (w next : World) (s : Ideal) (m : Made) → TokensDiffer secret → Holds secret w s → Makes w next m → Holds secret next s
 
 -- what a round of a device's sync posts and sends, where nothing is to be sealed again: no draft is posted twice, the request is of rows that are
--- posted, and its items have different uuids
+-- posted, and from their tokens on, and its items have different uuids
 abbrev pub SendsArePosted : Type 0
 SendsArePosted = (rows : Rows) (numbers : List ℕ) (posted : List Change) (r : Request) (ready : Rows) → IsSound rows
     → ((number : ℕ) (local : LocalItem) → HasLocal rows number local → ¬ (local.stale ≡ true)) → Sends rows numbers posted r ready
-    → AreDifferent numbers × ((begins : Option KeySet) → MakesOf ready begins r) × AreApart (uuids (items_of r))
+    → AreDifferent numbers × ((begins : Option KeySet) → MakesOf ready begins r) × AreApart (uuids (items_of r)) × SendsTokens ready r
 
 -- ---- devices
 
@@ -111,6 +115,19 @@ abbrev pub KeepsCommitting : Type 0
 KeepsCommitting = (secret : Bytes) (w next : World) (s : Ideal) (name : Bytes) (what : What) (changes : List Change) (moves : List Move)
     → TokensDiffer secret → Holds secret w s → Commits w next name what changes → MayCommit secret w.server (w.devices name) s name what
     → SaysCommit (w.devices name) s name what changes moves → KeptBy secret next s moves
+
+-- an answer without a cursor, applied: the device has all versions of its account
+abbrev pub AppliedWhole : Type 0
+AppliedWhole = (secret : Bytes) (w next : World) (s : Ideal) (name : Bytes) (r : Request) (conflicts : List Conflict) (retrieved saved : List Item) (token : Bytes)
+    (changes : List Change) (moves : List Move) → Holds secret w s → Commits w next name (applies r (answer.Sync conflicts None retrieved saved token)) changes
+    → MayCommit secret w.server (w.devices name) s name (applies r (answer.Sync conflicts None retrieved saved token))
+    → SaysCommit (w.devices name) s name (applies r (answer.Sync conflicts None retrieved saved token)) changes moves
+    → HasAll (next.devices name) (end_from s moves) name
+
+-- where it has these, and no draft, its rows stand on just the undeleted last versions of its account
+abbrev pub SyncedRows : Type 0
+SyncedRows = (secret : Bytes) (w : World) (s : Ideal) (name : Bytes) (d : Device) (a : Account) → Holds secret w s → HasAccount s name d a
+    → ((uuid : Bytes) → draft_at s name uuid ≡ None) → HasAll (w.devices name) s name → StandOnLasts (w.devices name) a
 
 -- ---- all of it
 
@@ -131,7 +148,8 @@ TraceKeeps = (secret : Bytes) (steps : List Happens) (moves : List Move) (next :
 
 -- ---- one version of an answer
 
--- the server's last version of an item, which is saved as it was sent and has the draft's content, applied to its row: the draft is settled
+-- the server's last version of an item, which is saved as it was sent and has the draft's content, applied to its row, on a device that has a sync token: the
+-- draft is settled
 pub record Settles (w next : World) (s : Ideal) (name : Bytes) (change : Change) (local : LocalItem) (i : Item) : Type 0 where
   pub n : ℕ
   pub number : ℕ
@@ -143,6 +161,7 @@ pub record Settles (w next : World) (s : Ideal) (name : Bytes) (change : Change)
   pub saved : IsSavedOf sent i
   pub takes : TakesLast change number i None
   pub sound : IsSound (rows_after (w.devices name) (change ∷ []))
+  pub synced : (owner : OwnerRow) → HasOwner (w.devices name) owner → token_of owner.sync_token ≢ None
   pub on : OnDevice w next name (change ∷ [])
 
 -- it may be settled, and the invariant holds then

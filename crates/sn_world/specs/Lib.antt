@@ -1,4 +1,5 @@
 pub mod Applying
+pub mod Calls
 pub mod Committing
 pub mod First
 pub mod Happens
@@ -6,7 +7,9 @@ pub mod Holds
 pub mod Laws
 pub mod Live
 pub mod Making
+pub mod Pulled
 pub mod Rounds
 pub mod Serving
 pub mod Settling
+pub mod Synced
 pub mod World

@@ -18,7 +18,7 @@ use Rattle.sn_sync.specs.declared.request.Request.{Request}
 use Rattle.sn_sync.specs.declared.request.Request.TheVariants as request
 use Rattle.sn_world.specs.Live.{KnownBelow, LiveItem}
 use Rattle.sn_client.specs.Sending.{IsSentAs}
-use Rattle.sn_client.specs.States.{HasLocal, HasOwner}
+use Rattle.sn_client.specs.States.{HasLocal, HasOwner, token_of}
 use Rattle.sn_world.specs.World.{Made, World}
 
 -- the item is sent of a row, as what was posted of it
@@ -28,6 +28,19 @@ SendsPosted local i = IsSentAs local i × (local.posted ≢ None)
 -- of some row of the device
 abbrev pub IsPostedOf : Rows → Item → Type 0
 IsPostedOf device i = (number : ℕ) × (local : LocalItem) × HasLocal device number local × SendsPosted local i
+
+-- these are the tokens of the device's row
+abbrev pub HasTokens : Rows → Option Bytes → Option Bytes → Type 0
+HasTokens device sync_token cursor_token =
+    (owner : OwnerRow) → HasOwner device owner → (token_of owner.sync_token ≡ sync_token) × (token_of owner.cursor_token ≡ cursor_token)
+
+-- a sync is from the device's tokens on
+abbrev pub SendsTokens : Rows → Request → Type 0
+SendsTokens device (request.Sync token items limit sync_token cursor_token) = HasTokens device sync_token cursor_token
+SendsTokens device (request.Register params pw) = Unit {0}
+SendsTokens device (request.Params identifier) = Unit {0}
+SendsTokens device (request.SignIn identifier pw) = Unit {0}
+SendsTokens device (request.ChangePw token current pw cost nonce) = Unit {0}
 
 -- a sync is of the device's rows, each posted, under its own token
 pub record MakesSync (device : Rows) (token : Bytes) (items : List Item) : Type 0 where

@@ -1,16 +1,14 @@
 -- A version of the server's that has a draft's content: the draft ends.
-use Rattle.std.specs.Prelude.{◌≡◌, ℕ, ◌≤◌, List, [], ◌∷◌, Option, Some, None, IsTrue}
+use Rattle.std.specs.Prelude.{◌≡◌, ℕ, List, [], ◌∷◌, Option, Some, None, IsTrue}
 use Rattle.rand_chacha.specs.ChaCha.{ChaCha}
 use Rattle.sn_account.specs.Tells.{IsSavedOf, IsStored}
 use Rattle.sn_conflict.specs.Meetings.{HasContent}
 use Rattle.sn_items.specs.declared.sealed.Sealed.{Sealed}
-use Rattle.sn_laws.specs.Lookups.{Bytes, last_of}
+use Rattle.sn_laws.specs.Lookups.{Bytes}
 use Rattle.sn_laws.specs.Moves.{after, allows}
-use Rattle.sn_laws.specs.Relation.{IsLive}
 use Rattle.sn_laws.specs.declared.ideal.Account.{Account}
 use Rattle.sn_laws.specs.declared.ideal.Device.{Device}
 use Rattle.sn_laws.specs.declared.ideal.Ideal.{Ideal}
-use Rattle.sn_laws.specs.declared.ideal.Version.{Version}
 use Rattle.sn_laws.specs.declared.moves.Move.TheVariants.{Settle}
 use Rattle.sn_rows.specs.Table.{Removes, Rows, key_of, rows_after}
 use Rattle.sn_rows.specs.declared.body.RowBody.{RowBody}
@@ -28,6 +26,7 @@ use Rattle.sn_sync.specs.declared.item.Body.TheVariants as body
 use Rattle.sn_sync.specs.declared.item.Item.{Item}
 use Rattle.sn_world.specs.Live.{LiveItem}
 use Rattle.sn_world.specs.Making.{SendsPosted}
+use Rattle.sn_world.specs.Pulled.{PulledAt}
 use Rattle.sn_client.specs.Sending.{PutsColumns}
 use Rattle.sn_client.specs.States.{Columns, HasItem, HasLocal, HasSets}
 use Rattle.sn_client.specs.Taking.{StandsOn}
@@ -68,21 +67,6 @@ pub record TakesLast (change : Change) (number : ℕ) (i : Item) (latest : Optio
   pub columns_then : Columns
   pub stands_on : StandsOn sets words i content enc latest None columns_then left
   pub puts : PutsColumns change number columns_then
-
--- ---- up to a stamp the rows are the account's last versions
-
--- the item's row stands on this stamp
-abbrev pub HasBase : Rows → Bytes → ℕ → Type 0
-HasBase rows uuid stamp = (number : ℕ) × (local : LocalItem) × HasItem rows uuid number local × (local.base ≡ Some stamp)
-
--- it stands on none
-abbrev pub HasNoBase : Rows → Bytes → Type 0
-HasNoBase rows uuid = (number : ℕ) (local : LocalItem) → HasItem rows uuid number local → local.base ≡ None
-
--- an undeleted last version up to the stamp is the one that the row stands on; of a deletion no row stands on a version
-pub record PulledAt (rows : Rows) (a : Account) (upto : ℕ) (uuid : Bytes) : Type 0 where
-  pub live : (v : Version) → last_of uuid a.versions ≡ Some v → v.stamp ≤ upto → IsLive v.body → HasBase rows uuid v.stamp
-  pub gone : (v : Version) → last_of uuid a.versions ≡ Some v → v.stamp ≤ upto → ¬ (IsLive v.body) → HasNoBase rows uuid
 
 -- ---- the laws, on one device's rows
 

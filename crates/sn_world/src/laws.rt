@@ -1,15 +1,18 @@
 //! What each step of the world keeps, by the definitions alone. The functions call the laws below them
 //! and do nothing else; their contracts are the laws.
 
-ghost use Rattle.sn_world.specs.Laws.{HoldsFirst, Keeps, KeepsCommitting, KeepsMaking, KeepsServing, KeepsStarting, RegisteredBegins, SaysSome, SendsArePosted, ServedTells, SignedInBegins, SignedInRenews, TraceKeeps};
+ghost use Rattle.sn_world.specs.Calls.{CallsGo, FrontsGo, LeadsKeep, RegistersGo, SignInsGo, SyncsGo};
+ghost use Rattle.sn_world.specs.Laws.{AppliedWhole, HoldsFirst, Keeps, KeepsCommitting, KeepsMaking, KeepsServing, KeepsStarting, RegisteredBegins, SaysSome, SendsArePosted, ServedTells, SignedInBegins, SignedInRenews, SyncedRows, TraceKeeps};
 ghost use Rattle.sn_world.specs.Making.{MakesLive};
 ghost use Rattle.sn_world.specs.Rounds.{RoundsGo};
+ghost use Rattle.sn_world.specs.Synced.{SyncsEnd};
 
 use crate::settling_laws::applies_live;
 use sn_account::answer_laws::syncs_tell;
 use sn_account::rule_laws::stays_sound;
 use sn_client::{fresh_is_sound, stay_standing, steps_stay_sound};
 use sn_items::one_content;
+use sn_laws::laws::versions_rise;
 use sn_laws::state_laws::deletions_stay;
 use sn_shows::device_laws::{
     edit_keeps, edited_shows, join_keeps, joined_shows, post_keeps, posted_shows, settle_keeps,
@@ -19,7 +22,7 @@ use sn_shows::server_laws::{
     accept_keeps, accepted_last, accepted_shows, accounts_apart, register_keeps, registered_shows,
     store_shows,
 };
-use sn_sync::laws::one_stamp;
+use sn_sync::laws::{one_stamp, one_token};
 
 /// The invariant holds before anything happened.
 pub fn holds_first()
@@ -33,6 +36,7 @@ pub fn keeps_starting()
     ensures { KeepsStarting }
 {
     store_shows();
+    one_token();
 }
 
 /// What a device sends of its rows, each posted, may be accepted or changes nothing.
@@ -61,6 +65,7 @@ pub fn keeps_serving()
     accounts_apart();
     store_shows();
     one_stamp();
+    one_token();
     registered_shows();
     register_keeps();
     stays_sound();
@@ -113,11 +118,28 @@ pub fn keeps_committing()
     steps_stay_sound();
     stay_standing();
     one_stamp();
+    one_token();
+    versions_rise();
     one_content();
     deletions_stay();
     applies_live();
     settle_keeps();
     settled_shows();
+}
+
+/// Where an answer without a cursor is applied, the device has pulled all versions of its account.
+pub fn applied_whole()
+    ensures { AppliedWhole }
+{
+    accounts_apart();
+}
+
+/// Where it has pulled these and has no draft, its rows stand on just the undeleted last versions of its
+/// account.
+pub fn synced_rows()
+    ensures { SyncedRows }
+{
+    versions_rise();
 }
 
 /// Each step of the world keeps the invariant, and its moves are legal.
@@ -157,3 +179,72 @@ pub fn rounds_go()
     served_tells();
     sends_are_posted();
 }
+
+/// Wherever steps lead from a world in which the invariant holds, their moves are legal and it holds again.
+pub fn leads_keep()
+    ensures { LeadsKeep }
+{
+    keeps();
+}
+
+/// Whatever a call does that asks a server for nothing, and however it ends, is such steps.
+pub fn calls_go()
+    ensures { CallsGo }
+{
+    keeps();
+    says_some();
+}
+
+/// So is whatever a sync does, whichever of its requests and answers are lost.
+pub fn syncs_go()
+    ensures { SyncsGo }
+{
+    accounts_apart();
+    keeps_committing();
+    keeps_making();
+    keeps_serving();
+    served_tells();
+    sends_are_posted();
+    keeps();
+    says_some();
+}
+
+/// A sync that is answered is such steps, and they leave its device with no draft, and with rows that stand
+/// on just the undeleted last versions of its account.
+pub fn syncs_end()
+    ensures { SyncsEnd }
+{
+    applied_whole();
+    synced_rows();
+    keeps();
+    syncs_go();
+}
+
+/// So is whatever a registration does.
+pub fn registers_go()
+    ensures { RegistersGo }
+{
+    accounts_apart();
+    keeps();
+    says_some();
+    registered_begins();
+    signed_in_begins();
+    signed_in_renews();
+}
+
+/// So is whatever a sign-in does, where no second password was found that has the check value of the first.
+pub fn sign_ins_go()
+    ensures { SignInsGo }
+{
+    accounts_apart();
+    keeps();
+    says_some();
+    registered_begins();
+    signed_in_begins();
+    signed_in_renews();
+}
+
+/// And the first acts of a call alone, behind which its device may be stopped.
+pub fn fronts_go()
+    ensures { FrontsGo }
+{}

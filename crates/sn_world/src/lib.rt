@@ -5,8 +5,9 @@ mod laws;
 mod settling_laws;
 
 pub use laws::{
-    holds_first, keeps, keeps_committing, keeps_making, keeps_serving, keeps_starting, makes_live,
-    registered_begins, rounds_go, says_some, sends_are_posted, served_tells, signed_in_begins,
-    signed_in_renews, trace_keeps,
+    applied_whole, calls_go, fronts_go, holds_first, keeps, keeps_committing, keeps_making,
+    keeps_serving, keeps_starting, leads_keep, makes_live, registered_begins, registers_go,
+    rounds_go, says_some, sends_are_posted, served_tells, sign_ins_go, signed_in_begins,
+    signed_in_renews, synced_rows, syncs_end, syncs_go, trace_keeps,
 };
 pub use settling_laws::{applies_live, keeps_settling, settles_gone, settles_own};

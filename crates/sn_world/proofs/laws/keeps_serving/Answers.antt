@@ -8,5 +8,6 @@ returns c = keeps_serving (record {
   keeps = c.accept_keeps.ensures;
   apart = c.accounts_apart.ensures;
   one_stamp = c.one_stamp.ensures;
+  one_token = c.one_token.ensures;
   store = c.store_shows.ensures;
 }) c.stays_sound.ensures c.registered_shows.ensures c.register_keeps.ensures

@@ -1,0 +1,182 @@
+-- A request of a device, whatever becomes of it, as steps of the world; and a call that goes on with its answer.
+use Rattle.std.proofs.Common.{◌≡◌, ℕ, List, [], ◌∷◌, ◌++◌, Option, true, false, refl, sym, ap, subst, inl, inr}
+use Rattle.sn_account.specs.Rule.{Rule}
+use Rattle.sn_client.specs.Asking.{Reply, lost, said, unheard, unread}
+use Rattle.sn_client.specs.Runs.{Act, AsksFirst, Halt, Refuses, asked, rows_done}
+use Rattle.sn_client.specs.States.{Bytes}
+use Rattle.sn_client.specs.declared.error.ClientError.{ClientError}
+use Rattle.sn_client.specs.declared.error.ClientError.TheVariants as refusal
+use Rattle.sn_laws.specs.Runs.{end_from}
+use Rattle.sn_laws.specs.declared.ideal.Ideal.{Ideal}
+use Rattle.sn_laws.specs.declared.moves.Move.{Move}
+use Rattle.sn_rows.specs.Table.{Rows, rows_after}
+use Rattle.sn_rows.specs.declared.change.Change.{Change}
+use Rattle.sn_string.specs.declared.params.KeySet.{KeySet}
+use Rattle.sn_sync.specs.Fits.{FitsRequest}
+use Rattle.sn_sync.specs.declared.answer.Answer.{Answer}
+use Rattle.sn_sync.specs.declared.request.Request.{Request}
+use Rattle.sn_world.proofs.CallLemmas.{Goes, Stands, leads_to_on, stands_then}
+use Rattle.sn_world.specs.Calls.{AreServed, Fate, IsServed, Leads, call_steps, crashed, rows_behind, rows_served, served, undelivered}
+use Rattle.sn_world.specs.Happens.{makes, serves}
+use Rattle.sn_world.specs.Holds.{Holds, TokensDiffer}
+use Rattle.sn_world.specs.Laws.{Keeps, SaysSome}
+use Rattle.sn_world.specs.Making.{Makes, MakesOf}
+use Rattle.sn_world.specs.Serving.{Serves, moves_for}
+use Rattle.sn_world.specs.World.{Made, World}
+
+abbrev pub made_of : Bytes → Option KeySet → Request → Made
+made_of name begins r = record { device = name; request = r; begins = begins }
+
+abbrev pub made_world : World → Made → World
+made_world v m = record { server = v.server; devices = v.devices; made = m ∷ v.made }
+
+abbrev pub served_world : World → Made → List Change → World
+served_world v m changes = record { server = rows_after v.server changes; devices = v.devices; made = m ∷ v.made }
+
+pub makes_so : (v : World) (name : Bytes) (begins : Option KeySet) (r : Request) (rows : Rows) → v.devices name ≡ rows → MakesOf rows begins r
+    → Makes v (made_world v (made_of name begins r)) (made_of name begins r)
+makes_so v name begins r rows device_is of =
+    record { of = subst (λ (x : Rows). MakesOf x begins r) (sym device_is) of; server = refl; devices = refl; made = refl }
+
+pub serves_so : (v : World) (m : Made) (server : Rows) (now : ℕ) (changes : List Change) (given : Answer) → v.server ≡ server → FitsRequest m.request
+    → Rule server m.request now changes given → Serves (made_world v m) (served_world v m changes) m now changes given
+serves_so v m server now changes given server_is fits rule = record {
+  made = inl refl;
+  fits = fits;
+  rule = subst (λ (x : Rows). Rule x m.request now changes given) (sym server_is) rule;
+  on = record { server = refl; devices = refl; made = refl };
+}
+
+-- it is made and served, with the moves of its route
+abbrev pub served_leads : (secret name : Bytes) (begins : Option KeySet) (v : World) (t : Ideal) (server rows : Rows) (r : Request) (now : ℕ) (changes : List Change)
+    (given : Answer) → Stands secret name v t server rows → MakesOf rows begins r → FitsRequest r → Rule server r now changes given
+    → Leads secret v t name (makes (made_of name begins r) ∷ serves (made_of name begins r) now changes given true ∷ []) (rows_after server changes) rows
+served_leads secret name begins v t server rows r now changes given k of fits rule =
+    let m : Made = made_of name begins r in
+    let first : List Move = moves_for v.server name begins r changes in
+    record {
+      moves = first ++ [];
+      next = served_world v m changes;
+      goes = (
+        made_world v m,
+        [],
+        first ++ [],
+        makes_so v name begins r rows k.device_is of,
+        refl,
+        (served_world v m changes, first, [], serves_so v m server now changes given k.server_is fits rule, refl, (refl, refl), refl),
+        refl,
+      );
+      server_is = ap (λ (x : Rows). rows_after x changes) k.server_is;
+      device_is = k.device_is;
+    }
+
+pub ask_leads : (secret name : Bytes) (begins : Option KeySet) (v : World) (t : Ideal) (server rows : Rows) (r : Request) (reply : Reply) (fate : Fate)
+    → Stands secret name v t server rows → MakesOf rows begins r → IsServed server r reply fate
+    → Leads secret v t name (call_steps name begins (asked r reply ∷ []) (fate ∷ [])) (rows_behind server fate) rows
+ask_leads secret name begins v t server rows r reply undelivered k of over = record {
+  moves = [];
+  next = made_world v (made_of name begins r);
+  goes = (made_world v (made_of name begins r), [], [], makes_so v name begins r rows k.device_is of, refl, (refl, refl), refl);
+  server_is = k.server_is;
+  device_is = k.device_is;
+}
+ask_leads secret name begins v t server rows r reply (served now changes given arrives) k of (fits, rule, back) =
+    served_leads secret name begins v t server rows r now changes given k of fits rule
+ask_leads secret name begins v t server rows r reply (crashed now changes given) k of over =
+    let made : World = made_world v (made_of name begins r) in
+    record {
+      moves = [];
+      next = made;
+      goes = (made, [], [], makes_so v name begins r rows k.device_is of, refl, (made, [], [], refl, refl, (refl, refl), refl), refl);
+      server_is = k.server_is;
+      device_is = k.device_is;
+    }
+
+-- where an answer comes back, the request was served, and it is that answer
+pub record IsAnswered (server : Rows) (r : Request) (given : Answer) (fate : Fate) : Type 0 where
+  pub now : ℕ
+  pub changes : List Change
+  pub fate_is : fate ≡ served now changes given true
+  pub fits : FitsRequest r
+  pub rule : Rule server r now changes given
+
+pub is_answered : (server : Rows) (r : Request) (given : Answer) (reply : Reply) (fate : Fate) → reply ≡ said given → IsServed server r reply fate
+    → IsAnswered server r given fate
+is_answered server r given (said other) (served now changes answer true) is (fits, rule, back) =
+    let same : answer ≡ given = cc in
+    record {
+      now = now;
+      changes = changes;
+      fate_is = ap (λ (x : Answer). served now changes x true) same;
+      fits = fits;
+      rule = subst (λ (x : Answer). Rule server r now changes x) same rule;
+    }
+is_answered server r given (said other) (served now changes answer false) is (fits, rule, back) = absurd back
+is_answered server r given (said other) (crashed now changes answer) is (fits, rule, back) = absurd back
+is_answered server r given (said other) undelivered is back = absurd back
+is_answered server r given lost fate is over = absurd (cc)
+is_answered server r given unheard fate is over = absurd (cc)
+is_answered server r given (unread at) fate is over = absurd (cc)
+
+-- ---- a call that goes on with the answer
+
+module _ (keeps : Keeps) (says : SaysSome) (secret : Bytes) (differ : TokensDiffer secret) (name : Bytes) (begins : Option KeySet) (v : World) (t : Ideal)
+    (server rows : Rows) (k : Stands secret name v t server rows) (r : Request) (of : MakesOf rows begins r) where
+  abbrev m : Made
+  m = made_of name begins r
+
+  pub holds_made : Holds secret (made_world v m) t
+  holds_made = (keeps secret v (made_world v m) t (makes m) [] differ k.holds (makes_so v name begins r rows k.device_is of) refl).1
+
+  -- the steps up to the answer
+  abbrev pub answered_leads : (now : ℕ) (changes : List Change) (given : Answer) → FitsRequest r → Rule server r now changes given
+      → Leads secret v t name (makes m ∷ serves m now changes given true ∷ []) (rows_after server changes) rows
+  answered_leads now changes given fits rule = served_leads secret name begins v t server rows r now changes given k of fits rule
+
+  pub answered_stands : (now : ℕ) (changes : List Change) (given : Answer) → FitsRequest r → Rule server r now changes given
+      → Stands secret name (served_world v m changes) (end_from t (moves_for v.server name begins r changes ++ [])) (rows_after server changes) rows
+  answered_stands now changes given fits rule =
+      stands_then keeps says secret differ name v t (makes m ∷ serves m now changes given true ∷ []) (rows_after server changes) rows k.holds
+      (answered_leads now changes given fits rule)
+
+  -- no answer is gone on with
+  last_asked : (reply : Reply) (later : List Act) (fates : List Fate) (halt : Halt) (why : ClientError) → Refuses later halt why
+      → AreServed server (asked r reply ∷ later) fates → Goes secret name begins v t server rows (asked r reply ∷ later) fates halt
+  last_asked reply later [] halt why refuses over = absurd over
+  last_asked reply later (fate ∷ fates) halt why (none, is) (one, rest) =
+      let no_fates : fates ≡ [] = subst (λ (xs : List Act). AreServed (rows_behind server fate) xs fates) none rest in
+      subst (λ (xs : List Act). Goes secret name begins v t server rows (asked r reply ∷ xs) (fate ∷ fates) halt) (sym none)
+      (subst (λ (fs : List Fate). Goes secret name begins v t server rows (asked r reply ∷ []) (fate ∷ fs) halt) (sym no_fates)
+      (subst (λ (z : Halt). Goes secret name begins v t server rows (asked r reply ∷ []) (fate ∷ []) z) (sym is)
+      (ask_leads secret name begins v t server rows r reply fate k of one)))
+
+  -- what is done behind an answer of the server
+  abbrev pub Behind : (Answer → List Act → Halt → Type 0) → Halt → Type 0
+  Behind P halt = (now : ℕ) (changes : List Change) (given : Answer) (later : List Act) (fates : List Fate) → FitsRequest r → Rule server r now changes given
+      → P given later halt → AreServed (rows_after server changes) later fates
+      → Goes secret name begins (served_world v m changes) (end_from t (moves_for v.server name begins r changes ++ [])) (rows_after server changes) rows
+      later fates halt
+
+  goes_on_asked : (P : Answer → List Act → Halt → Type 0) (reply : Reply) (given : Answer) (later : List Act) (fates : List Fate) (halt : Halt) → Behind P halt
+      → reply ≡ said given → P given later halt → AreServed server (asked r reply ∷ later) fates
+      → Goes secret name begins v t server rows (asked r reply ∷ later) fates halt
+  goes_on_asked P reply given later [] halt on is p over = absurd over
+  goes_on_asked P reply given later (fate ∷ fates) halt on is p (one, rest) =
+      let a = is_answered server r given reply fate is one in
+      let beyond : AreServed (rows_after server a.changes) later fates = subst (λ (f : Fate). AreServed (rows_behind server f) later fates) a.fate_is rest in
+      subst (λ (f : Fate). Goes secret name begins v t server rows (asked r reply ∷ later) (f ∷ fates) halt) (sym a.fate_is)
+      (leads_to_on keeps says secret differ name v t (makes m ∷ serves m a.now a.changes given true ∷ []) (call_steps name begins later fates)
+      (rows_after server a.changes) rows (rows_served (rows_after server a.changes) fates) (rows_done rows later) halt
+      (answered_leads a.now a.changes given a.fits a.rule) (on a.now a.changes given later fates a.fits a.rule p beyond))
+
+  pub asks_goes : (P : Answer → List Act → Halt → Type 0) (acts : List Act) (fates : List Fate) (halt : Halt) → Behind P halt → AsksFirst r P acts halt
+      → AreServed server acts fates → Goes secret name begins v t server rows acts fates halt
+  asks_goes P acts fates halt on (reply, later, is, inl (why, fails, refuses)) over =
+      subst (λ (xs : List Act). Goes secret name begins v t server rows xs fates halt) (sym is)
+      (last_asked reply later fates halt why refuses (subst (λ (xs : List Act). AreServed server xs fates) is over))
+  asks_goes P acts fates halt on (reply, later, is, inr (inl wants)) over =
+      subst (λ (xs : List Act). Goes secret name begins v t server rows xs fates halt) (sym is)
+      (last_asked reply later fates halt refusal.Memory wants (subst (λ (xs : List Act). AreServed server xs fates) is over))
+  asks_goes P acts fates halt on (reply, later, is, inr (inr (given, said_so, p))) over =
+      subst (λ (xs : List Act). Goes secret name begins v t server rows xs fates halt) (sym is)
+      (goes_on_asked P reply given later fates halt on said_so p (subst (λ (xs : List Act). AreServed server xs fates) is over))
