@@ -13,12 +13,12 @@ use Rattle.sn_world.specs.Happens.{Happens, Trace, commits, makes}
 use Rattle.sn_world.specs.World.{World}
 
 -- the first steps of a trace
-record First (secret : Bytes) (w : World) (s : Ideal) (steps : List Happens) : Type 0 where
-  moves : List Move
-  next : World
-  goes : Trace secret w s steps moves next
+pub record First (secret : Bytes) (w : World) (s : Ideal) (steps : List Happens) : Type 0 where
+  pub moves : List Move
+  pub next : World
+  pub goes : Trace secret w s steps moves next
 
-first_of : (secret : Bytes) (a b : List Happens) (moves : List Move) (w next : World) (s : Ideal) → Trace secret w s (a ++ b) moves next → First secret w s a
+pub first_of : (secret : Bytes) (a b : List Happens) (moves : List Move) (w next : World) (s : Ideal) → Trace secret w s (a ++ b) moves next → First secret w s a
 first_of secret [] b moves w next s t = record { moves = []; next = w; goes = (refl, refl) }
 first_of secret (step ∷ a) b moves w next s (mid, first, later, does, says, rest, is) =
     let x = first_of secret a b later mid next (end_from s first) rest in
@@ -62,7 +62,7 @@ split name begins server (asked r reply ∷ front) later (fate ∷ fates) (one, 
     }
 
 -- the rows that they leave
-rows_left : (secret name : Bytes) (begins : Option KeySet) (acts : List Act) (fates : List Fate) (server : Rows) (moves : List Move) (w next : World) (s : Ideal)
+pub rows_left : (secret name : Bytes) (begins : Option KeySet) (acts : List Act) (fates : List Fate) (server : Rows) (moves : List Move) (w next : World) (s : Ideal)
     → AreServed server acts fates → Trace secret w s (call_steps name begins acts fates) moves next
     → (next.server ≡ rows_served w.server fates) × (next.devices name ≡ rows_done (w.devices name) acts)
 rows_left secret name begins [] fates server moves w next s none (still, same) = (

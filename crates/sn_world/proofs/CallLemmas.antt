@@ -27,7 +27,7 @@ use Rattle.sn_world.specs.World.{World}
 
 -- ---- one after another
 
-trace_append : (secret : Bytes) (a b : List Happens) (ms ns : List Move) (w v x : World) (s : Ideal) → Trace secret w s a ms v
+pub trace_append : (secret : Bytes) (a b : List Happens) (ms ns : List Move) (w v x : World) (s : Ideal) → Trace secret w s a ms v
     → Trace secret v (end_from s ms) b ns x → Trace secret w s (a ++ b) (ms ++ ns) x
 trace_append secret [] b ms ns w v x s (none, same) t =
     subst (λ (ks : List Move). Trace secret w s b (ks ++ ns) x) (sym none)

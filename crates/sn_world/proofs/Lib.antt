@@ -43,6 +43,7 @@ pub mod Served
 pub mod ServedRegister
 pub mod ServedSync
 pub mod ServedTells
+pub mod Sessions
 pub mod SetsKept
 pub mod Settled
 pub mod Settling

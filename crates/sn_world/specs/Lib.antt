@@ -10,6 +10,7 @@ pub mod Making
 pub mod Pulled
 pub mod Rounds
 pub mod Serving
+pub mod Sessions
 pub mod Settling
 pub mod Synced
 pub mod World

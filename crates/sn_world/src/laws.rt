@@ -5,6 +5,7 @@ ghost use Rattle.sn_world.specs.Calls.{CallsGo, FrontsGo, LeadsKeep, RegistersGo
 ghost use Rattle.sn_world.specs.Laws.{AppliedWhole, HoldsFirst, Keeps, KeepsCommitting, KeepsMaking, KeepsServing, KeepsStarting, RegisteredBegins, SaysSome, SendsArePosted, ServedTells, SignedInBegins, SignedInRenews, SyncedRows, TraceKeeps};
 ghost use Rattle.sn_world.specs.Making.{MakesLive};
 ghost use Rattle.sn_world.specs.Rounds.{RoundsGo};
+ghost use Rattle.sn_world.specs.Sessions.{LinesGo, LinesKeep};
 ghost use Rattle.sn_world.specs.Synced.{SyncsEnd};
 
 use crate::settling_laws::applies_live;
@@ -248,3 +249,23 @@ pub fn sign_ins_go()
 pub fn fronts_go()
     ensures { FrontsGo }
 {}
+
+/// Whatever devices call one after another, whole or stopped, and whatever requests are delivered late or
+/// again between these, is one list of such steps, and the invariant holds behind it.
+pub fn lines_go()
+    ensures { LinesGo }
+{
+    keeps();
+    calls_go();
+    syncs_go();
+    registers_go();
+    sign_ins_go();
+}
+
+/// So it is from the beginning on.
+pub fn lines_keep()
+    ensures { LinesKeep }
+{
+    holds_first();
+    lines_go();
+}
