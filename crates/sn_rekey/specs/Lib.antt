@@ -1,0 +1,4 @@
+pub mod Carrying
+pub mod Laws
+pub mod Rekeying
+pub mod Rewraps
