@@ -1,5 +1,5 @@
 -- How a call over a link goes on behind an account, and the first rows that keep it.
-use Rattle.std.specs.Prelude.{◌≡◌, ◌≢◌, ◌⊎◌, ◌<◌, ◌≤◌, ℕ, IsTrue, length, nat_le, List, [], ◌∷◌, Option, Some, None, Result, Ok, Err}
+use Rattle.std.specs.Prelude.{◌≡◌, ◌≤◌, ℕ, IsTrue, length, nat_le, List, [], ◌∷◌, Option, Some, None, Ok, Err}
 use Rattle.std.specs.List.{AllByRecursion, list_all}
 use Rattle.std.proofs.Common.{arith, inl, inr, refl, sym, ap, subst}
 use Rattle.std.proofs.lemmas.Bool.{and_from}
@@ -7,16 +7,15 @@ use Rattle.std.proofs.lemmas.Bool.Decides.{nat_tests}
 use Rattle.std.proofs.lemmas.List.Elements.{recursion_from_All}
 use Rattle.rand_chacha.specs.ChaCha.{ChaCha}
 use Rattle.sn_disk.specs.Disk.{LeavesOnly}
-use Rattle.sn_disk.specs.Moments.{started, weaker}
+use Rattle.sn_disk.specs.Moments.{started}
 use Rattle.sn_disk.specs.declared.disk.Disk.{Ghosts}
 use Rattle.sn_journal.specs.declared.owner.Owner.{Owner}
 use Rattle.sn_journal.specs.declared.owner.Owner.TheVariants.{Device as DeviceOwner}
 use Rattle.sn_net.specs.Exchanges.{Exchange}
 use Rattle.sn_rows.specs.Bounds.{HasLength, IsVisible, is_visible}
-use Rattle.sn_rows.specs.Table.{Rows, rows_after}
+use Rattle.sn_rows.specs.Table.{Rows}
 use Rattle.sn_rows.specs.declared.change.Change.{Change}
 use Rattle.sn_rows.specs.declared.device_rows.OwnerRow.{OwnerRow}
-use Rattle.sn_rows.specs.declared.key.Key.{Key}
 use Rattle.sn_rows.specs.declared.value.Value.{Value}
 use Rattle.sn_string.specs.Bounds.{IsIdentifier}
 use Rattle.sn_sync.specs.Members.{IsSessionToken}
@@ -31,10 +30,10 @@ use Rattle.sn_table.specs.declared.committed.CommitError.{CommitError}
 use Rattle.sn_table.specs.declared.committed.CommitError.TheVariants as commit
 use Rattle.sn_table.specs.declared.table.Table.{Table}
 use Rattle.sn_client.specs.Asked.{AsksOnce, IsAsked}
-use Rattle.sn_client.specs.Asking.{Fails, Reply, said}
+use Rattle.sn_client.specs.Asking.{Reply, said}
 use Rattle.sn_client.specs.Calls.{Ends, IfRefused, StandsOrHas, of_commit}
-use Rattle.sn_client.specs.Going.{GivesAccount, GoesOver, KeepsOrNot, MayWant}
-use Rattle.sn_client.specs.Runs.{Act, AreExchanges, AsksAccount, EndsCommit, Given, Halt, StopsAt, asked, commits, nothing, refused}
+use Rattle.sn_client.specs.Going.{GivesAccount, GoesOver, MayWant}
+use Rattle.sn_client.specs.Runs.{Act, AreExchanges, AsksAccount, EndsCommit, Given, Halt, asked, nothing, refused}
 use Rattle.sn_client.specs.States.{Bytes, HasNoAccount, HasOwner, IsFresh, IsSound}
 use Rattle.sn_client.specs.Steps.{Step, What}
 use Rattle.sn_client.specs.declared.called.Called.{Called}
@@ -98,12 +97,12 @@ module _ {S D T : Type 0} (is_open : S → Kept → Type 0) (may_have : D → Ke
     ends = (refl, opens);
   }
 
-  -- one that gets an account, and keeps it in its last commit
-  pub keeps_it : (words : ChaCha) (asks : List Exchange → Type 0) (host : Bytes) (r : Request) (what : Bytes → Bytes → What) (uuid token : Bytes)
-      (changes : List Change) (result : Called S D T) → GivesAccount asks host r uuid token → Step kept.rows words (what uuid token) changes words
-      → ((acts : List Act) × (halt : Halt) × EndsCommit (what uuid token) changes nothing words acts halt × Ends is_open may_have gives kept acts halt words result)
-      → GoesOver is_open may_have gives (MayWant (AsksAccount kept.rows words r what)) asks host kept words result
-  keeps_it words asks host r what uuid token changes result (identifier, once) step (acts, halt, commit, ends) = record {
+  -- one that gets an account, and makes its last commit with it
+  pub keeps_with : (words left : ChaCha) (asks : List Exchange → Type 0) (host : Bytes) (r : Request) (what : Bytes → Bytes → What) (uuid token : Bytes)
+      (changes : List Change) (result : Called S D T) → GivesAccount asks host r uuid token → Step kept.rows words (what uuid token) changes left
+      → ((acts : List Act) × (halt : Halt) × EndsCommit (what uuid token) changes nothing left acts halt × Ends is_open may_have gives kept acts halt left result)
+      → GoesOver is_open may_have gives (MayWant (AsksAccount kept.rows words r what)) asks host kept left result
+  keeps_with words left asks host r what uuid token changes result (identifier, once) step (acts, halt, commit, ends) = record {
     acts = asked r (said (answer.Account token identifier uuid)) ∷ acts;
     halt = halt;
     runs = inr (
@@ -113,14 +112,26 @@ module _ {S D T : Type 0} (is_open : S → Kept → Type 0) (may_have : D → Ke
       inr (inr (
         answer.Account token identifier uuid,
         refl,
-        (token, identifier, uuid, refl, (changes, words, step, commit)),
+        (token, identifier, uuid, refl, (changes, left, step, commit)),
       )),
     );
     exchanges = once.exchange ∷ [];
-    are = (once.exchange, [], refl, once.is, no_exchanges host (what uuid token) changes nothing words acts halt commit);
+    are = (once.exchange, [], refl, once.is, no_exchanges host (what uuid token) changes nothing left acts halt commit);
     asked_so = once.asked;
-    ends = ends_behind r (said (answer.Account token identifier uuid)) acts halt words result ends;
+    ends = ends_behind r (said (answer.Account token identifier uuid)) acts halt left result ends;
   }
+
+  -- one that draws nothing for it
+  pub keeps_it : (words : ChaCha) (asks : List Exchange → Type 0) (host : Bytes) (r : Request) (what : Bytes → Bytes → What) (uuid token : Bytes)
+      (changes : List Change) (result : Called S D T) → GivesAccount asks host r uuid token → Step kept.rows words (what uuid token) changes words
+      → ((acts : List Act) × (halt : Halt) × EndsCommit (what uuid token) changes nothing words acts halt × Ends is_open may_have gives kept acts halt words result)
+      → GoesOver is_open may_have gives (MayWant (AsksAccount kept.rows words r what)) asks host kept words result
+  keeps_it words asks host r what uuid token changes result given step ends = keeps_with words words asks host r what uuid token changes result given step ends
+
+-- an account came back, and memory is wanting behind it
+pub wants_behind : (asks : List Exchange → Type 0) (host : Bytes) (r : Request) (uuid token : Bytes) → GivesAccount asks host r uuid token
+    → IsAsked asks host r (Err refusal.Memory)
+wants_behind asks host r uuid token (identifier, once) = inr (said (answer.Account token identifier uuid), once, inr refl)
 
 -- ---- what a crash leaves
 

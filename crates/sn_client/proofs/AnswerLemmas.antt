@@ -1,6 +1,6 @@
 -- An answer to a sync that is applied, or not, and whether something is left behind it.
 use Rattle.std.specs.Prelude.{IsFalse}
-use Rattle.std.proofs.Common.{◌≡◌, ◌≢◌, ◌⊎◌, ◌↔◌, ℕ, Bool, true, false, IsTrue, List, Option, Some, None, refl, sym, ap, ◌∙◌, subst, inl, inr}
+use Rattle.std.proofs.Common.{◌≡◌, ◌≢◌, ◌⊎◌, ◌↔◌, Bool, true, false, IsTrue, List, Option, refl, ap, subst, inl, inr}
 use Rattle.rand_chacha.specs.ChaCha.{ChaCha}
 use Rattle.sn_conflict.specs.Checks.{FailsAt, Passes}
 use Rattle.sn_conflict.specs.declared.error.CheckError.{CheckError}
@@ -23,7 +23,6 @@ use Rattle.sn_client.specs.Taken.{StopsBy, refusal_of}
 use Rattle.sn_client.specs.Taking.{RunsOut, told_by}
 use Rattle.sn_client.specs.declared.error.ClientError.{ClientError}
 use Rattle.sn_client.specs.declared.error.ClientError.TheVariants as refusal
-use Rattle.sn_client.specs.declared.error.Place.{Place}
 use Rattle.sn_client.specs.declared.taken.NotTaken.{NotTaken}
 use Rattle.sn_client.specs.declared.taken.NotTaken.TheVariants as stop
 use Rattle.sn_client.proofs.Frames.{one_owner}

@@ -5,7 +5,7 @@ use Rattle.std.specs.Prelude.{IsSome}
 use Rattle.rand_chacha.specs.ChaCha.{ChaCha}
 use Rattle.sn_items.specs.Items.{OpensItem}
 use Rattle.sn_rows.specs.Facts.{put_apart}
-use Rattle.sn_rows.specs.Table.{Rows, rows_after}
+use Rattle.sn_rows.specs.Table.{Rows, key_of, rows_after}
 use Rattle.sn_rows.specs.declared.body.RowBody.TheVariants as row
 use Rattle.sn_rows.specs.declared.body.RowStrings.{RowStrings}
 use Rattle.sn_rows.specs.declared.change.Change.{Change}
@@ -20,6 +20,7 @@ use Rattle.sn_sets.specs.Sets.{sealed_of}
 use Rattle.sn_sets.specs.declared.sets.Sets.{Sets}
 use Rattle.sn_string.specs.declared.params.KeySet.{KeySet}
 use Rattle.sn_string.proofs.Facts.{same_keys}
+use Rattle.sn_string.specs.Bounds.{IsIdentifier}
 use Rattle.sn_sync.specs.declared.answer.Answer.{Answer}
 use Rattle.sn_sync.specs.declared.answer.Answer.TheVariants as answer
 use Rattle.sn_sync.specs.declared.item.Item.{Item}
@@ -28,10 +29,13 @@ use Rattle.sn_sync.specs.declared.request.Request.TheVariants as request
 use Rattle.sn_client.specs.Laws.{StepsStaySoundDevice}
 use Rattle.sn_client.specs.Sending.{Posts, as_posted}
 use Rattle.sn_client.specs.States.{Bytes, Columns, HasLocal, HasOwner, HasSet, HasSets, IsInSlot, IsOwnDraft, IsSetOf, IsSoundDevice, columns}
-use Rattle.sn_client.specs.Steps.{AppliesAnswer, AppliesTo, Deletes, Edits, PutsNew, Renews, Step, What, adopts, applies, asks, begins, deletes, drafted, edits, forgets, posts, puts, renews}
+use Rattle.sn_client.specs.Steps.{Adopts, AppliesAnswer, AppliesTo, Asks, Deletes, Edits, Forgets, PutsNew, Renews, Step, What, adopts, applies, asks, begins, deletes, drafted, edits, forgets, posts, puts, renews}
+use Rattle.sn_client.proofs.AdoptRows.{adopted, adopted_sets, sets_adopted}
+use Rattle.sn_client.proofs.AdoptSound.{adopted_own, past_asked}
 use Rattle.sn_client.proofs.Frames.{Keeps, Parts, beside, item_after, one_owner, parts_keep}
 use Rattle.sn_client.proofs.SoundSteps.{begin_empty, steps_stay_sound}
 use Rattle.sn_client.proofs.Standing.{Stand}
+use Rattle.sn_client.proofs.StateLemmas.{lengths}
 use Rattle.sn_client.proofs.StepStands.{apply_parts, apply_stands, delete_parts, delete_stands, edit_parts, edit_stands, new_stands, post_parts, post_stands, put_parts, renew_parts}
 use Rattle.sn_client.proofs.Well.{own_kept}
 
@@ -195,6 +199,84 @@ apply_own rows words left (request.Params identifier) given changes device s = a
 apply_own rows words left (request.SignIn identifier pw) given changes device s = absurd s
 apply_own rows words left (request.ChangePw token current pw cost nonce) given changes device s = absurd s
 
+-- the set that is asked for is another, or none
+asked_own : (rows : Rows) (mine : OwnerRow) (held : Sets) (c : Change) → IsSoundDevice rows → HasSets rows mine held → key_of c ≡ key.Set Asked
+    → AreOwn (rows_after rows (c ∷ []))
+asked_own rows mine held c device had of owner sets n l has found =
+    let own : HasOwner (rows_after rows (c ∷ [])) mine = past_asked rows c key.Owner of (λ e. cc) ∙ had.owned in
+    let named : owner.identifier ≡ mine.identifier =
+    ap (λ (o : OwnerRow). o.identifier) (one_owner (rows_after rows (c ∷ [])) owner mine has.owned own) in
+    let same : held.present ≡ sets.present =
+    one_set rows mine.identifier Present held.present sets.present had.in_use
+    (slot_back rows (rows_after rows (c ∷ [])) Present owner.identifier mine.identifier (Some sets.present) (past_asked rows c (key.Set Present) of (λ e. cc))
+    named has.in_use) in
+    subst (λ (set : KeySet). IsOwnDraft set (columns l)) same
+    (device.drafts mine held n l had (sym (past_asked rows c (key.Local n) of (λ e. cc)) ∙ found))
+
+ask_own : (rows : Rows) (set : KeySet) (changes : List Change) → IsSoundDevice rows → Asks rows set changes → AreOwn (rows_after rows changes)
+ask_own rows set changes device s =
+    subst (λ (cs : List Change). AreOwn (rows_after rows cs)) (sym s.changes_are)
+    (asked_own rows s.owner s.sets s.change device s.holds s.put.puts.key_is)
+
+-- a set's row has the keys of a set
+set_of_row : (identifier : Bytes) → IsIdentifier identifier → (keys : SetRow) → (set : KeySet) × IsSetOf identifier keys set
+set_of_row identifier fits keys = (
+  record {
+    params = record {
+      identifier = identifier;
+      pw_cost = keys.pw_cost;
+      pw_nonce = keys.pw_nonce;
+      identifier_fits = fits;
+      cost_fits = (keys.cost_fits, keys.cost_bounded);
+      nonce_fits = lengths 1 256 keys.pw_nonce keys.nonce_fits;
+    };
+    pw = keys.pw;
+    mk = keys.mk;
+    ak = keys.ak;
+  },
+  record { identifier_is = refl; cost = refl; nonce = refl; pw = refl; mk = refl; ak = refl },
+)
+
+-- the sets after the one that was asked for is dropped are those before it without that one
+pub sets_before : (rows : Rows) (changes : List Change) (owner mine : OwnerRow) (sets : Sets) → (f : Forgets rows changes) → HasOwner rows mine
+    → HasSets (rows_after rows (f.change ∷ [])) owner sets
+    → (held : Sets) × HasSets rows mine held × (held.present ≡ sets.present) × (held.older ≡ sets.older)
+sets_before rows changes owner mine sets f owned has =
+    let of = f.removes.key_is in
+    let after : Rows = rows_after rows (f.change ∷ []) in
+    let own : HasOwner after mine = past_asked rows f.change key.Owner of (λ e. cc) ∙ owned in
+    let named : owner.identifier ≡ mine.identifier = ap (λ (o : OwnerRow). o.identifier) (one_owner after owner mine has.owned own) in
+    let fits : IsIdentifier mine.identifier = subst IsIdentifier (has.in_use.2.identifier_is ∙ named) sets.present.params.identifier_fits in
+    let made = set_of_row mine.identifier fits f.asked in (
+      record { present = sets.present; older = sets.older; asked = Some made.0 },
+      record {
+        owned = owned;
+        in_use = slot_back rows after Present owner.identifier mine.identifier (Some sets.present) (past_asked rows f.change (key.Set Present) of (λ e. cc)) named
+            has.in_use;
+        before = slot_back rows after Older owner.identifier mine.identifier sets.older (past_asked rows f.change (key.Set Older) of (λ e. cc)) named has.before;
+        wanted = (f.asked, f.stands, made.1);
+      },
+      refl,
+      refl,
+    )
+
+forget_own : (rows : Rows) (changes : List Change) → IsSoundDevice rows → Forgets rows changes → AreOwn (rows_after rows changes)
+forget_own rows changes device f =
+    subst (λ (cs : List Change). AreOwn (rows_after rows cs)) (sym f.changes_are) (λ owner sets n l has found.
+    (let mine = device.sound.owner (key.Set Asked) (value.Set f.asked) f.stands in
+    let before = sets_before rows changes owner mine.0 sets f mine.1 has in
+    asked_own rows mine.0 before.0 f.change device before.1 f.removes.key_is owner sets n l has found))
+
+adopt_own : (rows : Rows) (words left : ChaCha) (set : KeySet) (token : Bytes) (changes : List Change) → IsSoundDevice rows
+    → Adopts rows words set token changes left → AreOwn (rows_after rows changes)
+adopt_own rows words left set token changes device a owner sets n l has found =
+    let d = adopted rows words left set token changes a in
+    let after : HasSets (rows_after rows changes) d.later (sets_adopted a.sets set) =
+    adopted_sets rows a.sets set token a.owner (rows_after rows changes) d in
+    let same : sets_adopted a.sets set ≡ sets = one_sets (rows_after rows changes) d.later owner (sets_adopted a.sets set) sets after has in
+    let old = d.items n l found in
+    subst (λ (held : Sets). IsOwnDraft held.present (columns l)) same (adopted_own a.sets set old.0 l old.2 (device.drafts a.owner a.sets n old.0 a.holds old.1))
+
 drafts_after : (rows : Rows) (words left : ChaCha) (what : What) (changes : List Change) → IsSoundDevice rows → Step rows words what changes left
     → AreOwn (rows_after rows changes)
 drafts_after rows words left (begins set account token) changes device step = λ owner sets n l has found.
@@ -205,9 +287,9 @@ drafts_after rows words left (edits uuid text) changes device step = edit_own ro
 drafts_after rows words left (deletes uuid) changes device step = delete_own rows uuid changes device step.0
 drafts_after rows words left (posts numbers) changes device step = post_own rows numbers changes device step.0
 drafts_after rows words left (applies r given) changes device step = apply_own rows words left r given changes device step
-drafts_after rows words left (asks set) changes device step = absurd step.0
-drafts_after rows words left (adopts set token) changes device step = absurd step
-drafts_after rows words left forgets changes device step = absurd step.0
+drafts_after rows words left (asks set) changes device step = ask_own rows set changes device step.0
+drafts_after rows words left (adopts set token) changes device step = adopt_own rows words left set token changes device step
+drafts_after rows words left forgets changes device step = forget_own rows changes device step.0
 
 pub steps_stay_sound_device : StepsStaySoundDevice
 steps_stay_sound_device rows words left what changes device step = record {

@@ -14,7 +14,7 @@ use Rattle.sn_rows.specs.declared.change.Change.{Change}
 use Rattle.sn_rows.specs.declared.device_rows.LocalItem.{LocalItem}
 use Rattle.sn_rows.specs.declared.key.Key.{Key}
 use Rattle.sn_rows.specs.declared.key.Key.TheVariants as key
-use Rattle.sn_rows.specs.declared.key.Slot.TheVariants.{Older}
+use Rattle.sn_rows.specs.declared.key.Slot.TheVariants.{Asked, Older}
 use Rattle.sn_rows.specs.declared.value.Value.{Value}
 use Rattle.sn_rows.specs.declared.value.Value.TheVariants as value
 use Rattle.sn_sets.specs.declared.sets.Sets.{Sets}
@@ -331,6 +331,14 @@ kept_told rows words left (request.Params identifier) given changes uuid number 
 kept_told rows words left (request.SignIn identifier pw) given changes uuid number latest sound a none d = absurd a
 kept_told rows words left (request.ChangePw token current pw cost nonce) given changes uuid number latest sound a none d = absurd a
 
+-- ---- a set that is asked for
+
+kept_asked : (rows : Rows) (c : Change) (changes : List Change) (uuid : Bytes) (number : ℕ) (latest : RowBody) → key_of c ≡ key.Set Asked
+    → changes ≡ c ∷ [] → HasDraft rows uuid number latest → HasDraft (rows_after rows changes) uuid number latest
+kept_asked rows c changes uuid number latest named is d =
+    kept_by rows changes uuid number latest
+    (subst (Spares (key.Local number)) (sym is) (spares_one c (key.Set Asked) (key.Local number) named (λ e. cc))) d
+
 -- ---- all steps
 
 pub draft_stays : (rows : Rows) (words left : ChaCha) (what : What) (changes : List Change) (uuid : Bytes) (number : ℕ) (latest : RowBody)
@@ -353,6 +361,8 @@ draft_stays rows words left (posts numbers) changes uuid number latest sound ste
     kept_posted rows rows numbers changes uuid number latest d d step.0
 draft_stays rows words left (applies r given) changes uuid number latest sound step none d =
     kept_told rows words left r given changes uuid number latest sound step none d
-draft_stays rows words left (asks set) changes uuid number latest sound step none d = absurd step.0
-draft_stays rows words left (adopts set token) changes uuid number latest sound step none d = absurd step
-draft_stays rows words left forgets changes uuid number latest sound step none d = absurd step.0
+draft_stays rows words left (asks set) changes uuid number latest sound step none d =
+    kept_asked rows step.0.change changes uuid number latest step.0.put.puts.key_is step.0.changes_are d
+draft_stays rows words left (adopts set token) changes uuid number latest sound step none d = absurd (none tt)
+draft_stays rows words left forgets changes uuid number latest sound step none d =
+    kept_asked rows step.0.change changes uuid number latest step.0.removes.key_is step.0.changes_are d

@@ -204,7 +204,7 @@ sets_after rows after owner later owned keeps sets = record {
 pub one_owner : (rows : Rows) (a b : OwnerRow) → HasOwner rows a → HasOwner rows b → a ≡ b
 one_owner rows a b h k = cc
 
-locals_after : (rows after mid : Rows) (later : OwnerRow) (next : ℕ) → HasOwner after later → later.next ≡ next
+pub locals_after : (rows after mid : Rows) (later : OwnerRow) (next : ℕ) → HasOwner after later → later.next ≡ next
     → ((n : ℕ) (l : LocalItem) → HasLocal after n l → HasLocal mid n l) → Stand IsSoundItem next mid → AreSoundLocals after
 locals_after rows after mid later next owned counted from stand = record {
   numbered = λ any n l has found.
@@ -213,6 +213,14 @@ locals_after rows after mid later next owned counted from stand = record {
       subst (λ (k : ℕ). n < k) (sym same) below);
   apart = λ n m l k found too same. stand.apart n m l k (from n l found) (from m k too) same;
   items = λ n l found. stand.items n l (from n l found);
+}
+
+-- the items of sound rows stand
+pub sound_stands : (rows : Rows) (owner : OwnerRow) → IsSound rows → HasOwner rows owner → Stand IsSoundItem owner.next rows
+sound_stands rows owner sound owned = record {
+  numbered = λ n l found. sound.locals.numbered owner n l owned found;
+  apart = sound.locals.apart;
+  items = sound.locals.items;
 }
 
 -- a commit of which this holds leaves sound rows sound

@@ -1,15 +1,17 @@
 -- What a call keeps of a device, behind what was done before it.
-use Rattle.std.proofs.Common.{arith, ◌≡◌, ◌≤◌, ◌∙◌, ℕ}
+use Rattle.std.proofs.Common.{arith, ◌≡◌, ◌≢◌, ◌≤◌, ◌∙◌, ℕ, subst, sym}
 use Rattle.sn_disk.specs.Disk.{Growing}
 use Rattle.sn_disk.specs.declared.disk.Disk.{Ghosts}
 use Rattle.sn_io.specs.Causes.{Rose}
-use Rattle.sn_client.specs.Calls.{IfBroken, IfStands, called_disk, device_disk, device_rows}
-use Rattle.sn_client.specs.States.{IsSound}
-use Rattle.sn_client.specs.Syncing.{KeepsDevice}
+use Rattle.sn_client.specs.Calls.{IfBroken, IfRefused, IfStands, called_disk, device_disk}
+use Rattle.sn_client.specs.Syncing.{IfOn, IsAnsweredPast, KeepsDevice, MadeAtMost, called_past}
 use Rattle.sn_client.specs.declared.called.Called.{Called}
 use Rattle.sn_client.specs.declared.called.Called.TheVariants as called
 use Rattle.sn_client.specs.declared.device.Device.{Device}
 use Rattle.sn_client.specs.declared.error.ClientError.{ClientError}
+use Rattle.sn_client.specs.declared.error.ClientError.TheVariants as refusal
+use Rattle.sn_client.specs.declared.went.Went.{Went}
+use Rattle.sn_client.specs.declared.went.Went.TheVariants.{On, Over}
 
 rises : (before between now : ℕ) → before ≤ between → Rose between now → Rose before now
 rises before between now later rose = omega arith
@@ -43,3 +45,41 @@ module _ {D : Type 0} {g : Ghosts D} {T : Type 0} where
       → KeepsDevice old (called.Done device given)
   keeps_done old device why given keeps =
       record { sound = keeps.sound; least = keeps.least; fault = tt; grows = keeps.grows; later = keeps.later }
+
+  -- ---- pieces of a call
+
+  -- the end of a call that goes on from a piece
+  pub keeps_answered : (old : Device D g) (went : Went (Device D g) D T) (result : Called (Device D g) D T) → IsAnsweredPast went result
+      → KeepsDevice old (called_past went) → KeepsDevice old result
+  keeps_answered old (On device made) result (given, is) keeps =
+      subst (λ (c : Called (Device D g) D T). KeepsDevice old c) (sym is) (keeps_done old device refusal.RoundsUsed given keeps)
+  keeps_answered old (Over ended) result is keeps = subst (λ (c : Called (Device D g) D T). KeepsDevice old c) (sym is) keeps
+
+module _ {S D T : Type 0} where
+  -- a call that goes on is not refused
+  pub refused_answered : (went : Went S D T) (result : Called S D T) (P : ClientError → Type 0) → IsAnsweredPast went result → IfRefused (called_past went) P
+      → IfRefused result P
+  refused_answered (On device made) result P (given, is) so = subst (λ (c : Called S D T). IfRefused c P) (sym is) tt
+  refused_answered (Over ended) result P is so = subst (λ (c : Called S D T). IfRefused c P) (sym is) so
+
+  -- where no piece goes on
+  pub never_on : (went : Went S D T) (P : S → Type 0) → IfOn went (λ device. ⊥) → IfOn went P
+  never_on (On device made) P never = absurd never
+  never_on (Over result) P never = tt
+
+  pub never_made : (went : Went S D T) → IfOn went (λ device. ⊥) → MadeAtMost went
+  never_made (On device made) never = absurd never
+  never_made (Over result) never = tt
+
+  -- a fault of the link is one since earlier too
+  pub link_rises : (before between now : ℕ) (result : Called S D T) → before ≤ between
+      → IfRefused result (λ why. why ≡ refusal.LinkFault → Rose between now) → IfRefused result (λ why. why ≡ refusal.LinkFault → Rose before now)
+  link_rises before between now (called.Done device given) later so = tt
+  link_rises before between now (called.Refused device why) later so = λ is. rises before between now later (so is)
+  link_rises before between now (called.Broken disk) later so = tt
+
+  pub no_link_rises : (result : Called S D T) (P : Type 0) → IfRefused result (λ why. why ≢ refusal.LinkFault)
+      → IfRefused result (λ why. why ≡ refusal.LinkFault → P)
+  no_link_rises (called.Done device given) P so = tt
+  no_link_rises (called.Refused device why) P so = λ is. absurd (so is)
+  no_link_rises (called.Broken disk) P so = tt

@@ -44,7 +44,7 @@ Rowed = Key × Value
 abbrev pub row_of : Numbered → Rowed
 row_of w = (key.Local w.0, value.Local w.1)
 
-local_key : (k : Key) → key_kind k ≡ kind.Local → (n : ℕ) × (k ≡ key.Local n)
+pub local_key : (k : Key) → key_kind k ≡ kind.Local → (n : ℕ) × (k ≡ key.Local n)
 local_key (key.Local n) is = (n, refl)
 local_key key.Store is = absurd cc
 local_key (key.Account n) is = absurd cc
@@ -53,7 +53,7 @@ local_key (key.Item uuid) is = absurd cc
 local_key key.Owner is = absurd cc
 local_key (key.Set slot) is = absurd cc
 
-local_value : (v : Value) → value_kind v ≡ kind.Local → (local : LocalItem) × (v ≡ value.Local local)
+pub local_value : (v : Value) → value_kind v ≡ kind.Local → (local : LocalItem) × (v ≡ value.Local local)
 local_value (value.Local local) is = (local, refl)
 local_value (value.Store row) is = absurd cc
 local_value (value.Account row) is = absurd cc
@@ -62,10 +62,10 @@ local_value (value.Item row) is = absurd cc
 local_value (value.Owner row) is = absurd cc
 local_value (value.Set row) is = absurd cc
 
-same_number : (n m : ℕ) → key.Local n ≡ key.Local m → n ≡ m
+pub same_number : (n m : ℕ) → key.Local n ≡ key.Local m → n ≡ m
 same_number n m same = cc
 
-same_local : (local other : LocalItem) → value.Local local ≡ value.Local other → local ≡ other
+pub same_local : (local other : LocalItem) → value.Local local ≡ value.Local other → local ≡ other
 same_local local other same = cc
 
 same_item : (v w : Numbered) → row_of v ≡ row_of w → v ≡ w
@@ -96,7 +96,7 @@ unfolding IsStrictlySortedBy
 by_number [] sorted = tt
 by_number (w ∷ items) sorted = (above w.0 items sorted.0, by_number items sorted.1)
 
-are_items : (rows : RowMap) (items : List Numbered) → AreRowsOf rows kind.Local (map row_of items) → AreItems (row_in rows) items
+pub are_items : (rows : RowMap) (items : List Numbered) → AreRowsOf rows kind.Local (map row_of items) → AreItems (row_in rows) items
 are_items rows items are = record {
   rising = IsStrictlyIncreasing-from_sorted (map (λ w. w.0) items) (by_number items are.sorted);
   whole = λ n local. (

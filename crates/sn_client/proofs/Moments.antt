@@ -13,11 +13,10 @@ use Rattle.sn_sync.specs.declared.request.Request.{Request}
 use Rattle.sn_table.specs.Batches.{IsAllOrNothing, IsStore}
 use Rattle.sn_table.specs.Facts.{open_each}
 use Rattle.sn_table.specs.Kept.{Kept, with_batch}
-use Rattle.sn_table.specs.Tables.{table_disk, table_owner}
 use Rattle.sn_client.specs.Calls.{CallsOver, Ends, HasFront, IsOpen, MayHave, called_disk, device_disk, kept_done, tried}
-use Rattle.sn_client.specs.Runs.{Act, Call, Given, Halt, Standing, acts_of, answered, asked, broken, commits, refused}
+use Rattle.sn_client.specs.Runs.{Act, Call, Given, Halt, Standing, acts_of, asked, commits}
 use Rattle.sn_client.specs.States.{Bytes}
-use Rattle.sn_client.specs.Steps.{What, applies}
+use Rattle.sn_client.specs.Steps.{applies}
 use Rattle.sn_client.specs.Syncing.{AppliesOne, EndsOne, IsAskedAndApplied, IsBetween, IsOpenSince, MayHaveSince, gives_nothing}
 use Rattle.sn_client.specs.declared.called.Called.{Called}
 use Rattle.sn_client.specs.declared.called.Called.TheVariants as called
@@ -188,7 +187,7 @@ module _ {D : Type 0} {g : Ghosts D} where
 module _ {S D T : Type 0} (P Q : S → Kept → Type 0) (M N : D → Kept → List Change → Type 0) (kept : Kept)
     (opens : (device : S) (acts : List Act) → P device (kept_done kept acts) → Q device (kept_done kept acts))
     (may : (disk : D) (acts : List Act) (changes : List Change) → M disk (kept_done kept acts) changes → N disk (kept_done kept acts) changes) where
-  ends_as : (gives : T → Given) (acts : List Act) (halt : Halt) (left : ChaCha) (result : Called S D T) → Ends P M gives kept acts halt left result
+  pub ends_as : (gives : T → Given) (acts : List Act) (halt : Halt) (left : ChaCha) (result : Called S D T) → Ends P M gives kept acts halt left result
       → Ends Q N gives kept acts halt left result
   ends_as gives acts halt left (called.Done device given) (is, has) = (is, opens device acts has)
   ends_as gives acts halt left (called.Refused device why) (is, has) = (is, opens device acts has)

@@ -1,35 +1,23 @@
--- Posting drafts, and applying an answer: what that leaves of the items that are sent, of the account and of its sets.
+-- Posting drafts: what that leaves of the items that are sent.
 use Rattle.std.specs.List.{AllByRecursion, AllZip, Contains}
 use Rattle.std.specs.Prelude.{◌==◌, IsSome}
-use Rattle.std.proofs.Common.{arith, rules, ◌≡◌, ◌≢◌, ◌⊎◌, ℕ, true, false, length, List, [], ◌∷◌, ◌++◌, All, Option, Some, None, refl, sym, ap, ◌∙◌, subst, inl, inr}
+use Rattle.std.proofs.Common.{arith, rules, ◌≡◌, ◌≢◌, ◌⊎◌, ℕ, true, false, length, List, [], ◌∷◌, Option, Some, None, refl, sym, ap, ◌∙◌, subst, inl, inr}
 use Rattle.std.proofs.lemmas.List.{nil_from_length}
 use Rattle.std.proofs.lemmas.List.Elements.{All-from_recursion, Contains-append_left, Contains-append_right, Contains-push}
-use Rattle.rand_chacha.specs.ChaCha.{ChaCha}
 use Rattle.sn_rows.specs.Facts.{put_here, put_or_not}
 use Rattle.sn_rows.specs.Table.{Rows, rows_after}
 use Rattle.sn_rows.specs.declared.body.RowBody.{RowBody}
 use Rattle.sn_rows.specs.declared.change.Change.{Change}
 use Rattle.sn_rows.specs.declared.device_rows.LocalItem.{LocalItem}
-use Rattle.sn_rows.specs.declared.device_rows.OwnerRow.{OwnerRow}
 use Rattle.sn_rows.specs.declared.key.Key.TheVariants as key
-use Rattle.sn_rows.specs.declared.key.Slot.TheVariants.{Asked, Older, Present}
 use Rattle.sn_rows.specs.declared.value.Value.TheVariants as value
-use Rattle.sn_sets.specs.declared.sets.Sets.{Sets}
-use Rattle.sn_string.specs.declared.params.KeySet.{KeySet}
-use Rattle.sn_sync.specs.declared.answer.Answer.{Answer}
-use Rattle.sn_sync.specs.declared.answer.Answer.TheVariants as answer
 use Rattle.sn_sync.specs.declared.item.Item.{Item}
 use Rattle.sn_sync.specs.declared.request.Request.{Request}
-use Rattle.sn_sync.specs.declared.request.Request.TheVariants as request
 use Rattle.sn_client.specs.Runs.{IsBatch, Sends}
-use Rattle.sn_client.specs.Sending.{AreOfRows, AreSentAs, IsSentAs, IsUnsent, Numbered, Posts, PostsAll, SaysBase, as_posted, first_some, sent_of}
-use Rattle.sn_client.specs.States.{Columns, HasLocal, HasOwner, HasSets, IsInSlot, columns}
-use Rattle.sn_client.specs.Steps.{AppliesAnswer, AppliesTo}
+use Rattle.sn_client.specs.Sending.{IsSentAs, IsUnsent, Numbered, Posts, PostsAll, SaysBase, as_posted, first_some, sent_of}
+use Rattle.sn_client.specs.States.{Columns, HasLocal, columns}
 use Rattle.sn_client.specs.Syncing.{IsSyncFrom}
-use Rattle.sn_client.proofs.DeviceSteps.{one_sets, slot_back}
 use Rattle.sn_client.proofs.Drafts.{same_row}
-use Rattle.sn_client.proofs.Frames.{Keeps, one_owner, parts_keep}
-use Rattle.sn_client.proofs.StepStands.{apply_parts, post_parts}
 
 -- ---- a row behind a posting
 
@@ -160,51 +148,3 @@ none_posted rows (number ∷ numbers) posted all none = absurd cc
 
 pub none_fits : (rows : Rows) (numbers : List ℕ) (posted : List Change) → PostsAll rows numbers posted → numbers ≡ [] → IsBatch posted
 none_fits rows numbers posted all none = let empty : IsBatch [] = omega arith in subst IsBatch (sym (none_posted rows numbers posted all none)) empty
-
--- ---- the account and its sets
-
-no_older : (rows after : Rows) (owner later : OwnerRow) → Keeps rows after owner later → rows (key.Set Older) ≡ None → after (key.Set Older) ≡ None
-no_older rows after owner later keeps none = elim keeps.older [ inl same ↦ same ∙ none | inr gone ↦ gone ]
-
--- without an older set all sets stay
-sets_stay : (rows after : Rows) (owner later held : OwnerRow) (sets : Sets) → HasOwner rows owner → Keeps rows after owner later → sets.older ≡ None
-    → HasSets rows held sets → HasSets after later sets
-sets_stay rows after owner later held sets owned keeps alone has =
-    let named : held.identifier ≡ later.identifier =
-    ap (λ (o : OwnerRow). o.identifier) (one_owner rows held owner has.owned owned) ∙ sym keeps.identified in
-    let none : rows (key.Set Older) ≡ None = subst (IsInSlot rows held.identifier Older) alone has.before in
-    record {
-      owned = keeps.owned;
-      in_use = slot_back after rows Present held.identifier later.identifier (Some sets.present) (sym keeps.present) named has.in_use;
-      before = subst (IsInSlot after later.identifier Older) (sym alone) (no_older rows after owner later keeps none);
-      wanted = slot_back after rows Asked held.identifier later.identifier sets.asked (sym keeps.asked) named has.wanted;
-    }
-
-abbrev pub HoldsSets : Rows → Sets → Type 0
-HoldsSets rows sets = (owner : OwnerRow) × HasSets rows owner sets
-
-pub holds_posted : (rows : Rows) (numbers : List ℕ) (posted : List Change) (sets : Sets) → PostsAll rows numbers posted → sets.older ≡ None
-    → HoldsSets rows sets → HoldsSets (rows_after rows posted) sets
-holds_posted rows numbers posted sets all alone (held, has) =
-    let parts = post_parts rows held numbers posted has.owned all in
-    let keeps = parts_keep rows posted parts in
-    (parts.ends.later, sets_stay rows (rows_after rows posted) held parts.ends.later held sets has.owned keeps alone has)
-
-holds_answered : (rows : Rows) (words left : ChaCha) (sent : List Item) (given : Answer) (changes : List Change) (sets : Sets)
-    → AppliesAnswer rows words sent given changes left → sets.older ≡ None → HoldsSets rows sets → HoldsSets (rows_after rows changes) sets
-holds_answered rows words left sent (answer.Sync conflicts cursor retrieved saved token) changes sets s alone (held, has) =
-    let parts = apply_parts rows words left sent conflicts cursor retrieved saved token changes s in
-    let keeps = parts_keep rows changes parts in
-    (parts.ends.later, sets_stay rows (rows_after rows changes) s.owner parts.ends.later held sets s.holds.owned keeps alone has)
-holds_answered rows words left sent (answer.Account token identifier account) changes sets s alone has = absurd s
-holds_answered rows words left sent (answer.Params params) changes sets s alone has = absurd s
-holds_answered rows words left sent (answer.Refused status tag more) changes sets s alone has = absurd s
-
-pub holds_applied : (rows : Rows) (words left : ChaCha) (r : Request) (given : Answer) (changes : List Change) (sets : Sets)
-    → AppliesTo rows words r given changes left → sets.older ≡ None → HoldsSets rows sets → HoldsSets (rows_after rows changes) sets
-holds_applied rows words left (request.Sync token items limit sync_token cursor_token) given changes sets s alone has =
-    holds_answered rows words left items given changes sets s alone has
-holds_applied rows words left (request.Register params pw) given changes sets s alone has = absurd s
-holds_applied rows words left (request.Params identifier) given changes sets s alone has = absurd s
-holds_applied rows words left (request.SignIn identifier pw) given changes sets s alone has = absurd s
-holds_applied rows words left (request.ChangePw token current pw cost nonce) given changes sets s alone has = absurd s

@@ -17,9 +17,9 @@ use Rattle.sn_string.specs.declared.params.Params.{Params}
 use Rattle.sn_sync.specs.declared.request.Request.{Request}
 use Rattle.sn_sync.specs.declared.request.Request.TheVariants as request
 use Rattle.sn_table.specs.Kept.{Kept}
-use Rattle.sn_client.specs.Calls.{CallsOver, Ends}
+use Rattle.sn_client.specs.Calls.{CallsOver}
 use Rattle.sn_client.specs.Going.{GoesOver, IsSetWith, MayWant}
-use Rattle.sn_client.specs.Runs.{Act, AsksAccount, Call, Given, Halt, IsBadCost, IsNewSet, Run, refused, register}
+use Rattle.sn_client.specs.Runs.{AsksAccount, Call, Given, IsBadCost, IsNewSet, Run, refused, register}
 use Rattle.sn_client.specs.States.{Bytes, HasNoAccount, HasOwner}
 use Rattle.sn_client.specs.Steps.{begins}
 use Rattle.sn_client.specs.declared.called.Called.{Called}

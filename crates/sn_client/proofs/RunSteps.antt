@@ -1,11 +1,7 @@
 -- Each commit of a run is a step.
-use Rattle.std.proofs.Common.{◌≡◌, ℕ, List, [], ◌∷◌, ◌++◌, length, None, refl, sym, ap, ◌∙◌, subst, inl, inr, append_assoc}
-use Rattle.std.specs.List.{AllZip, flat_map}
-use Rattle.std.proofs.lemmas.List.{append-nil}
-use Rattle.std.proofs.lemmas.List.Concat.{flat_map-cons}
+use Rattle.std.proofs.Common.{◌≡◌, ℕ, List, [], ◌∷◌, ◌++◌, sym, subst, inl, inr}
 use Rattle.rand_chacha.specs.ChaCha.{ChaCha}
 use Rattle.sn_rows.specs.Table.{Rows, rows_after}
-use Rattle.sn_rows.specs.declared.change.Change.{Change}
 use Rattle.sn_rows.specs.declared.device_rows.OwnerRow.{OwnerRow}
 use Rattle.sn_sets.specs.declared.sets.Sets.{Sets}
 use Rattle.sn_string.specs.declared.params.KeySet.{KeySet}
@@ -13,12 +9,11 @@ use Rattle.sn_string.specs.declared.params.Params.{Params}
 use Rattle.sn_sync.specs.declared.answer.Answer.{Answer}
 use Rattle.sn_sync.specs.declared.request.Request.{Request}
 use Rattle.sn_sync.specs.declared.request.Request.TheVariants as request
-use Rattle.sn_client.specs.Asking.{said}
 use Rattle.sn_client.specs.Laws.{AreSteps, RunsBySteps}
-use Rattle.sn_client.specs.Runs.{Act, AreRounds, AsksAccount, AsksFirst, AsksParams, Call, CommitsOnce, DeletesItem, EndsExchange, EndsSync, Exchanges, Given, GivesText, Halt, IsRound, KeepsAccount, ListsItems, PutsItem, Round, RunsCall, RunsRegister, RunsSignIn, Sends, SignsInAgain, SignsInBy, SignsInUnder, SignsInWith, Standing, SyncsItems, WithAccount, WithContent, WithItem, a_uuid, acts_of, asked, commits, content, delete, edit, list, nothing, posting, put, register, sign_in, sync}
-use Rattle.sn_client.specs.Sending.{Posts}
+use Rattle.sn_client.specs.Runs.{Act, AsksAccount, AsksFirst, AsksParams, Call, ChangesPassword, ChangesTo, CommitsOnce, DeletesItem, Given, GivesText, Halt, KeepsAccount, ListsItems, PutsItem, RunsCall, RunsRegister, RunsSignIn, SignsInAgain, SignsInBy, SignsInUnder, SignsInWith, SyncsItems, SyncsUnder, WithAccount, WithContent, WithItem, a_uuid, asked, begun, commits, content, delete, edit, list, nothing, passwd, put, register, rows_done, sign_in, sync}
 use Rattle.sn_client.specs.States.{Bytes}
-use Rattle.sn_client.specs.Steps.{What, applies, begins, deletes, edits, puts, renews}
+use Rattle.sn_client.specs.Steps.{What, adopts, begins, deletes, edits, puts, renews}
+use Rattle.sn_client.proofs.Turns.{AllowsResolving, IsOfActs, answers_has, changes_has, syncs_has}
 
 none_done : (rows : Rows) (acts : List Act) → acts ≡ [] → AreSteps rows acts
 none_done rows acts e = subst (AreSteps rows) (sym e) tt
@@ -71,7 +66,8 @@ again_steps rows words identifier sets set acts halt (inl (same, differs, refuse
 again_steps rows words identifier sets set acts halt (inr (inl (same, asks))) =
     account_asked rows words (request.SignIn identifier set.pw) (λ uuid token. renews token) acts halt asks
 again_steps rows words identifier sets set acts halt (inr (inr (other, inl (older, refuses)))) = none_done rows acts refuses.0
-again_steps rows words identifier sets set acts halt (inr (inr (other, inr (not, joins)))) = none_done rows acts joins.0
+again_steps rows words identifier sets set acts halt (inr (inr (other, inr (not, asks)))) =
+    account_asked rows words (request.SignIn identifier set.pw) (λ uuid token. adopts set token) acts halt asks
 
 with_steps : (rows : Rows) (words : ChaCha) (identifier : Bytes) (set : KeySet) (acts : List Act) (halt : Halt)
     → SignsInWith rows words identifier set acts halt → AreSteps rows acts
@@ -106,63 +102,45 @@ put_steps rows words owner kind text acts halt (inr (room, inl (drawn, none, ref
 put_steps rows words owner kind text acts halt (inr (room, inr (uuid, once))) =
     commit_steps rows words (puts uuid kind text) (a_uuid uuid) acts halt once
 
--- ---- sync
+-- ---- piece by piece
 
-posting_steps : (words : ChaCha) (rows : Rows) (numbers : List ℕ) (posted : List Change) (acts : List Act) → AllZip (Posts rows) numbers posted
-    → AreSteps (rows_after rows posted) acts → AreSteps rows (posting numbers posted ++ acts)
-posting_steps words rows [] [] acts all h = h
-posting_steps words rows [] (c ∷ posted) acts all h = absurd all
-posting_steps words rows (number ∷ numbers) [] acts all h = absurd all
-posting_steps words rows (number ∷ numbers) (c ∷ posted) acts all h = (words, words, (all, refl), h)
+steps_append : (rows : Rows) (front later : List Act) → AreSteps rows front → AreSteps (rows_done rows front) later → AreSteps rows (front ++ later)
+steps_append rows [] later steps more = more
+steps_append rows (commits what changes ∷ front) later (words, left, step, steps) more =
+    (words, left, step, steps_append (rows_after rows changes) front later steps more)
+steps_append rows (asked r reply ∷ front) later steps more = steps_append rows front later steps more
 
--- behind its posting a request goes out
-sent_steps : (words : ChaCha) (rows ready : Rows) (numbers : List ℕ) (posted : List Change) (r : Request) (acts : List Act)
-    → Sends rows numbers posted r ready → AreSteps ready acts → AreSteps rows (posting numbers posted ++ acts)
-sent_steps words rows ready numbers posted r acts sends h =
-    posting_steps words rows numbers posted acts sends.posts_them (subst (λ (x : Rows). AreSteps x acts) sends.ready_is h)
+-- whatever is committed
+abbrev any_what : What → Type 0
+any_what what = Unit {0}
 
-round_steps : (at : Standing) (round : Round) (after : Standing) (acts : List Act) → IsRound at round after → AreSteps after.rows acts
-    → AreSteps at.rows (acts_of round ++ acts)
-round_steps at round after acts is h =
-    let next : AreSteps (rows_after is.ready round.applied) acts = subst (λ (x : Standing). AreSteps x.rows acts) is.after_is h in
-    let rest : List Act = asked round.request (said round.given) ∷ commits (applies round.request round.given) round.applied ∷ [] in
-    let all : AreSteps at.rows (posting round.numbers round.posted ++ (rest ++ acts)) =
-    sent_steps at.words at.rows is.ready round.numbers round.posted round.request (rest ++ acts) is.sends (at.words, is.left, is.step, next) in
-    subst (AreSteps at.rows) (sym (append_assoc (posting round.numbers round.posted) rest acts)) all
+steps_of_acts : IsOfActs AreSteps any_what
+steps_of_acts = record {
+  none = λ rows. tt;
+  commit = λ rows words left what changes allowed step. (words, left, step, tt);
+  ask = λ rows r reply acts steps. steps;
+  append = steps_append;
+}
 
-rounds_steps : (at : Standing) (rounds : List Round) (after : Standing) (acts : List Act) → AreRounds at rounds after → AreSteps after.rows acts
-    → AreSteps at.rows (flat_map acts_of rounds ++ acts)
-rounds_steps at [] after acts e h = subst (λ (x : Standing). AreSteps x.rows acts) e h
-rounds_steps at (round ∷ rounds) after acts (between, is, later) h =
-    let rest = rounds_steps between rounds after acts later h in
-    let one = round_steps at round between (flat_map acts_of rounds ++ acts) is rest in
-    subst (AreSteps at.rows) (sym (append_assoc (acts_of round) (flat_map acts_of rounds) acts)
-    ∙ ap (λ (xs : List Act). xs ++ acts) (sym (flat_map-cons acts_of round rounds))) one
-
-exchange_steps : (words : ChaCha) (rows : Rows) (numbers : List ℕ) (posted : List Change) (r : Request) (ready : Rows) (acts : List Act) (halt : Halt)
-    → Sends rows numbers posted r ready → EndsExchange words numbers posted r ready acts halt → AreSteps rows acts
-exchange_steps words rows numbers posted r ready acts halt sends (inl (some, e, stops)) = none_done rows acts e
-exchange_steps words rows numbers posted r ready acts halt sends (inr (batch, inl (e, ends))) =
-    subst (AreSteps rows) (append-nil (posting numbers posted) ∙ sym e) (sent_steps words rows ready numbers posted r [] sends tt)
-exchange_steps words rows numbers posted r ready acts halt sends (inr (batch, inr (reply, e, ends))) =
-    subst (AreSteps rows) (sym e) (sent_steps words rows ready numbers posted r (asked r reply ∷ []) sends tt)
-
-end_steps : (count : ℕ) (at : Standing) (acts : List Act) (halt : Halt) → EndsSync count at acts halt → AreSteps at.rows acts
-end_steps count at acts halt (inl (done, e, ends)) = none_done at.rows acts e
-end_steps count at acts halt (inr (inl (all, due, refuses))) = none_done at.rows acts refuses.0
-end_steps count at acts halt (inr (inr (inl (few, ends)))) =
-    exchange_steps at.words at.rows ends.numbers ends.posted ends.request ends.ready acts halt ends.sends ends.ends_so
-end_steps count at acts halt (inr (inr (inr wants))) = none_done at.rows acts wants.0
-
-sync_steps : (rows : Rows) (words : ChaCha) (acts : List Act) (halt : Halt) → Exchanges rows words acts halt → AreSteps rows acts
-sync_steps rows words acts halt x =
-    subst (AreSteps rows) (sym x.acts_are)
-    (rounds_steps (record { rows = rows; words = words; last = None }) x.rounds x.at x.later x.went (end_steps (length x.rounds) x.at x.later halt x.ends))
+any_allowed : AllowsResolving any_what
+any_allowed = record {
+  exchanges = record { to_post = λ numbers. tt; to_apply = λ r given. tt };
+  to_adopt = λ set token. tt;
+  to_forget = tt;
+}
 
 synced_steps : (rows : Rows) (words : ChaCha) (acts : List Act) (halt : Halt) (owner : OwnerRow) (sets : Sets) → SyncsItems rows words owner sets acts halt
     → AreSteps rows acts
-synced_steps rows words acts halt owner sets (inl (changing, resolves)) = none_done rows acts resolves.0
-synced_steps rows words acts halt owner sets (inr (settled, exchanges)) = sync_steps rows words acts halt exchanges
+synced_steps rows words acts halt owner sets syncs =
+    answers_has AreSteps any_what steps_of_acts (SyncsUnder owner sets) (syncs_has AreSteps any_what steps_of_acts any_allowed owner sets) (begun rows words)
+    acts halt syncs
+
+changed_steps : (least : ℕ) (password : Bytes) (cost : ℕ) (rows : Rows) (words : ChaCha) (acts : List Act) (halt : Halt) (owner : OwnerRow) (sets : Sets)
+    → ChangesPassword least password cost rows words owner sets acts halt → AreSteps rows acts
+changed_steps least password cost rows words acts halt owner sets (inl (bad, refuses)) = none_done rows acts refuses.0
+changed_steps least password cost rows words acts halt owner sets (inr (good, changes)) =
+    answers_has AreSteps any_what steps_of_acts (ChangesTo password cost owner sets)
+    (changes_has AreSteps any_what steps_of_acts any_allowed (λ set. tt) password cost owner sets) (begun rows words) acts halt changes
 
 -- ---- each call
 
@@ -192,6 +170,8 @@ call_steps least (content uuid) rows words acts halt runs =
     (λ owner sets p. item_steps rows sets uuid (GivesText words) acts halt (λ shown q. none_done rows acts q.0) p) runs
 call_steps least sync rows words acts halt runs =
     account_steps rows (SyncsItems rows words) acts halt (synced_steps rows words acts halt) runs
+call_steps least (passwd password cost) rows words acts halt runs =
+    account_steps rows (ChangesPassword least password cost rows words) acts halt (changed_steps least password cost rows words acts halt) runs
 
 pub runs_by_steps : RunsBySteps
 runs_by_steps least call rows words acts halt (inl wants) = none_done rows acts wants.0

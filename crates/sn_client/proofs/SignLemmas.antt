@@ -21,14 +21,16 @@ use Rattle.sn_client.specs.Asking.{said}
 use Rattle.sn_client.specs.Going.{GoesOver, MayWant}
 use Rattle.sn_client.specs.Calls.{CallsOver}
 use Rattle.sn_client.specs.Runs.{Act, AsksAccount, AsksFirst, Given, Halt, IsOrMayBe, IsOtherOlder, Run, SignsInBy, SignsInUnder, SignsInWith, asked, refused, sign_in}
-use Rattle.sn_client.specs.Signing.{HasKeys, MadeBySignIn, RefusesAgain, RefusesKeys, RefusesParams, RefusesWith, RenewsWith}
-use Rattle.sn_client.specs.Steps.{Begins, Renews, begins, renews}
+use Rattle.sn_client.specs.Signing.{HasKeys, JoinsAgain, JoinsBy, MadeBySignIn, RefusesAgain, RefusesKeys, RefusesParams, RefusesWith}
+use Rattle.sn_client.specs.Steps.{Adopts, Begins, Renews, adopts, begins, renews}
 use Rattle.sn_client.specs.States.{Bytes, HasNoAccount, HasOwner, HasSets}
 use Rattle.sn_client.specs.declared.called.Called.{Called}
 use Rattle.sn_client.specs.declared.called.Called.TheVariants as called
 use Rattle.sn_client.specs.declared.error.ClientError.{ClientError}
 use Rattle.sn_client.specs.declared.error.ClientError.TheVariants as refusal
 use Rattle.sn_client.specs.declared.error.Place.TheVariants as place
+use Rattle.sn_client.specs.declared.signing.Joining.{Joining}
+use Rattle.sn_client.specs.declared.signing.Joining.TheVariants as joining
 use Rattle.sn_client.proofs.AccountLemmas.{ends_behind}
 use Rattle.sn_client.proofs.RegisterLemmas.{refused_call, refuses}
 
@@ -52,32 +54,83 @@ other_older sets set older true has params says = (
 other_older sets set older false has params says = ((λ yes. (older, has, params, (λ same. false≢true (says.1 same)))), (λ other. refl))
 
 -- under held sets
-pub renews_held : (rows : Rows) (owner : OwnerRow) (sets : Sets) (set : KeySet) (result : Result Bool ClientError) → HasSets rows owner sets
-    → IfOk result (λ renewing. (renewing ≡ true) × (set ≡ sets.present)) → IfOk result (λ renewing. RenewsWith rows set renewing)
-renews_held rows owner sets set (Ok true) has is = (owner, sets, has, is.1)
-renews_held rows owner sets set (Ok false) has is = absurd (false≢true is.0)
-renews_held rows owner sets set (Err why) has is = tt
+pub joins_held : (rows : Rows) (owner : OwnerRow) (sets : Sets) (set : KeySet) (result : Result Joining ClientError) → HasSets rows owner sets
+    → IfOk result (JoinsAgain sets set) → IfOk result (JoinsBy rows set)
+joins_held rows owner sets set (Ok how) has is = inr (owner, sets, has, is)
+joins_held rows owner sets set (Err why) has is = tt
 
-pub refuses_held : (rows : Rows) (owner : OwnerRow) (sets : Sets) (set : KeySet) (result : Result Bool ClientError) → HasSets rows owner sets
+pub refuses_held : (rows : Rows) (owner : OwnerRow) (sets : Sets) (set : KeySet) (result : Result Joining ClientError) → HasSets rows owner sets
     → IfErr result (RefusesAgain sets set) → IfErr result (RefusesWith rows set)
-refuses_held rows owner sets set (Ok renewing) has is = tt
+refuses_held rows owner sets set (Ok how) has is = tt
 refuses_held rows owner sets set (Err why) has is = inr (owner, sets, has, is)
 
--- what is begun or renewed with the password's keys is of this sign-in
-pub made_by : (least : ℕ) (rows : Rows) (identifier password : Bytes) (asks : List Exchange → Type 0) (host : Bytes) (set : KeySet) (changes : List Change)
-    → HasKeys asks host least identifier password set → (uuid : Bytes) × (token : Bytes) × (Begins set uuid token changes ⊎ Renews rows token changes)
-    → MadeBySignIn rows identifier password changes
-made_by least rows identifier password asks host set changes keys (uuid, token, inl begun) = (
+-- a device that begins has no account
+pub joins_first : (rows : Rows) (set : KeySet) → JoinsBy rows set joining.Begins → HasNoAccount rows
+joins_first rows set (inl (none, is)) = none
+joins_first rows set (inr (owner, sets, has, never)) = absurd never
+
+-- the keys are those of the present set
+pub record HoldsKeys (rows : Rows) (set : KeySet) : Type 0 where
+  pub owner : OwnerRow
+  pub sets : Sets
+  pub has : HasSets rows owner sets
+  pub same : set ≡ sets.present
+
+pub joins_again : (rows : Rows) (set : KeySet) → JoinsBy rows set joining.Renews → HoldsKeys rows set
+joins_again rows set (inl (none, is)) = absurd cc
+joins_again rows set (inr (owner, sets, has, same)) = record { owner = owner; sets = sets; has = has; same = same }
+
+-- they are of no set that is held
+pub record HoldsOthers (rows : Rows) (set : KeySet) : Type 0 where
+  pub owner : OwnerRow
+  pub sets : Sets
+  pub has : HasSets rows owner sets
+  pub apart : set.params ≢ sets.present.params
+  pub other : ¬ (IsOtherOlder sets set)
+
+pub joins_other : (rows : Rows) (set : KeySet) → JoinsBy rows set joining.Adopts → HoldsOthers rows set
+joins_other rows set (inl (none, is)) = absurd cc
+joins_other rows set (inr (owner, sets, has, (apart, other))) = record { owner = owner; sets = sets; has = has; apart = apart; other = other }
+
+-- ---- whose keys they are
+
+-- the keys are the account's that was asked for
+pub keys_named : (least : ℕ) (identifier password : Bytes) (asks : List Exchange → Type 0) (host : Bytes) (set : KeySet) → HasKeys asks host least identifier password set
+    → set.params.identifier ≡ identifier
+keys_named least identifier password asks host set keys = ap (λ (p : Params). p.identifier) keys.keys.params ∙ keys.named
+
+-- so a device that may have that account may have theirs
+pub keys_may_be : (least : ℕ) (rows : Rows) (identifier password : Bytes) (asks : List Exchange → Type 0) (host : Bytes) (set : KeySet)
+    → HasKeys asks host least identifier password set → IsOrMayBe rows identifier → IsOrMayBe rows set.params.identifier
+keys_may_be least rows identifier password asks host set keys may =
+    subst (λ (i : Bytes). IsOrMayBe rows i) (sym (keys_named least identifier password asks host set keys)) may
+
+-- what is begun, renewed or adopted with the password's keys is of this sign-in
+pub made_by : (least : ℕ) (rows : Rows) (words left : ChaCha) (identifier password : Bytes) (asks : List Exchange → Type 0) (host : Bytes) (set : KeySet)
+    (changes : List Change) → HasKeys asks host least identifier password set
+    → (uuid : Bytes) × (token : Bytes) × (Begins set uuid token changes ⊎ (Renews rows token changes ⊎ Adopts rows words set token changes left))
+    → MadeBySignIn rows words identifier password changes left
+made_by least rows words left identifier password asks host set changes keys (uuid, token, inl begun) = (
   uuid,
   token,
-  inl (
+  inr (
     set,
-    ap (λ (p : Params). p.identifier) keys.keys.params ∙ keys.named,
+    keys_named least identifier password asks host set keys,
     subst (λ (p : Params). AreKeysOf password p set) (sym keys.keys.params) keys.keys,
-    begun,
+    inl begun,
   ),
 )
-made_by least rows identifier password asks host set changes keys (uuid, token, inr renewed) = (uuid, token, inr renewed)
+made_by least rows words left identifier password asks host set changes keys (uuid, token, inr (inl renewed)) = (uuid, token, inl renewed)
+made_by least rows words left identifier password asks host set changes keys (uuid, token, inr (inr adopted)) = (
+  uuid,
+  token,
+  inr (
+    set,
+    keys_named least identifier password asks host set keys,
+    subst (λ (p : Params). AreKeysOf password p set) (sym keys.keys.params) keys.keys,
+    inr adopted,
+  ),
+)
 
 -- ---- what a device makes of keys
 
@@ -94,7 +147,7 @@ signs_by : (least : ℕ) (rows : Rows) (words : ChaCha) (identifier password : B
     → MayWant (SignsInBy least rows words identifier password (answer.Params keys.params)) acts halt
 signs_by least rows words identifier password first host set keys acts halt (inl wants) = inl wants
 signs_by least rows words identifier password first host set keys acts halt (inr signs) =
-    let named : set.params.identifier ≡ identifier = ap (λ (p : Params). p.identifier) keys.keys.params ∙ keys.named in
+    let named : set.params.identifier ≡ identifier = keys_named least identifier password first host set keys in
     inr (
       keys.params,
       refl,
@@ -115,12 +168,10 @@ signs_by least rows words identifier password first host set keys acts halt (inr
 pub signs_refused : (rows : Rows) (words : ChaCha) (identifier : Bytes) (set : KeySet) (why : ClientError) → RefusesWith rows set why
     → MayWant (SignsInWith rows words identifier set) [] (refused why)
 signs_refused rows words identifier set why (inl memory) = inl (refl, refuses why refusal.Memory memory)
-signs_refused rows words identifier set why (inr (owner, sets, has, inl (same, other, is))) =
+signs_refused rows words identifier set why (inr (owner, sets, has, (is, inl (same, other)))) =
     inr (inr (owner, sets, has, inl (same, other, (refl, refuses why refusal.WrongPassword is))))
-signs_refused rows words identifier set why (inr (owner, sets, has, inr (apart, inl (older, is)))) =
+signs_refused rows words identifier set why (inr (owner, sets, has, (is, inr (apart, older)))) =
     inr (inr (owner, sets, has, inr (inr (apart, inl (older, (refl, refuses why refusal.WrongPassword is))))))
-signs_refused rows words identifier set why (inr (owner, sets, has, inr (apart, inr (not, is)))) =
-    inr (inr (owner, sets, has, inr (inr (apart, inr (not, (refl, refuses why (refusal.Refused 401 (codes "bad-auth")) is))))))
 
 -- a device without an account begins
 pub signs_first : (rows : Rows) (words : ChaCha) (r : Request) (identifier : Bytes) (set : KeySet) (acts : List Act) (halt : Halt) → HasNoAccount rows
@@ -129,13 +180,31 @@ signs_first rows words r identifier set acts halt none is (inl wants) = inl want
 signs_first rows words r identifier set acts halt none is (inr asks) =
     inr (inl (none, subst (λ (q : Request). AsksAccount rows words q (begins set) acts halt) is asks))
 
--- one with the account renews its session token
-pub signs_again : (rows : Rows) (words : ChaCha) (r : Request) (identifier : Bytes) (set : KeySet) (acts : List Act) (halt : Halt) → RenewsWith rows set true
+-- one with the keys renews its session token
+pub signs_again : (rows : Rows) (words : ChaCha) (r : Request) (identifier : Bytes) (set : KeySet) (acts : List Act) (halt : Halt) → HoldsKeys rows set
     → r ≡ request.SignIn identifier set.pw → MayWant (AsksAccount rows words r (λ uuid token. renews token)) acts halt
     → MayWant (SignsInWith rows words identifier set) acts halt
 signs_again rows words r identifier set acts halt held is (inl wants) = inl wants
-signs_again rows words r identifier set acts halt (owner, sets, has, same) is (inr asks) =
-    inr (inr (owner, sets, has, inr (inl (same, subst (λ (q : Request). AsksAccount rows words q (λ uuid token. renews token) acts halt) is asks))))
+signs_again rows words r identifier set acts halt held is (inr asks) =
+    inr (inr (
+      held.owner,
+      held.sets,
+      held.has,
+      inr (inl (held.same, subst (λ (q : Request). AsksAccount rows words q (λ uuid token. renews token) acts halt) is asks)),
+    ))
+
+-- one with other keys adopts the set
+pub signs_other : (rows : Rows) (words : ChaCha) (r : Request) (identifier : Bytes) (set : KeySet) (acts : List Act) (halt : Halt) → HoldsOthers rows set
+    → r ≡ request.SignIn identifier set.pw → MayWant (AsksAccount rows words r (λ uuid token. adopts set token)) acts halt
+    → MayWant (SignsInWith rows words identifier set) acts halt
+signs_other rows words r identifier set acts halt held is (inl wants) = inl wants
+signs_other rows words r identifier set acts halt held is (inr asks) =
+    inr (inr (
+      held.owner,
+      held.sets,
+      held.has,
+      inr (inr (held.apart, inr (held.other, subst (λ (q : Request). AsksAccount rows words q (λ uuid token. adopts set token) acts halt) is asks))),
+    ))
 
 -- the refusal of a store with another account
 pub other_refused : (least : ℕ) (identifier password : Bytes) (rows : Rows) (words : ChaCha) (why : ClientError) → (why ≡ refusal.Memory)
@@ -240,13 +309,13 @@ module _ {S D T : Type 0} (is_open : S → Kept → Type 0) (may_have : D → Ke
   }
 
   -- it goes on with the keys
-  pub goes_sign_in : (least : ℕ) (identifier password : Bytes) (first later asks : List Exchange → Type 0) (host : Bytes) (words : ChaCha) (set : KeySet)
+  pub goes_sign_in : (least : ℕ) (identifier password : Bytes) (first later asks : List Exchange → Type 0) (host : Bytes) (words left : ChaCha) (set : KeySet)
       (result : Called S D T) → IsOrMayBe kept.rows identifier → ((xs ys : List Exchange) → first xs → later ys → asks (xs ++ ys))
       → HasKeys first host least identifier password set
-      → GoesOver is_open may_have gives (MayWant (SignsInWith kept.rows words set.params.identifier set)) later host kept words result
-      → CallsOver is_open may_have gives least (sign_in identifier password) asks host kept words words result
-  goes_sign_in least identifier password first later asks host words set result may more keys goes =
+      → GoesOver is_open may_have gives (MayWant (SignsInWith kept.rows words set.params.identifier set)) later host kept left result
+      → CallsOver is_open may_have gives least (sign_in identifier password) asks host kept words left result
+  goes_sign_in least identifier password first later asks host words left set result may more keys goes =
       let under = goes_as (MayWant (SignsInWith kept.rows words set.params.identifier set)) (MayWant (SignsInBy least kept.rows words identifier password (answer.Params keys.params)))
-      later host words result (λ acts halt. signs_by least kept.rows words identifier password first host set keys acts halt) goes in
-      let all = goes_behind (SignsInBy least kept.rows words identifier password) first later asks host (request.Params identifier) (answer.Params keys.params) words result more keys.once under in
+      later host left result (λ acts halt. signs_by least kept.rows words identifier password first host set keys acts halt) goes in
+      let all = goes_behind (SignsInBy least kept.rows words identifier password) first later asks host (request.Params identifier) (answer.Params keys.params) left result more keys.once under in
       record { acts = all.acts; halt = all.halt; runs = inr (inr (may, all.runs)); exchanges = all.exchanges; are = all.are; asked_so = all.asked_so; ends = all.ends }

@@ -12,7 +12,6 @@ use Rattle.sn_rows.specs.declared.body.RowBody.TheVariants as row
 use Rattle.sn_rows.specs.declared.body.RowStrings.{RowStrings}
 use Rattle.sn_rows.specs.declared.change.Change.{Change}
 use Rattle.sn_rows.specs.declared.device_rows.LocalItem.{LocalItem}
-use Rattle.sn_rows.specs.declared.device_rows.OwnerRow.{OwnerRow}
 use Rattle.sn_rows.specs.declared.key.Key.{Key}
 use Rattle.sn_rows.specs.declared.key.Key.TheVariants as key
 use Rattle.sn_rows.specs.declared.key.Slot.TheVariants.{Asked, Present}
@@ -27,10 +26,10 @@ use Rattle.sn_sync.specs.declared.request.Request.TheVariants as request
 use Rattle.sn_table.specs.Batches.{IsOf}
 use Rattle.sn_client.specs.Laws.{StepsStaySound}
 use Rattle.sn_client.specs.Sending.{Posts, as_posted}
-use Rattle.sn_client.specs.States.{Bytes, Columns, HasLocal, HasOwner, IsFresh, IsSound, IsSoundItem}
+use Rattle.sn_client.specs.States.{Bytes, Columns, HasLocal, IsFresh, IsSound, IsSoundItem}
 use Rattle.sn_client.specs.Steps.{AppliesAnswer, AppliesTo, Begins, Deletes, Edits, adopts, applies, asks, begins, deletes, drafted, edits, forgets, posts, puts, renews}
-use Rattle.sn_client.proofs.Frames.{device_after, one_of_device, sound_after}
-use Rattle.sn_client.proofs.Standing.{Stand}
+use Rattle.sn_client.proofs.AdoptSound.{adopts_sound, asks_sound, forgets_sound}
+use Rattle.sn_client.proofs.Frames.{device_after, one_of_device, sound_after, sound_stands}
 use Rattle.sn_client.proofs.StepStands.{apply_parts, apply_stands, delete_parts, delete_stands, edit_parts, edit_stands, new_stands, post_parts, post_stands, put_parts, renew_parts}
 use Rattle.sn_client.proofs.Well.{opened_names, sound_kept}
 
@@ -120,13 +119,6 @@ module _ (rows : Rows) (fresh : IsFresh rows) (set : KeySet) (account token : By
 
 -- ---- each step
 
-sound_stands : (rows : Rows) (owner : OwnerRow) → IsSound rows → HasOwner rows owner → Stand IsSoundItem owner.next rows
-sound_stands rows owner sound owned = record {
-  numbered = λ n l found. sound.locals.numbered owner n l owned found;
-  apart = sound.locals.apart;
-  items = sound.locals.items;
-}
-
 edit_sound : (rows : Rows) (words left : ChaCha) (uuid text : Bytes) (changes : List Change) → IsSound rows → Edits rows words uuid text changes left
     → IsSound (rows_after rows changes)
 edit_sound rows words left uuid text changes sound s =
@@ -181,6 +173,6 @@ steps_stay_sound rows words left (edits uuid text) changes sound step = edit_sou
 steps_stay_sound rows words left (deletes uuid) changes sound step = delete_sound rows uuid changes sound step.0
 steps_stay_sound rows words left (posts numbers) changes sound step = post_sound rows numbers changes sound step.0
 steps_stay_sound rows words left (applies r given) changes sound step = apply_sound rows words left r given changes sound step
-steps_stay_sound rows words left (asks set) changes sound step = absurd step.0
-steps_stay_sound rows words left (adopts set token) changes sound step = absurd step
-steps_stay_sound rows words left forgets changes sound step = absurd step.0
+steps_stay_sound rows words left (asks set) changes sound step = asks_sound rows set changes sound step.0
+steps_stay_sound rows words left (adopts set token) changes sound step = adopts_sound rows words left set token changes sound step
+steps_stay_sound rows words left forgets changes sound step = forgets_sound rows changes sound step.0

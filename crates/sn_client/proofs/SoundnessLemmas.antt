@@ -8,7 +8,6 @@ use Rattle.std.specs.Ordering.{nat_cmp}
 use Rattle.std.proofs.lemmas.Bool.{cases_Bool}
 use Rattle.std.proofs.lemmas.Map.Text.{is_eq-slice_cmp}
 use Rattle.std.proofs.lemmas.Slice.Eq.{bytes_eq-Decides}
-use Rattle.sn_journal.specs.declared.owner.Owner.TheVariants.{Device}
 use Rattle.sn_row_map.specs.Ranges.{AreRowsOf, rows_behind, rows_of}
 use Rattle.sn_row_map.specs.RowMaps.{row_in}
 use Rattle.sn_row_map.specs.Steps.{GoesOn, IsFirst, IsNext}

@@ -1,8 +1,7 @@
 -- Exchanges of a sync, one after another: what each adds to those before it, and how the last one ends the call.
 use Rattle.std.specs.List.{flat_map}
-use Rattle.std.proofs.Common.{arith, ◌≡◌, ◌≢◌, ◌⊎◌, ◌↔◌, ◌+◌, ◌<◌, ◌≤◌, ℕ, Bool, true, false, IsTrue, List, [], ◌∷◌, ◌++◌, length, Option, Some, None, Result, Ok, Err, refl, sym, ap, ◌∙◌, subst, inl, inr, append-nil, append_assoc, length-append}
+use Rattle.std.proofs.Common.{arith, ◌≡◌, ◌≢◌, ◌⊎◌, ◌↔◌, ◌+◌, ◌<◌, ◌≤◌, ℕ, Bool, IsTrue, List, [], ◌∷◌, ◌++◌, length, Option, Some, None, Ok, Err, refl, sym, ap, ◌∙◌, subst, inl, inr, append-nil, length-append}
 use Rattle.std.proofs.lemmas.Grind.{flat_map-append}
-use Rattle.std.specs.List.{AllZip}
 use Rattle.rand_chacha.specs.ChaCha.{ChaCha}
 use Rattle.sn_net.specs.Exchanges.{Exchange}
 use Rattle.sn_rows.specs.Table.{Rows, rows_after}
@@ -15,20 +14,21 @@ use Rattle.sn_sync.specs.declared.request.Request.TheVariants as request
 use Rattle.sn_table.specs.Committing.{IsCause}
 use Rattle.sn_table.specs.Kept.{Kept, with_batch}
 use Rattle.sn_table.specs.declared.committed.CommitError.{CommitError}
-use Rattle.sn_client.specs.Asked.{AsksOnce, ComesTo, IsAsked}
-use Rattle.sn_client.specs.Asking.{IsExchange, Reply, said}
+use Rattle.sn_client.specs.Asked.{AsksOnce, IsAsked}
+use Rattle.sn_client.specs.Asking.{said}
 use Rattle.sn_client.specs.Calls.{Ends, kept_done, of_commit}
-use Rattle.sn_client.specs.Runs.{Act, AreExchanges, AreRounds, EndsBehind, EndsSync, EndsUnapplied, Exchanges, Given, Halt, IsAllDone, IsBatch, IsDone, IsDue, IsLeft, IsRound, IsUnapplied, Round, Sends, Standing, acts_of, answered, asked, broken, commits, items_of, most_exchanges, posting, refused}
-use Rattle.sn_client.specs.Sending.{NoneWaits, Posts, PostsAll, SomeWaits}
+use Rattle.sn_client.specs.Runs.{Act, AreExchanges, AreRounds, EndsBehind, EndsUnapplied, Exchanges, Halt, IsAllDone, IsBatch, IsDone, IsDue, IsLeft, IsRound, IsUnapplied, Round, Sends, Standing, acts_of, asked, broken, commits, goes_on, items_of, most_exchanges, posting, refused}
+use Rattle.sn_client.specs.Sending.{PostsAll}
 use Rattle.sn_client.specs.States.{Bytes}
-use Rattle.sn_client.specs.Steps.{AppliesAnswer, AppliesTo, What, applies, posts}
-use Rattle.sn_client.specs.Syncing.{AppliesOne, AsksAndApplies, EndsAsked, EndsAsking, EndsOne, ExchangesOver, IsApplied, IsAppliedBy, IsAskedAndApplied, IsExchanged, IsUnappliedBy, gives_nothing}
+use Rattle.sn_client.specs.Steps.{AppliesAnswer, AppliesTo, applies, posts}
+use Rattle.sn_client.specs.Syncing.{AppliesOne, EndsAsking, EndsOne, GoesThere, IsApplied, IsAskedAndApplied, IsExchanged, WentBy, gives_nothing}
 use Rattle.sn_client.specs.declared.called.Called.{Called}
 use Rattle.sn_client.specs.declared.called.Called.TheVariants as called
 use Rattle.sn_client.specs.declared.error.ClientError.{ClientError}
 use Rattle.sn_client.specs.declared.error.ClientError.TheVariants as refusal
 use Rattle.sn_client.specs.declared.syncing.Exchanged.{Exchanged}
 use Rattle.sn_client.specs.declared.syncing.Exchanged.TheVariants as exchanged
+use Rattle.sn_client.specs.declared.went.Went.TheVariants.{Over}
 use Rattle.sn_client.proofs.CallLemmas.{stops_refused}
 
 -- ---- acts behind acts
@@ -38,7 +38,7 @@ kept_append kept [] second = refl
 kept_append kept (commits what changes ∷ first) second = kept_append (with_batch kept changes) first second
 kept_append kept (asked r reply ∷ first) second = kept_append kept first second
 
-exchanges_append : (host : Bytes) (first second : List Act) (xs ys : List Exchange) → AreExchanges host first xs → AreExchanges host second ys
+pub exchanges_append : (host : Bytes) (first second : List Act) (xs ys : List Exchange) → AreExchanges host first xs → AreExchanges host second ys
     → AreExchanges host (first ++ second) (xs ++ ys)
 exchanges_append host [] second xs ys none are = subst (AreExchanges host second) (sym (ap (λ (l : List Exchange). l ++ ys) none)) are
 exchanges_append host (commits what changes ∷ first) second xs ys before are = exchanges_append host first second xs ys before are
@@ -151,7 +151,7 @@ module _ (kept : Kept) (words : ChaCha) (last : Option Answer) (due : IsDue kept
 
 module _ {S D T : Type 0} (is_open : S → Kept → Type 0) (may_have : D → Kept → List Change → Type 0) where
   -- the end of acts is the end of all
-  ends_behind : (kept : Kept) (first second : List Act) (halt : Halt) (left : ChaCha) (result : Called S D T)
+  pub ends_behind : (kept : Kept) (first second : List Act) (halt : Halt) (left : ChaCha) (result : Called S D T)
       → Ends is_open may_have gives_nothing (kept_done kept first) second halt left result → Ends is_open may_have gives_nothing kept (first ++ second) halt left result
   ends_behind kept first second halt left (called.Done device given) (is, opens) =
       (is, subst (is_open device) (sym (kept_append kept first second)) opens)
@@ -319,11 +319,12 @@ module _ {S D T : Type 0} (is_open : S → Kept → Type 0) (may_have : D → Ke
 -- ---- all of them
 
 module _ {S : Type 0} (is_open : S → Kept → Type 0) where
-  -- so many exchanges were made from these words on, and left these and the device; this was the last answer that was applied
-  pub record HasMade (kept : Kept) (words : ChaCha) (host : Bytes) (asks : List Exchange → Type 0) (left : ChaCha) (last : Option Answer) (device : S)
-      (count : ℕ) : Type 0 where
+  -- exchanges were made from these words on, and left these and the device; this was the last answer that was applied, and with those from before the
+  -- call has made so many
+  pub record HasMade (before : ℕ) (kept : Kept) (words : ChaCha) (host : Bytes) (asks : List Exchange → Type 0) (left : ChaCha) (last : Option Answer)
+      (device : S) (count : ℕ) : Type 0 where
     pub rounds : List Round
-    pub counted : count ≡ length rounds
+    pub counted : count ≡ before + length rounds
     pub went : AreRounds (record { rows = kept.rows; words = words; last = None }) rounds
         (record { rows = (kept_done kept (flat_map acts_of rounds)).rows; words = left; last = last })
     pub exchanges : List Exchange
@@ -331,28 +332,28 @@ module _ {S : Type 0} (is_open : S → Kept → Type 0) where
     pub asked_so : asks exchanges
     pub stands : is_open device (kept_done kept (flat_map acts_of rounds))
 
-  pub sets_out : (kept : Kept) (words : ChaCha) (host : Bytes) (asks : List Exchange → Type 0) (device : S) → asks [] → is_open device kept
-      → HasMade kept words host asks words None device 0
-  sets_out kept words host asks device none opens =
-      record { rounds = []; counted = refl; went = refl; exchanges = []; are = refl; asked_so = none; stands = opens }
+  pub sets_out : (before : ℕ) (kept : Kept) (words : ChaCha) (host : Bytes) (asks : List Exchange → Type 0) (device : S) → asks [] → is_open device kept
+      → HasMade before kept words host asks words None device before
+  sets_out before kept words host asks device none opens =
+      record { rounds = []; counted = omega arith; went = refl; exchanges = []; are = refl; asked_so = none; stands = opens }
 
   -- what it stands on now
-  abbrev pub kept_now : (kept : Kept) (words : ChaCha) (host : Bytes) (asks : List Exchange → Type 0) (left : ChaCha) (last : Option Answer) (device : S)
-      (count : ℕ) → HasMade kept words host asks left last device count → Kept
-  kept_now kept words host asks left last device count made = kept_done kept (flat_map acts_of made.rounds)
+  abbrev pub kept_now : (before : ℕ) (kept : Kept) (words : ChaCha) (host : Bytes) (asks : List Exchange → Type 0) (left : ChaCha) (last : Option Answer)
+      (device : S) (count : ℕ) → HasMade before kept words host asks left last device count → Kept
+  kept_now before kept words host asks left last device count made = kept_done kept (flat_map acts_of made.rounds)
 
   -- with another exchange
-  abbrev pub IsMade : (kept : Kept) (words : ChaCha) (host : Bytes) (asks : List Exchange → Type 0) (left : ChaCha) (after : Standing) (device : S)
-      (count : ℕ) → Type 0
-  IsMade kept words host asks left after device count = (made : HasMade kept words host asks left after.last device count)
-      × (after.rows ≡ (kept_now kept words host asks left after.last device count made).rows)
+  abbrev pub IsMade : (before : ℕ) (kept : Kept) (words : ChaCha) (host : Bytes) (asks : List Exchange → Type 0) (left : ChaCha) (after : Standing)
+      (device : S) (count : ℕ) → Type 0
+  IsMade before kept words host asks left after device count = (made : HasMade before kept words host asks left after.last device count)
+      × (after.rows ≡ (kept_now before kept words host asks left after.last device count made).rows)
 
   -- one more behind those before
-  module _ (kept : Kept) (words : ChaCha) (host : Bytes) (before since all : List Exchange → Type 0) (between left : ChaCha) (last : Option Answer)
-      (device next : S) (more : Bool) (count : ℕ) (made : HasMade kept words host before between last device count)
-      (on : (xs ys : List Exchange) → before xs → since ys → all (xs ++ ys)) where
+  module _ (before : ℕ) (kept : Kept) (words : ChaCha) (host : Bytes) (earlier since all : List Exchange → Type 0) (between left : ChaCha)
+      (last : Option Answer) (device next : S) (more : Bool) (count : ℕ) (made : HasMade before kept words host earlier between last device count)
+      (on : (xs ys : List Exchange) → earlier xs → since ys → all (xs ++ ys)) where
     abbrev now : Kept
-    now = kept_now kept words host before between last device count made
+    now = kept_now before kept words host earlier between last device count made
 
     abbrev at_now : Standing
     at_now = record { rows = now.rows; words = between; last = last }
@@ -373,10 +374,10 @@ module _ {S : Type 0} (is_open : S → Kept → Type 0) where
       rows_now : one.after.rows ≡ (kept_done kept (flat_map acts_of rounds_now)).rows
       rows_now = round_rows now between last one.round one.after one.is ∙ ap (λ (k : Kept). k.rows) (sym behind_now)
 
-      counted_now : count + 1 ≡ length rounds_now
+      counted_now : count + 1 ≡ before + length rounds_now
       counted_now =
           let longer : length rounds_now ≡ length made.rounds + 1 = length-append made.rounds (one.round ∷ []) in
-          let so : count ≡ length made.rounds = made.counted in
+          let so : count ≡ before + length made.rounds = made.counted in
           omega arith
 
       are_now : AreExchanges host (flat_map acts_of rounds_now) (made.exchanges ++ one.exchanges)
@@ -386,7 +387,7 @@ module _ {S : Type 0} (is_open : S → Kept → Type 0) where
       after_now : one.after ≡ record { rows = (kept_done kept (flat_map acts_of rounds_now)).rows; words = left; last = one.after.last }
       after_now = λ i. record { rows = rows_now i; words = one.words_are i; last = one.after.last }
 
-      pub made_more : IsMade kept words host all left one.after next (count + 1)
+      pub made_more : IsMade before kept words host all left one.after next (count + 1)
       made_more = (
         record {
           rounds = rounds_now;
@@ -401,51 +402,52 @@ module _ {S : Type 0} (is_open : S → Kept → Type 0) where
       )
 
       -- another is due
-      pub due_more : IsTrue more → IsDue (kept_now kept words host all left one.after.last next (count + 1) made_more.0).rows one.after.last
+      pub due_more : IsTrue more → IsDue (kept_now before kept words host all left one.after.last next (count + 1) made_more.0).rows one.after.last
       due_more is = subst (λ (r : Rows). IsDue r one.after.last) made_more.1 (one.is_more.0 is)
 
       -- all is done
-      pub done_more : ¬ (IsTrue more) → IsDone (kept_now kept words host all left one.after.last next (count + 1) made_more.0).rows one.after.last
+      pub done_more : ¬ (IsTrue more) → IsDone (kept_now before kept words host all left one.after.last next (count + 1) made_more.0).rows one.after.last
       done_more not =
           subst (λ (r : Rows). IsDone r one.after.last) made_more.1 (round_done at_now one.round one.after one.is (λ is. not (one.is_more.1 is)))
 
-module _ {S D T : Type 0} (is_open : S → Kept → Type 0) (may_have : D → Kept → List Change → Type 0) (kept : Kept) (words : ChaCha) (host : Bytes)
-    (asks : List Exchange → Type 0) (left : ChaCha) (last : Option Answer) (device : S) (count : ℕ)
-    (made : HasMade is_open kept words host asks left last device count) where
+module _ {S : Type 0} (is_open : S → Kept → Type 0) (before : ℕ) (kept : Kept) (words : ChaCha) (host : Bytes) (asks : List Exchange → Type 0)
+    (left : ChaCha) (last : Option Answer) (device : S) (count : ℕ) (made : HasMade is_open before kept words host asks left last device count) where
   -- all is done
-  pub ends_done : (given : T) → IsDone (kept_now is_open kept words host asks left last device count made).rows last → count ≤ most_exchanges
-      → ExchangesOver is_open may_have kept words host asks left (called.Done device given)
-  ends_done given done few = record {
+  pub ends_done : IsDone (kept_now is_open before kept words host asks left last device count made).rows last → count ≤ most_exchanges
+      → GoesThere is_open Exchanges (record { made = before; rows = kept.rows; words = words }) kept host asks left device count
+  ends_done done few = record {
     acts = flat_map acts_of made.rounds;
-    halt = answered (gives_nothing given) left;
-    so = record {
+    goes = record {
       rounds = made.rounds;
-      few = (let is : count ≡ length made.rounds = made.counted in omega arith);
-      at = (stood (kept_now is_open kept words host asks left last device count made) left last);
+      few = (let is : count ≡ before + length made.rounds = made.counted in let fits : before + length made.rounds ≤ most_exchanges = omega arith in fits);
+      at = stood (kept_now is_open before kept words host asks left last device count made) left last;
       went = made.went;
       later = [];
-      ends = inl (done, refl, refl);
+      ends = inl (done, refl, ap (λ (n : ℕ). goes_on (record { made = n; rows = (kept_now is_open before kept words host asks left last device count made).rows; words = left })) made.counted);
       acts_are = sym (append-nil (flat_map acts_of made.rounds));
     };
     exchanges = made.exchanges;
     are = made.are;
     asked_so = made.asked_so;
-    ends = (refl, made.stands);
+    stands = made.stands;
   }
 
+module _ {S D T : Type 0} (is_open : S → Kept → Type 0) (may_have : D → Kept → List Change → Type 0) (before : ℕ) (kept : Kept) (words : ChaCha)
+    (host : Bytes) (asks : List Exchange → Type 0) (left : ChaCha) (last : Option Answer) (device : S) (count : ℕ)
+    (made : HasMade is_open before kept words host asks left last device count) where
   -- as many were made as may be
-  pub ends_used : IsDue (kept_now is_open kept words host asks left last device count made).rows last → count ≡ most_exchanges
-      → ExchangesOver {T = T} is_open may_have kept words host asks left (called.Refused device refusal.RoundsUsed)
+  pub ends_used : IsDue (kept_now is_open before kept words host asks left last device count made).rows last → count ≡ most_exchanges
+      → WentBy {T = T} is_open may_have Exchanges (record { made = before; rows = kept.rows; words = words }) kept host asks left (Over (called.Refused device refusal.RoundsUsed))
   ends_used due all = record {
     acts = flat_map acts_of made.rounds;
     halt = refused refusal.RoundsUsed;
     so = record {
       rounds = made.rounds;
-      few = (let is : count ≡ length made.rounds = made.counted in omega arith);
-      at = (stood (kept_now is_open kept words host asks left last device count made) left last);
+      few = (let is : count ≡ before + length made.rounds = made.counted in let fits : before + length made.rounds ≤ most_exchanges = omega arith in fits);
+      at = stood (kept_now is_open before kept words host asks left last device count made) left last;
       went = made.went;
       later = [];
-      ends = inr (inl (sym made.counted ∙ all, due, (refl, refl)));
+      ends = inr (refused refusal.RoundsUsed, refl, inl (sym made.counted ∙ all, due, (refl, refl)));
       acts_are = sym (append-nil (flat_map acts_of made.rounds));
     };
     exchanges = made.exchanges;
@@ -456,22 +458,25 @@ module _ {S D T : Type 0} (is_open : S → Kept → Type 0) (may_have : D → Ke
 
   -- the next one ends the call
   pub ends_by : (since all : List Exchange → Type 0) (later : ChaCha) (result : Called S D T) → ((xs ys : List Exchange) → asks xs → since ys → all (xs ++ ys))
-      → count < most_exchanges
-      → EndsOne is_open may_have (kept_now is_open kept words host asks left last device count made) (stood (kept_now is_open kept words host asks left last device count made) left last) host since later result
-      → ExchangesOver is_open may_have kept words host all later result
+      → count < most_exchanges → EndsOne is_open may_have (kept_now is_open before kept words host asks left last device count made) (stood (kept_now is_open before kept words host asks left last device count made) left last) host since later result
+      → WentBy is_open may_have Exchanges (record { made = before; rows = kept.rows; words = words }) kept host all later (Over result)
   ends_by since all later result on few one = record {
     acts = flat_map acts_of made.rounds ++ one.acts;
     halt = one.halt;
     so = record {
       rounds = made.rounds;
-      few = (let is : count ≡ length made.rounds = made.counted in omega arith);
-      at = (stood (kept_now is_open kept words host asks left last device count made) left last);
+      few = (let is : count ≡ before + length made.rounds = made.counted in let fits : before + length made.rounds ≤ most_exchanges = omega arith in fits);
+      at = stood (kept_now is_open before kept words host asks left last device count made) left last;
       went = made.went;
       later = one.acts;
-      ends = elim one.so [
-        | inl ends ↦ inr (inr (inl (subst (λ (n : ℕ). n < most_exchanges) made.counted few, ends)))
-        | inr wants ↦ inr (inr (inr wants))
-      ];
+      ends = inr (
+        one.halt,
+        refl,
+        elim one.so [
+          | inl ends ↦ inr (inl (subst (λ (n : ℕ). n < most_exchanges) made.counted few, ends))
+          | inr wants ↦ inr (inr wants)
+        ],
+      );
       acts_are = refl;
     };
     exchanges = made.exchanges ++ one.exchanges;

@@ -42,6 +42,11 @@ pub stands_at : (rows : Rows) (changes others : List Change) (uuid : Bytes) (num
     → HasItem (rows_after rows changes) uuid number local → HasItem (rows_after rows others) uuid number local
 stands_at rows changes others uuid number local same has = subst (λ (cs : List Change). HasItem (rows_after rows cs) uuid number local) same has
 
+-- a uuid that no item has
+pub free_at : (rows : Rows) (changes others : List Change) (uuid : Bytes) → changes ≡ others → IsFree (rows_after rows changes) uuid
+    → IsFree (rows_after rows others) uuid
+free_at rows changes others uuid same free = subst (λ (cs : List Change). IsFree (rows_after rows cs) uuid) same free
+
 -- ---- meetings
 
 -- a meeting by which the row takes the version
@@ -67,7 +72,7 @@ pub new_stops : (sets : Sets) (rows : Rows) (taken : Taken) (words : ChaCha) (i 
     → StopsBy (StopsServer sets (so_far rows taken words) i saved) e
 new_stops sets rows taken words i saved changes same free e (inl memory) = inl memory
 new_stops sets rows taken words i saved changes same free e (inr (undeleted, used)) =
-    inr (inr ((subst (λ (cs : List Change). IsFree (rows_after rows cs) i.uuid) same free, undeleted), used rows words))
+    inr (inr ((free_at rows changes taken.changes i.uuid same free, undeleted), used rows words))
 
 pub fork_stops : (sets : Sets) (p : Progress) (i : Item) (saved : Bool) → Forks sets p i saved → (e : NotTaken) → StopsBy (StopsCopy p) e
     → StopsBy (StopsServer sets p i saved) e

@@ -1,10 +1,12 @@
 -- Versions of the server's, as rows that stand on them.
-use Rattle.std.proofs.Common.{◌≡◌, ◌≢◌, ◌∙◌, ◌≤◌, ◌+◌, ◌||◌, ℕ, Bool, true, false, [], ◌∷◌, ◌++◌, Option, Some, None, inl, refl, sym, ap, subst, length, arith, append_assoc, length-append}
+use Rattle.std.proofs.Common.{◌≡◌, ◌≢◌, ◌∙◌, ◌≤◌, ◌+◌, ◌||◌, ℕ, Bool, true, false, [], ◌∷◌, ◌++◌, Option, Some, None, IfNone, IfSome, inl, inr, refl, sym, ap, subst, length, arith, append_assoc, length-append}
 use Rattle.std.specs.List.{All}
 use Rattle.std.proofs.lemmas.List.Elements.{All-head, All-tail}
 use Rattle.std.proofs.lemmas.List.Splits.{join_with_byte-slice_split}
 use Rattle.rand_chacha.specs.ChaCha.{ChaCha}
 use Rattle.sn_conflict.specs.Checks.{AreStringsOf, IsStringOf}
+use Rattle.sn_items.specs.declared.sealed.Sealed.{Sealed}
+use Rattle.sn_rekey.specs.Rewraps.{OpensNotOlder, RewrapsOlder}
 use Rattle.sn_rows.specs.Bounds.{HasDeviceLengths, after_colon, before_colon, has_colon, is_colon}
 use Rattle.sn_rows.specs.Table.{Puts, Removes, Rows}
 use Rattle.sn_rows.specs.declared.body.RowBody.{RowBody}
@@ -14,6 +16,7 @@ use Rattle.sn_rows.specs.declared.change.Change.{Change}
 use Rattle.sn_rows.specs.declared.device_rows.LocalItem.{LocalItem}
 use Rattle.sn_rows.specs.declared.key.Key.TheVariants as key
 use Rattle.sn_rows.specs.declared.value.Value.TheVariants as value
+use Rattle.sn_sets.specs.Sets.{sealed_of}
 use Rattle.sn_sets.specs.declared.sets.Sets.{Sets}
 use Rattle.sn_string.proofs.Facts.{HasNoColon-base64}
 use Rattle.sn_string.specs.Grammar.{Reading, colon, joined, version}
@@ -23,7 +26,7 @@ use Rattle.sn_sync.specs.declared.item.Body.TheVariants as body
 use Rattle.sn_sync.specs.declared.item.Item.{Item}
 use Rattle.sn_client.specs.States.{Bytes, columns}
 use Rattle.sn_client.specs.Taken.{IsVersion, after, so_far}
-use Rattle.sn_client.specs.Taking.{MakesRow, Progress, StandsOn, TakesBody, TakesVersion, changed, last_number}
+use Rattle.sn_client.specs.Taking.{IsKeptAs, MakesRow, Progress, StandsOn, TakesBody, TakesVersion, changed, last_number, with_words}
 use Rattle.sn_client.specs.declared.taken.Effect.TheVariants as effect
 use Rattle.sn_client.specs.declared.taken.Taken.{Taken}
 
@@ -87,56 +90,91 @@ version_lengths i content enc is has =
     let strings : AreStringsOf i.uuid (body.Strings content enc) = subst (AreStringsOf i.uuid) has is.strings in
     (device_lengths i.uuid content strings.0, device_lengths i.uuid enc strings.1)
 
+-- ---- the strings as they are kept
+
+-- those that are sealed again
+pub kept_again : (sets : Sets) (words left : ChaCha) (uuid : Bytes) (given : Sealed) (found : Option RowStrings) (again : RowStrings)
+    → found ≡ Some again → IfSome found (λ strings. RewrapsOlder sets sets.present words uuid given (sealed_of strings) left)
+    → IsKeptAs sets words uuid given again true left
+kept_again sets words left uuid given found again is some =
+    let r : RewrapsOlder sets sets.present words uuid given (sealed_of again) left =
+    subst (λ (o : Option RowStrings). IfSome o (λ strings. RewrapsOlder sets sets.present words uuid given (sealed_of strings) left)) is some in
+    inr (r.text, r.opens, r.rewraps, refl)
+
+-- and those that aren't
+pub kept_so : (sets : Sets) (words left : ChaCha) (uuid : Bytes) (given : RowStrings) (found : Option RowStrings) → found ≡ None
+    → IfNone found (OpensNotOlder sets uuid (sealed_of given) × (left ≡ words)) → IsKeptAs sets words uuid (sealed_of given) given false left
+kept_so sets words left uuid given found is none =
+    let so : OpensNotOlder sets uuid (sealed_of given) × (left ≡ words) =
+    subst (λ (o : Option RowStrings). IfNone o (OpensNotOlder sets uuid (sealed_of given) × (left ≡ words))) is none in
+    inl (so.0, refl, refl, so.1)
+
 -- ---- rows that stand on versions
 
 -- the parts of the row
-pub record IsRowOf (i : Item) (stamp : ℕ) (strings : RowStrings) (latest : Option RowBody) (local : LocalItem) : Type 0 where
+pub record IsRowOf (i : Item) (stamp : ℕ) (strings : RowStrings) (stale : Bool) (latest : Option RowBody) (local : LocalItem) : Type 0 where
   pub uuid_is : local.uuid ≡ i.uuid
   pub kind_is : local.kind ≡ i.kind
   pub base_is : local.base ≡ Some stamp
-  pub stale_is : local.stale ≡ false
+  pub stale_is : local.stale ≡ stale
   pub body_is : local.body ≡ Some (row.Sealed strings)
   pub latest_is : local.latest ≡ latest
   pub posted_is : local.posted ≡ None
 
--- where no older set is held
-pub stands_on : (i : Item) (content enc : Bytes) (stamp : ℕ) (strings : RowStrings) (latest : Option RowBody) (local : LocalItem) → IsRowOf i stamp strings latest local
-    → NamesStamp i stamp → strings.content ≡ content → strings.enc ≡ enc
-    → (sets : Sets) (words : ChaCha) → sets.older ≡ None → StandsOn sets words i content enc latest None (columns local) words
-stands_on i content enc stamp strings latest local is named content_is enc_is sets words alone = record {
+-- the strings of a row are those of the version
+kept_of : (sets : Sets) (words left : ChaCha) (uuid content enc : Bytes) (given strings : RowStrings) (stale : Bool) → given.content ≡ content
+    → given.enc ≡ enc → IsKeptAs sets words uuid (sealed_of given) strings stale left
+    → IsKeptAs sets words uuid (record { content = content; enc = enc }) strings stale left
+kept_of sets words left uuid content enc given strings stale content_is enc_is kept =
+    subst (λ (e : Bytes). IsKeptAs sets words uuid (record { content = content; enc = e }) strings stale left) enc_is
+    (subst (λ (t : Bytes). IsKeptAs sets words uuid (record { content = t; enc = given.enc }) strings stale left) content_is kept)
+
+-- with its strings as they are kept
+pub stands_on : (sets : Sets) (words left : ChaCha) (i : Item) (content enc : Bytes) (stamp : ℕ) (given strings : RowStrings) (stale : Bool)
+    (latest : Option RowBody) (local : LocalItem) → IsRowOf i stamp strings stale latest local → NamesStamp i stamp → given.content ≡ content
+    → given.enc ≡ enc → IsKeptAs sets words i.uuid (sealed_of given) strings stale left
+    → StandsOn sets words i content enc latest None (columns local) left
+stands_on sets words left i content enc stamp given strings stale latest local is named content_is enc_is kept = record {
   uuid_is = is.uuid_is;
   kind_is = is.kind_is;
   stamp = stamp;
   stamped = named;
   base_is = is.base_is;
   strings = strings;
-  kept = inl (λ text opens. (let held = opens.held in cc), cc, is.stale_is, refl);
+  kept = subst (λ (b : Bool). IsKeptAs sets words i.uuid (record { content = content; enc = enc }) strings b left) (sym is.stale_is)
+      (kept_of sets words left i.uuid content enc given strings stale content_is enc_is kept);
   body_is = is.body_is;
   latest_is = is.latest_is;
   posted_is = is.posted_is;
 }
 
-pub takes_deleted : (sets : Sets) (p : Progress) (number : ℕ) (i : Item) (latest : Option RowBody) (change : Change) → i.body ≡ body.Deleted
-    → Removes change (key.Local number) → TakesVersion sets p number i latest None (changed p change)
-takes_deleted sets p number i latest change has removes =
-    subst (λ (b : Body). TakesBody sets p number i b latest None (changed p change)) (sym has) (change, removes, refl)
+-- nothing is drawn for a deletion
+pub takes_deleted : (sets : Sets) (p : Progress) (number : ℕ) (i : Item) (latest : Option RowBody) (change : Change) (words : ChaCha)
+    → i.body ≡ body.Deleted → Removes change (key.Local number) → p.words ≡ words
+    → TakesVersion sets p number i latest None (with_words (changed p change) words)
+takes_deleted sets p number i latest change words has removes same =
+    let still : with_words (changed p change) words ≡ changed p change = ap (λ (w : ChaCha). with_words (changed p change) w) (sym same) in
+    subst (λ (b : Body). TakesBody sets p number i b latest None (with_words (changed p change) words)) (sym has) (change, removes, still)
 
-pub takes_strings : (sets : Sets) (p : Progress) (number : ℕ) (i : Item) (content enc : Bytes) (latest : Option RowBody) (local : LocalItem) (change : Change)
-    → i.body ≡ body.Strings content enc → StandsOn sets p.words i content enc latest None (columns local) p.words
-    → Puts change (key.Local number) (value.Local local) → TakesVersion sets p number i latest None (changed p change)
-takes_strings sets p number i content enc latest local change has stands puts =
-    subst (λ (b : Body). TakesBody sets p number i b latest None (changed p change)) (sym has)
-    (columns local, p.words, change, stands, record { local = local; puts = puts; columns_are = refl }, refl)
+pub takes_strings : (sets : Sets) (p : Progress) (number : ℕ) (i : Item) (content enc : Bytes) (latest : Option RowBody) (local : LocalItem)
+    (change : Change) (words left : ChaCha) → i.body ≡ body.Strings content enc → p.words ≡ words
+    → StandsOn sets words i content enc latest None (columns local) left → Puts change (key.Local number) (value.Local local)
+    → TakesVersion sets p number i latest None (with_words (changed p change) left)
+takes_strings sets p number i content enc latest local change words left has same stands puts =
+    let own : StandsOn sets p.words i content enc latest None (columns local) left =
+    subst (λ (w : ChaCha). StandsOn sets w i content enc latest None (columns local) left) (sym same) stands in
+    subst (λ (b : Body). TakesBody sets p number i b latest None (with_words (changed p change) left)) (sym has)
+    (columns local, left, change, own, record { local = local; puts = puts; columns_are = refl }, refl)
 
 pub makes_none : (sets : Sets) (rows : Rows) (taken : Taken) (words : ChaCha) (i : Item) → i.body ≡ body.Deleted
     → MakesRow sets (so_far rows taken words) i i.body (after (so_far rows taken words) effect.Nothing words)
 makes_none sets rows taken words i has =
     subst (λ (b : Body). MakesRow sets (so_far rows taken words) i b (after (so_far rows taken words) effect.Nothing words)) (sym has) refl
 
-pub makes_row : (sets : Sets) (rows : Rows) (taken : Taken) (words : ChaCha) (i : Item) (content enc : Bytes) (local : LocalItem) (change : Change)
-    → taken.next ≢ last_number → i.body ≡ body.Strings content enc → StandsOn sets words i content enc None None (columns local) words
+pub makes_row : (sets : Sets) (rows : Rows) (taken : Taken) (words left : ChaCha) (i : Item) (content enc : Bytes) (local : LocalItem) (change : Change)
+    → taken.next ≢ last_number → i.body ≡ body.Strings content enc → StandsOn sets words i content enc None None (columns local) left
     → Puts change (key.Local taken.next) (value.Local local)
-    → MakesRow sets (so_far rows taken words) i i.body (after (so_far rows taken words) (effect.Made change) words)
-makes_row sets rows taken words i content enc local change room has stands puts =
-    subst (λ (b : Body). MakesRow sets (so_far rows taken words) i b (after (so_far rows taken words) (effect.Made change) words)) (sym has)
-    (room, columns local, words, change, stands, record { local = local; puts = puts; columns_are = refl }, refl)
+    → MakesRow sets (so_far rows taken words) i i.body (after (so_far rows taken words) (effect.Made change) left)
+makes_row sets rows taken words left i content enc local change room has stands puts =
+    subst (λ (b : Body). MakesRow sets (so_far rows taken words) i b (after (so_far rows taken words) (effect.Made change) left)) (sym has)
+    (room, columns local, left, change, stands, record { local = local; puts = puts; columns_are = refl }, refl)

@@ -1,5 +1,5 @@
 -- Items stay sound, and their drafts open, whatever versions an answer has.
-use Rattle.std.proofs.Common.{Option, Some, None, refl, sym, ap, subst, inl, inr}
+use Rattle.std.proofs.Common.{Bool, Option, Some, None, refl, sym, ap, subst, inl, inr}
 use Rattle.std.specs.Prelude.{IsSome}
 use Rattle.rand_chacha.specs.ChaCha.{ChaCha}
 use Rattle.sn_conflict.specs.Checks.{AreStringsOf}
@@ -18,7 +18,7 @@ use Rattle.sn_sync.specs.declared.item.Body.TheVariants as body
 use Rattle.sn_sync.specs.declared.item.Item.{Item}
 use Rattle.sn_client.specs.Laws.{StayStanding, StayWell}
 use Rattle.sn_client.specs.States.{Bytes, Columns, IsOwnDraft, IsSoundItem, NamesVersion, OpensVersion}
-use Rattle.sn_client.specs.Taking.{KeepsStrings, StandsOn, new_columns, unposted}
+use Rattle.sn_client.specs.Taking.{IsKeptAs, StandsOn, new_columns, unposted}
 use Rattle.sn_client.proofs.Standing.{IsKept, Stand, told_stands}
 
 -- ---- strings
@@ -29,14 +29,14 @@ pub opened_names : (set : KeySet) (uuid text : Bytes) (strings : RowStrings) →
 opened_names set uuid text strings o =
     ((o.opens.reading, o.opens.authentic.names), (o.enc.opens.reading, o.enc.opens.authentic.names))
 
-kept_names : (sets : Sets) (words left : ChaCha) (uuid content enc : Bytes) (strings : RowStrings) (cs : Columns)
-    → KeepsStrings sets words uuid (record { content = content; enc = enc }) strings cs left → AreStringsOf uuid (body.Strings content enc)
+kept_names : (sets : Sets) (words left : ChaCha) (uuid content enc : Bytes) (strings : RowStrings) (stale : Bool)
+    → IsKeptAs sets words uuid (record { content = content; enc = enc }) strings stale left → AreStringsOf uuid (body.Strings content enc)
     → NamesVersion uuid (Some (row.Sealed strings))
-kept_names sets words left uuid content enc strings cs (inl (not, same, current, e)) checked = (
+kept_names sets words left uuid content enc strings stale (inl (not, same, current, e)) checked = (
   subst (λ (x : Bytes). (reading : Reading) × NamesItem x reading uuid) (sym (ap (λ (z : Sealed). z.content) same)) checked.0.1,
   subst (λ (x : Bytes). (reading : Reading) × NamesItem x reading uuid) (sym (ap (λ (z : Sealed). z.enc) same)) checked.1.1,
 )
-kept_names sets words left uuid content enc strings cs (inr (text, opens, again, stale)) checked =
+kept_names sets words left uuid content enc strings stale (inr (text, opens, again, is)) checked =
     opened_names sets.present uuid text strings again.still
 
 -- ---- a row on a version
@@ -46,7 +46,7 @@ stands_sound : (sets : Sets) (words left : ChaCha) (i : Item) (content enc : Byt
 stands_sound sets words left i content enc latest cs s checked named =
     let has_base : IsSome cs.base = subst IsSome (sym s.base_is) refl in
     let has_body : IsSome cs.body = subst IsSome (sym s.body_is) refl in
-    let names = kept_names sets words left i.uuid content enc s.strings cs s.kept checked in
+    let names = kept_names sets words left i.uuid content enc s.strings cs.stale s.kept checked in
     record {
       based = (λ h. has_body, λ h. has_base);
       undeleted = λ e. (let sealed = s.body_is in cc);

@@ -6,6 +6,8 @@ use Rattle.sn_conflict.specs.Checks.{HasItsStrings}
 use Rattle.sn_conflict.specs.Meetings.{HasContent}
 use Rattle.sn_sync.specs.Versions.{conflict_uuids, item_of, uuids}
 use Rattle.sn_notes.specs.Copies.{copy_of}
+use Rattle.sn_rekey.specs.Rekeying.{IsRewrapped}
+use Rattle.sn_rekey.specs.Rewraps.{Rewraps}
 use Rattle.sn_rows.specs.Table.{Rows, no_rows, rows_after}
 use Rattle.sn_rows.specs.declared.body.RowBody.{RowBody}
 use Rattle.sn_rows.specs.declared.body.RowBody.TheVariants as row
@@ -23,7 +25,7 @@ use Rattle.sn_sync.specs.declared.answer.Answer.TheVariants as answer
 use Rattle.sn_sync.specs.declared.item.Item.{Item}
 use Rattle.sn_sync.specs.declared.request.Request.{Request}
 use Rattle.sn_client.specs.States.{Bytes, HasItem, HasLocal, HasSets, IsFirstUnsound, IsOwnDraft, IsSound, IsSoundDevice, IsSoundItem, columns}
-use Rattle.sn_client.specs.Runs.{Act, Call, Halt, Run, asked, commits, rows_done, sync}
+use Rattle.sn_client.specs.Runs.{Act, Call, Halt, Run, asked, commits, passwd, rows_done, sign_in, sync}
 use Rattle.sn_client.specs.Steps.{Step, What, adopts, applies, asks, begins, deletes, edits, forgets, posts, puts, renews, start}
 use Rattle.sn_client.specs.Taking.{IsServers, Progress, Takes, TakesAll, Told, is_conflict, is_retrieved, is_saved, told_by}
 
@@ -51,7 +53,7 @@ TellsOf (answer.Account token identifier account) uuid = ⊥
 TellsOf (answer.Params params) uuid = ⊥
 TellsOf (answer.Refused status tag more) uuid = ⊥
 
--- what is done is of the item
+-- what is done is of the item; an adoption is of every one
 abbrev pub IsOfItem : What → Bytes → Type 0
 IsOfItem (edits of text) uuid = of ≡ uuid
 IsOfItem (deletes of) uuid = of ≡ uuid
@@ -61,14 +63,27 @@ IsOfItem (renews token) uuid = ⊥
 IsOfItem (puts of kind text) uuid = ⊥
 IsOfItem (posts numbers) uuid = ⊥
 IsOfItem (asks set) uuid = ⊥
-IsOfItem (adopts set token) uuid = ⊥
+IsOfItem (adopts set token) uuid = Unit {0}
 IsOfItem forgets uuid = ⊥
 
--- a draft stays as it is but for the user's own call of its item, and for an answer that tells of it, whatever server gave that
+-- a draft stays as it is but for the user's own call of its item, for an answer that tells of it, whatever server gave that, and for the adoption of a set
 abbrev pub DraftStays : Type 0
 DraftStays = (rows : Rows) (words left : ChaCha) (what : What) (changes : List Change) (uuid : Bytes) (number : ℕ) (latest : RowBody)
     → IsSound rows → Step rows words what changes left → ¬ (IsOfItem what uuid)
     → HasDraft rows uuid number latest → HasDraft (rows_after rows changes) uuid number latest
+
+-- a version is sealed again under the set, with the same content, where it opens under a set that is held; any other stays as it is
+pub record IsAdoptedAs (sets : Sets) (set : KeySet) (uuid : Bytes) (before after : RowBody) : Type 0 where
+  pub words : ChaCha
+  pub left : ChaCha
+  pub rewrapped : IsRewrapped sets set words uuid before after left
+
+-- at the adoption of a set a draft stays in its row, with its content
+abbrev pub DraftAdopted : Type 0
+DraftAdopted = (rows : Rows) (words left : ChaCha) (set : KeySet) (token : Bytes) (changes : List Change) (owner : OwnerRow) (sets : Sets) (uuid : Bytes)
+    (number : ℕ) (latest : RowBody)
+    → HasSets rows owner sets → Step rows words (adopts set token) changes left → HasDraft rows uuid number latest
+    → (again : RowBody) × HasDraft (rows_after rows changes) uuid number again × IsAdoptedAs sets set uuid latest again
 
 -- ---- one version of an answer, and a draft
 
@@ -259,6 +274,58 @@ abbrev pub RunsStaySoundDevice : Type 0
 RunsStaySoundDevice = (least : ℕ) (call : Call) (rows : Rows) (words : ChaCha) (acts : List Act) (halt : Halt) (front later : List Act)
     → Run least call rows words acts halt → acts ≡ front ++ later → IsSoundDevice rows → IsSoundDevice (rows_done rows front)
 
+-- the strings are this content of the item under the set: the device sealed them so, or sealed them again from another set
+abbrev pub IsSealedUnder : KeySet → Bytes → Bytes → RowStrings → Type 0
+IsSealedUnder set uuid content strings = ((before : ChaCha) × (left : ChaCha) × Seals before set uuid content strings left)
+    ⊎ ((before : ChaCha) × (left : ChaCha) × (other : KeySet) × (given : RowStrings)
+    × Rewraps before uuid content other set (sealed_of given) (sealed_of strings) left)
+
+-- the draft is that of its item in its row still, with the same content, sealed again under this set
+pub record IsSealedAgain (sets : Sets) (present : KeySet) (number : ℕ) (was : LocalItem) (latest : RowBody) (at : ℕ) (local : LocalItem) (again : RowBody)
+    : Type 0 where
+  pub number_is : at ≡ number
+  pub uuid_is : local.uuid ≡ was.uuid
+  pub kind_is : local.kind ≡ was.kind
+  pub strings : RowStrings
+  pub was_sealed : latest ≡ row.Sealed strings
+  pub text : Bytes
+  pub opened : OpensHeld sets was.uuid (sealed_of strings) text
+  pub anew : RowStrings
+  pub is_sealed : again ≡ row.Sealed anew
+  pub under : IsSealedUnder present local.uuid text anew
+
+-- it goes on as that of another item of its type, in its own row or in one that is new where this was the next local number: its content, or a copy
+-- of it, or of that copy and so on, is sealed for the item under this set
+pub record GoesOnUnder (sets : Sets) (present : KeySet) (next number : ℕ) (was : LocalItem) (latest : RowBody) (at : ℕ) (local : LocalItem)
+    (again : RowBody) : Type 0 where
+  pub place : (at ≡ number) ⊎ (next ≤ at)
+  pub kind_is : local.kind ≡ was.kind
+  pub strings : RowStrings
+  pub was_sealed : latest ≡ row.Sealed strings
+  pub text : Bytes
+  pub opened : OpensHeld sets was.uuid (sealed_of strings) text
+  pub copies : List Bytes
+  pub anew : RowStrings
+  pub is_sealed : again ≡ row.Sealed anew
+  pub under : IsSealedUnder present local.uuid (copied text copies) anew
+
+-- a draft of these rows carries it on so
+pub record IsCarriedUnder (sets : Sets) (present : KeySet) (next number : ℕ) (was : LocalItem) (latest : RowBody) (rows : Rows) : Type 0 where
+  pub at : ℕ
+  pub local : LocalItem
+  pub stands : HasLocal rows at local
+  pub again : RowBody
+  pub drafted : local.latest ≡ Some again
+  pub carries : IsStillOf number was latest at local again
+      ⊎ (IsSealedAgain sets present number was latest at local again ⊎ GoesOnUnder sets present next number was latest at local again)
+
+-- under the present set that the rows have
+pub record IsCarriedIn (sets : Sets) (next number : ℕ) (was : LocalItem) (latest : RowBody) (rows : Rows) : Type 0 where
+  pub holder : OwnerRow
+  pub held : Sets
+  pub holds : HasSets rows holder held
+  pub carried : IsCarriedUnder sets held.present next number was latest rows
+
 -- in one of these acts a version of an answer has the content of the draft, or of that which carries it on when it is met
 pub record IsAnsweredIn (sets : Sets) (rows : Rows) (next number : ℕ) (was : LocalItem) (latest : RowBody) (acts : List Act) : Type 0 where
   pub before : List Act
@@ -272,19 +339,39 @@ pub record IsAnsweredIn (sets : Sets) (rows : Rows) (next number : ℕ) (was : L
   pub held : Sets
   pub holds : HasSets (rows_done rows before) owner held
   pub met : Rows
-  pub carried : IsCarried sets next number was latest met
+  pub carried : IsCarriedUnder sets held.present next number was latest met
   pub item : Item
   pub flag : Bool
   pub meets : MeetsOf held (rows_done rows before) owner words given item flag met
   pub named : item.uuid ≡ carried.local.uuid
   pub same : HasContent held carried.local carried.again item
 
--- whatever a server answers, no draft but a deletion is lost in a sync: whichever first acts of it are done, the draft is carried on in the rows that they
--- leave, or the server has its content
+-- what becomes of a draft in these acts: it is carried on in the rows that they leave, or it is a deletion, or the server has its content
+abbrev pub IsKeptOver : Sets → Rows → ℕ → ℕ → LocalItem → RowBody → List Act → Type 0
+IsKeptOver sets rows next number was latest acts = IsCarriedIn sets next number was latest (rows_done rows acts)
+    ⊎ ((latest ≡ row.Deleted) ⊎ IsAnsweredIn sets rows next number was latest acts)
+
+-- whatever a server answers, no draft but a deletion is lost in a sync, whether it settles a change of password first or not: so after whichever first acts
+-- of it are done
 abbrev pub DraftKeptBySync : Type 0
 DraftKeptBySync = (least : ℕ) (rows : Rows) (words : ChaCha) (acts : List Act) (halt : Halt) (front later : List Act) (owner : OwnerRow) (sets : Sets)
     (number : ℕ) (local : LocalItem) (latest : RowBody)
     → Run least sync rows words acts halt → acts ≡ front ++ later → IsSoundDevice rows → HasSets rows owner sets
     → HasLocal rows number local → local.latest ≡ Some latest
-    → IsCarried sets owner.next number local latest (rows_done rows front)
-    ⊎ ((latest ≡ row.Deleted) ⊎ IsAnsweredIn sets rows owner.next number local latest front)
+    → IsKeptOver sets rows owner.next number local latest front
+
+-- nor is any in a change of password
+abbrev pub DraftKeptByPasswd : Type 0
+DraftKeptByPasswd = (least : ℕ) (password : Bytes) (cost : ℕ) (rows : Rows) (words : ChaCha) (acts : List Act) (halt : Halt) (front later : List Act)
+    (owner : OwnerRow) (sets : Sets) (number : ℕ) (local : LocalItem) (latest : RowBody)
+    → Run least (passwd password cost) rows words acts halt → acts ≡ front ++ later → IsSoundDevice rows → HasSets rows owner sets
+    → HasLocal rows number local → local.latest ≡ Some latest
+    → IsKeptOver sets rows owner.next number local latest front
+
+-- nor in a sign-in, which may adopt a set
+abbrev pub DraftKeptBySignIn : Type 0
+DraftKeptBySignIn = (least : ℕ) (identifier password : Bytes) (rows : Rows) (words : ChaCha) (acts : List Act) (halt : Halt) (front later : List Act)
+    (owner : OwnerRow) (sets : Sets) (number : ℕ) (local : LocalItem) (latest : RowBody)
+    → Run least (sign_in identifier password) rows words acts halt → acts ≡ front ++ later → IsSoundDevice rows → HasSets rows owner sets
+    → HasLocal rows number local → local.latest ≡ Some latest
+    → IsKeptOver sets rows owner.next number local latest front

@@ -1,6 +1,8 @@
+pub mod Adopting
 pub mod Asked
 pub mod Asking
 pub mod Calls
+pub mod Changing
 pub mod Chosen
 pub mod Draws
 pub mod Going

@@ -1,6 +1,6 @@
 -- A whole call of a device: the first cause in order why it is refused, or else its commits and exchanges one after another, up to its answer, a
 -- reply that ends it, or a disk that fails.
-use Rattle.std.specs.Prelude.{◌≡◌, ◌≢◌, ◌⊎◌, ◌<◌, ◌≤◌, ℕ, List, [], ◌∷◌, ◌++◌, length, true, false, Option, Some, None, IsSome, codes}
+use Rattle.std.specs.Prelude.{◌≡◌, ◌≢◌, ◌⊎◌, ◌+◌, ◌<◌, ◌≤◌, ℕ, suc, List, [], ◌∷◌, ◌++◌, length, true, false, Option, Some, None, codes}
 use Rattle.std.specs.List.{flat_map}
 use Rattle.rand_chacha.specs.ChaCha.{ChaCha}
 use Rattle.sn_conflict.specs.Checks.{FailsAt, Passes}
@@ -11,6 +11,8 @@ use Rattle.sn_journal.specs.Image.{IsBounded}
 use Rattle.sn_keys.specs.Keys.{AreKeysOf}
 use Rattle.sn_net.specs.Exchanges.{Exchange}
 use Rattle.sn_string.specs.Bounds.{longest_content}
+use Rattle.sn_rekey.specs.declared.error.RekeyError.TheVariants as rekey
+use Rattle.sn_rekey.specs.declared.error.Running.{Running}
 use Rattle.sn_rows.specs.Spelling.{spelled}
 use Rattle.sn_rows.specs.Table.{Rows, rows_after}
 use Rattle.sn_rows.specs.declared.change.Change.{Change}
@@ -24,12 +26,13 @@ use Rattle.sn_sync.specs.declared.answer.Answer.TheVariants as answer
 use Rattle.sn_sync.specs.declared.item.Item.{Item}
 use Rattle.sn_sync.specs.declared.request.Request.{Request}
 use Rattle.sn_sync.specs.declared.request.Request.TheVariants as request
-use Rattle.sn_client.specs.Asking.{Fails, IsExchange, Reply, said}
+use Rattle.sn_client.specs.Asking.{Fails, IsExchange, Reply, lost, said, unheard, unread}
 use Rattle.sn_client.specs.Draws.{DrawsNoFresh, DrawsNonce}
+use Rattle.sn_client.specs.Changing.{IsFirstSent, IsRunning, MayAsk, NoneRuns}
 use Rattle.sn_client.specs.Listing.{AreListed, IsClosed, IsDeleted, Shows}
 use Rattle.sn_client.specs.Sending.{AreChosen, AreUnsent, IsSyncOf, NoneWaits, Numbered, PostsAll, SomeWaits}
 use Rattle.sn_client.specs.States.{Bytes, HasItem, HasNoAccount, HasOwner, HasSets, IsFree, IsUsed}
-use Rattle.sn_client.specs.Steps.{Step, What, applies, begins, deletes, edits, posts, puts, renews, start}
+use Rattle.sn_client.specs.Steps.{Step, What, adopts, applies, asks, begins, deletes, edits, forgets, posts, puts, renews, start}
 use Rattle.sn_client.specs.Taking.{RunsOut, last_number, told_by}
 use Rattle.sn_client.specs.declared.error.ClientError.{ClientError}
 use Rattle.sn_client.specs.declared.error.ClientError.TheVariants as refusal
@@ -51,6 +54,8 @@ pub data Call : Type 0 where
   list : Call
   content : Bytes → Call
   sync : Call
+  -- a new password, and the cost of its keys
+  passwd : Bytes → ℕ → Call
 
 -- what a call that is answered gives
 pub data Given : Type 0 where
@@ -137,22 +142,18 @@ RunsRegister least identifier password cost rows words acts halt =
     ⊎ (¬ (IsBadCost least cost) × ((set : KeySet) × (left : ChaCha) × IsNewSet words identifier password cost set left
     × AsksAccount rows left (request.Register set.params set.pw) (begins set) acts halt))))
 
--- a set that another change of password began: a place for its adoption. Until there is that, the sign-in is refused as with a wrong password
-abbrev pub JoinsOther : KeySet → List Act → Halt → Type 0
-JoinsOther set acts halt = Refuses acts halt (refusal.Refused 401 (codes "bad-auth"))
-
 -- the older set's parameters, with other keys
 abbrev pub IsOtherOlder : Sets → KeySet → Type 0
 IsOtherOlder sets set = (older : KeySet) × (sets.older ≡ Some older) × (set.params ≡ older.params) × (set ≢ older)
 
 -- the keys of the password on a device that holds these sets: of a held set's parameters they are its keys, or the password is another; the present
--- set gets a new session token
+-- set gets a new session token; a set that is not held, by another's change of password, is adopted
 abbrev pub SignsInAgain : Rows → ChaCha → Bytes → Sets → KeySet → List Act → Halt → Type 0
 SignsInAgain rows words identifier sets set acts halt =
     ((set.params ≡ sets.present.params) × (set ≢ sets.present) × Refuses acts halt refusal.WrongPassword)
     ⊎ ((set ≡ sets.present) × AsksAccount rows words (request.SignIn identifier set.pw) (λ uuid token. renews token) acts halt)
     ⊎ ((set.params ≢ sets.present.params) × ((IsOtherOlder sets set × Refuses acts halt refusal.WrongPassword)
-    ⊎ (¬ (IsOtherOlder sets set) × JoinsOther set acts halt)))
+    ⊎ (¬ (IsOtherOlder sets set) × AsksAccount rows words (request.SignIn identifier set.pw) (λ uuid token. adopts set token) acts halt)))
 
 -- on any device
 abbrev pub SignsInWith : Rows → ChaCha → Bytes → KeySet → List Act → Halt → Type 0
@@ -384,36 +385,182 @@ pub record EndsUnapplied (at : Standing) (acts : List Act) (halt : Halt) : Type 
   pub sends : Sends at.rows numbers posted request ready
   pub ends_so : EndsExchange at.words numbers posted request ready acts halt
 
--- after so many exchanges: all is done; or as many were made as may be, and one more is due; or the next one ends the call; or memory is wanting
-abbrev pub EndsSync : ℕ → Standing → List Act → Halt → Type 0
-EndsSync count at acts halt =
-    (IsDone at.rows at.last × (acts ≡ []) × (halt ≡ answered nothing at.words))
-    ⊎ (((count ≡ most_exchanges) × IsDue at.rows at.last × Refuses acts halt refusal.RoundsUsed)
-    ⊎ (((count < most_exchanges) × EndsUnapplied at acts halt) ⊎ Wants acts halt))
+-- ---- a call piece by piece: where it stands, and how a piece of it turns out
 
-pub record Exchanges (rows : Rows) (words : ChaCha) (acts : List Act) (halt : Halt) : Type 0 where
+-- the exchanges that it made so far, the rows, and the words
+pub record Point : Type 0 where
+  pub made : ℕ
+  pub rows : Rows
+  pub words : ChaCha
+
+pub data Turn : Type 0 where
+  -- the call goes on from there
+  goes_on : Point → Turn
+  -- it ends
+  is_over : Halt → Turn
+
+-- nothing more is done, and the call is refused
+abbrev pub EndsBy : ClientError → Point → List Act → Turn → Type 0
+EndsBy why p acts turn = (acts ≡ []) × (turn ≡ is_over (refused why))
+
+-- one piece, and where the call goes on behind it, another
+abbrev pub Then : (Point → List Act → Turn → Type 0) → (Point → List Act → Turn → Type 0) → Point → List Act → Turn → Type 0
+Then first next p acts turn =
+    ((halt : Halt) × first p acts (is_over halt) × (turn ≡ is_over halt))
+    ⊎ ((front : List Act) × (q : Point) × (later : List Act) × first p front (goes_on q) × next q later turn × (acts ≡ front ++ later))
+
+-- the call is answered with nothing behind the piece
+abbrev pub AnswersNothing : (Point → List Act → Turn → Type 0) → Point → List Act → Halt → Type 0
+AnswersNothing piece p acts halt = piece p acts (is_over halt) ⊎ ((q : Point) × piece p acts (goes_on q) × (halt ≡ answered nothing q.words))
+
+-- one commit; memory may be wanting before it
+abbrev pub CommitsStep : What → Point → List Act → Turn → Type 0
+CommitsStep what p acts turn = EndsBy refusal.Memory p acts turn
+    ⊎ ((changes : List Change) × (left : ChaCha) × Step p.rows p.words what changes left
+    × ((IsBatch changes × (acts ≡ commits what changes ∷ [])
+    × (turn ≡ goes_on (record { made = p.made; rows = rows_after p.rows changes; words = left })))
+    ⊎ ((halt : Halt) × (acts ≡ []) × StopsAt what changes halt × (turn ≡ is_over halt))))
+
+-- the reply is no answer, and ends the call; or memory is wanting behind it; or the call goes on with the answer, a refusal too
+abbrev pub Hears : (Answer → Point → List Act → Turn → Type 0) → Reply → Point → List Act → Turn → Type 0
+Hears next lost p acts turn = EndsBy refusal.LinkFault p acts turn ⊎ EndsBy refusal.Memory p acts turn
+Hears next unheard p acts turn = EndsBy refusal.Memory p acts turn
+Hears next (unread at) p acts turn = EndsBy (refusal.BadAnswer at) p acts turn ⊎ EndsBy refusal.Memory p acts turn
+Hears next (said given) p acts turn = EndsBy refusal.Memory p acts turn ⊎ next given p acts turn
+
+-- one request; memory may be wanting before it; where as many exchanges were made as a call may make, no more is
+abbrev pub AsksHost : Request → (Answer → Point → List Act → Turn → Type 0) → Point → List Act → Turn → Type 0
+AsksHost r next p acts turn = EndsBy refusal.Memory p acts turn
+    ⊎ (((p.made ≡ most_exchanges) × EndsBy refusal.RoundsUsed p acts turn)
+    ⊎ ((p.made < most_exchanges) × ((reply : Reply) × (later : List Act) × (acts ≡ asked r reply ∷ later)
+    × Hears next reply (record { made = suc p.made; rows = p.rows; words = p.words }) later turn)))
+
+-- ---- exchanges until nothing is left
+
+-- after so many exchanges: all is done; or as many were made as may be, and one more is due; or the next one ends the call; or memory is wanting
+abbrev pub EndsSync : ℕ → Standing → List Act → Turn → Type 0
+EndsSync count at acts turn =
+    (IsDone at.rows at.last × (acts ≡ []) × (turn ≡ goes_on (record { made = count; rows = at.rows; words = at.words })))
+    ⊎ ((halt : Halt) × (turn ≡ is_over halt) × (((count ≡ most_exchanges) × IsDue at.rows at.last × Refuses acts halt refusal.RoundsUsed)
+    ⊎ (((count < most_exchanges) × EndsUnapplied at acts halt) ⊎ Wants acts halt)))
+
+-- behind the exchanges that the call made before
+pub record Exchanges (p : Point) (acts : List Act) (turn : Turn) : Type 0 where
   pub rounds : List Round
-  pub few : length rounds ≤ most_exchanges
+  pub few : p.made + length rounds ≤ most_exchanges
   pub at : Standing
-  pub went : AreRounds (record { rows = rows; words = words; last = None }) rounds at
+  pub went : AreRounds (record { rows = p.rows; words = p.words; last = None }) rounds at
   pub later : List Act
-  pub ends : EndsSync (length rounds) at later halt
+  pub ends : EndsSync (p.made + length rounds) at later turn
   pub acts_are : acts ≡ flat_map acts_of rounds ++ later
 
--- a change of password is under way
-abbrev pub IsChanging : Sets → Type 0
-IsChanging sets = IsSome sets.older ⊎ IsSome sets.asked
+-- ---- a set that is asked for
 
--- a place for what comes first then: the change that was asked for is resolved, and items are sealed again. Until there is that, no device makes
--- such a set, and one that has it is refused
-abbrev pub Resolves : List Act → Halt → Type 0
-Resolves acts halt = Refuses acts halt (refusal.Refused 401 (codes "bad-auth"))
+-- the change of the account's password from the present set to this one
+abbrev pub change_to : OwnerRow → KeySet → KeySet → Request
+change_to owner present set = request.ChangePw owner.token present.pw set.pw set.params.pw_cost set.params.pw_nonce
+
+-- the set that was asked for is dropped, and the call is refused
+abbrev pub Drops : ClientError → Point → List Act → Turn → Type 0
+Drops why = Then (CommitsStep forgets) (EndsBy why)
+
+-- after a 401 the set is dropped; after another refusal it stays asked for
+abbrev pub DropsOrKeeps : ℕ → Bytes → Point → List Act → Turn → Type 0
+DropsOrKeeps status tag p acts turn = ((status ≡ 401) × Drops (refusal.Refused status tag) p acts turn)
+    ⊎ ((status ≢ 401) × EndsBy (refusal.Refused status tag) p acts turn)
+
+-- the answer to a change that is sent again: the set is adopted, or dropped
+abbrev pub AdoptsOrDrops : KeySet → Answer → Point → List Act → Turn → Type 0
+AdoptsOrDrops set (answer.Account token identifier uuid) p acts turn = CommitsStep (adopts set token) p acts turn
+AdoptsOrDrops set (answer.Refused status tag more) p acts turn = Drops (refusal.Refused status tag) p acts turn
+AdoptsOrDrops set (answer.Params params) p acts turn = ⊥
+AdoptsOrDrops set (answer.Sync conflicts cursor retrieved saved token) p acts turn = ⊥
+
+-- the answer to a sign-in with the set that was asked for
+abbrev pub AdoptsOrKeeps : KeySet → Answer → Point → List Act → Turn → Type 0
+AdoptsOrKeeps set (answer.Account token identifier uuid) p acts turn = CommitsStep (adopts set token) p acts turn
+AdoptsOrKeeps set (answer.Refused status tag more) p acts turn = DropsOrKeeps status tag p acts turn
+AdoptsOrKeeps set (answer.Params params) p acts turn = ⊥
+AdoptsOrKeeps set (answer.Sync conflicts cursor retrieved saved token) p acts turn = ⊥
+
+-- the account's parameters tell what became of the change: those of the present set, it wasn't made, and is sent again; those of the set that was
+-- asked for, it was made, and the device signs in; else another change was made, and this one can't be any more
+abbrev pub FindsParams : OwnerRow → KeySet → KeySet → Params → Point → List Act → Turn → Type 0
+FindsParams owner present set params p acts turn =
+    ((params ≡ present.params) × AsksHost (change_to owner present set) (AdoptsOrDrops set) p acts turn)
+    ⊎ ((params ≢ present.params) × (((params ≡ set.params) × AsksHost (request.SignIn owner.identifier set.pw) (AdoptsOrKeeps set) p acts turn)
+    ⊎ ((params ≢ set.params) × Drops (refusal.Refused 401 (codes "bad-auth")) p acts turn)))
+
+abbrev pub Finds : OwnerRow → KeySet → KeySet → Answer → Point → List Act → Turn → Type 0
+Finds owner present set (answer.Params params) p acts turn = FindsParams owner present set params p acts turn
+Finds owner present set (answer.Refused status tag more) p acts turn = DropsOrKeeps status tag p acts turn
+Finds owner present set (answer.Account token identifier uuid) p acts turn = ⊥
+Finds owner present set (answer.Sync conflicts cursor retrieved saved token) p acts turn = ⊥
+
+-- what became of the change to this set is found out, and the set is adopted where it was or is made
+abbrev pub Resolves : OwnerRow → KeySet → KeySet → Point → List Act → Turn → Type 0
+Resolves owner present set = AsksHost (request.Params owner.identifier) (Finds owner present set)
+
+-- ---- sync
+
+-- a set that is asked for is resolved first; then exchanges until nothing is left
+abbrev pub SyncsUnder : OwnerRow → Sets → Point → List Act → Turn → Type 0
+SyncsUnder owner sets p acts turn =
+    ((sets.asked ≡ None) × Exchanges p acts turn)
+    ⊎ ((set : KeySet) × (sets.asked ≡ Some set) × Then (Resolves owner sets.present set) Exchanges p acts turn)
+
+-- before the first exchange of a call
+abbrev pub begun : Rows → ChaCha → Point
+begun rows words = record { made = 0; rows = rows; words = words }
 
 abbrev pub SyncsItems : Rows → ChaCha → OwnerRow → Sets → List Act → Halt → Type 0
-SyncsItems rows words owner sets acts halt = (IsChanging sets × Resolves acts halt) ⊎ (¬ (IsChanging sets) × Exchanges rows words acts halt)
+SyncsItems rows words owner sets acts halt = AnswersNothing (SyncsUnder owner sets) (begun rows words) acts halt
 
 abbrev pub RunsSync : Rows → ChaCha → List Act → Halt → Type 0
 RunsSync rows words acts halt = WithAccount rows (SyncsItems rows words) acts halt
+
+-- ---- a change of password
+
+-- why no change may begin: one runs still, or an item is sent and isn't answered
+abbrev pub RefusesChange : Rows → Sets → ClientError → Type 0
+RefusesChange rows sets why =
+    ((by : Running) × IsRunning rows sets by × (why ≡ refusal.Rekey (rekey.ChangeRunning by)))
+    ⊎ ((uuid : Bytes) × NoneRuns rows sets × IsFirstSent rows uuid × (why ≡ refusal.Rekey (rekey.Unsent uuid)))
+
+-- the answer to the change: the set is adopted; after a 401 what became of it is found out; else it is dropped
+abbrev pub AnswersChange : OwnerRow → KeySet → KeySet → Answer → Point → List Act → Turn → Type 0
+AnswersChange owner present set (answer.Account token identifier uuid) p acts turn = CommitsStep (adopts set token) p acts turn
+AnswersChange owner present set (answer.Refused status tag more) p acts turn =
+    ((status ≡ 401) × Resolves owner present set p acts turn) ⊎ ((status ≢ 401) × Drops (refusal.Refused status tag) p acts turn)
+AnswersChange owner present set (answer.Params params) p acts turn = ⊥
+AnswersChange owner present set (answer.Sync conflicts cursor retrieved saved token) p acts turn = ⊥
+
+-- a set of the password is drawn and kept as asked for, and then asked for
+abbrev pub AsksForNew : Bytes → ℕ → OwnerRow → KeySet → Point → List Act → Turn → Type 0
+AsksForNew password cost owner present p acts turn = (set : KeySet) × (left : ChaCha) × IsNewSet p.words owner.identifier password cost set left
+    × Then (CommitsStep (asks set)) (AsksHost (change_to owner present set) (AnswersChange owner present set))
+    (record { made = p.made; rows = p.rows; words = left }) acts turn
+
+-- no change may begin; or as many exchanges were made as a call may make; or memory is wanting; else a new set is asked for
+abbrev pub AsksFor : Bytes → ℕ → Point → List Act → Turn → Type 0
+AsksFor password cost p acts turn = EndsBy refusal.Memory p acts turn
+    ⊎ ((owner : OwnerRow) × (sets : Sets) × HasSets p.rows owner sets
+    × (((why : ClientError) × RefusesChange p.rows sets why × EndsBy why p acts turn)
+    ⊎ (MayAsk p.rows sets × (((p.made ≡ most_exchanges) × EndsBy refusal.RoundsUsed p acts turn)
+    ⊎ ((p.made < most_exchanges) × AsksForNew password cost owner sets.present p acts turn)))))
+
+-- the device and its server are brought together, the new set is asked for, and they are brought together again
+abbrev pub ChangesTo : Bytes → ℕ → OwnerRow → Sets → Point → List Act → Turn → Type 0
+ChangesTo password cost owner sets = Then (SyncsUnder owner sets) (Then (AsksFor password cost) Exchanges)
+
+-- a cost that isn't taken; else the password is changed
+abbrev pub ChangesPassword : ℕ → Bytes → ℕ → Rows → ChaCha → OwnerRow → Sets → List Act → Halt → Type 0
+ChangesPassword least password cost rows words owner sets acts halt =
+    (IsBadCost least cost × Refuses acts halt (refusal.Cost cost))
+    ⊎ (¬ (IsBadCost least cost) × AnswersNothing (ChangesTo password cost owner sets) (begun rows words) acts halt)
+
+abbrev pub RunsPasswd : ℕ → Bytes → ℕ → Rows → ChaCha → List Act → Halt → Type 0
+RunsPasswd least password cost rows words acts halt = WithAccount rows (ChangesPassword least password cost rows words) acts halt
 
 -- ---- each call
 
@@ -426,6 +573,7 @@ RunsCall least (delete uuid) rows words acts halt = RunsDelete uuid rows words a
 RunsCall least list rows words acts halt = RunsList rows words acts halt
 RunsCall least (content uuid) rows words acts halt = RunsContent uuid rows words acts halt
 RunsCall least sync rows words acts halt = RunsSync rows words acts halt
+RunsCall least (passwd password cost) rows words acts halt = RunsPasswd least password cost rows words acts halt
 
 -- a device that takes no lower cost than this one makes the call on these rows, with these words: what it does, one commit an act, and how it ends
 abbrev pub Run : ℕ → Call → Rows → ChaCha → List Act → Halt → Type 0

@@ -1,9 +1,9 @@
 -- One commit of a device: what it makes of the rows, and what it draws for that.
-use Rattle.std.specs.Prelude.{◌≡◌, ◌≢◌, ◌⊎◌, ◌≤◌, ℕ, suc, List, [], ◌∷◌, ◌++◌, length, true, IsTrue, Option, Some, None}
+use Rattle.std.specs.Prelude.{◌≡◌, ◌≢◌, ◌⊎◌, ◌≤◌, ℕ, suc, List, [], ◌∷◌, ◌++◌, length, IsTrue, Option, Some, None}
 use Rattle.rand_chacha.specs.ChaCha.{ChaCha}
 use Rattle.sn_conflict.specs.Checks.{Passes}
-use Rattle.sn_items.specs.Items.{Carries}
 use Rattle.sn_items.specs.Objects.{is_object}
+use Rattle.sn_rekey.specs.Carrying.{IsFinished}
 use Rattle.sn_string.specs.Bounds.{longest_content}
 use Rattle.sn_rows.specs.Table.{Puts, Removes, Rows}
 use Rattle.sn_rows.specs.declared.body.RowBody.{RowBody}
@@ -13,11 +13,12 @@ use Rattle.sn_rows.specs.declared.change.Change.{Change}
 use Rattle.sn_rows.specs.declared.device_rows.LocalItem.{LocalItem}
 use Rattle.sn_rows.specs.declared.device_rows.OwnerRow.{OwnerRow}
 use Rattle.sn_rows.specs.declared.device_rows.SetRow.{SetRow}
+use Rattle.sn_rows.specs.declared.key.Key.{Key}
 use Rattle.sn_rows.specs.declared.key.Key.TheVariants as key
-use Rattle.sn_rows.specs.declared.key.Slot.TheVariants.{Present, Older}
+use Rattle.sn_rows.specs.declared.key.Slot.{Slot}
+use Rattle.sn_rows.specs.declared.key.Slot.TheVariants.{Asked, Older, Present}
 use Rattle.sn_rows.specs.declared.value.Value.TheVariants as value
 use Rattle.sn_sets.specs.Seals.{Seals}
-use Rattle.sn_sets.specs.Sets.{sealed_of}
 use Rattle.sn_sets.specs.declared.sets.Sets.{Sets}
 use Rattle.sn_string.specs.declared.params.KeySet.{KeySet}
 use Rattle.sn_sync.specs.declared.answer.Answer.{Answer}
@@ -26,9 +27,11 @@ use Rattle.sn_sync.specs.declared.answer.Conflict.{Conflict}
 use Rattle.sn_sync.specs.declared.item.Item.{Item}
 use Rattle.sn_sync.specs.declared.request.Request.{Request}
 use Rattle.sn_sync.specs.declared.request.Request.TheVariants as request
+use Rattle.sn_client.specs.Changing.{MayAsk, RekeysAll}
 use Rattle.sn_client.specs.Draws.{DrawsFresh}
-use Rattle.sn_client.specs.Sending.{AreOfRows, PostsAll, PutsColumns}
-use Rattle.sn_client.specs.States.{Bytes, Columns, HasItem, HasLocal, HasOwner, HasSets, IsFresh, IsSetOf, OwnerColumns, columns, owner_columns, text_of_token}
+use Rattle.sn_client.specs.Listing.{AreItems}
+use Rattle.sn_client.specs.Sending.{AreOfRows, Numbered, PostsAll, PutsColumns}
+use Rattle.sn_client.specs.States.{Bytes, Columns, HasItem, HasLocal, HasOwner, HasSet, HasSets, IsFresh, IsSetOf, OwnerColumns, columns, owner_columns, text_of_token}
 use Rattle.sn_client.specs.Taking.{Progress, TakesAll, last_number, new_columns, told_by}
 
 -- what is committed
@@ -165,21 +168,12 @@ pub record Deletes (rows : Rows) (uuid : Bytes) (changes : List Change) : Type 0
 abbrev pub start : Rows → OwnerRow → ChaCha → Progress
 start rows owner words = record { rows = rows; changes = []; next = owner.next; words = words }
 
--- a version that carries the set's parameters
-abbrev pub CarriesSet : KeySet → Option RowBody → Type 0
-CarriesSet set None = ⊥
-CarriesSet set (Some row.Deleted) = ⊥
-CarriesSet set (Some (row.Sealed strings)) = Carries (sealed_of strings) set.params
-
--- the item has nothing of the set, and is to be sent to no server under other keys
-pub record IsFinished (set : KeySet) (local : LocalItem) : Type 0 where
-  pub current : ¬ (local.stale ≡ true)
-  pub body : ¬ (CarriesSet set local.body)
-  pub latest : ¬ (CarriesSet set local.latest)
-  pub posted : ¬ (CarriesSet set local.posted)
-
 abbrev pub AllFinished : Rows → KeySet → Type 0
 AllFinished rows set = (number : ℕ) (local : LocalItem) → HasLocal rows number local → IsFinished set local
+
+-- the row of this key is no item that needs the set
+abbrev pub IsFinishedAt : Rows → KeySet → Key → Type 0
+IsFinishedAt rows set at = (number : ℕ) (local : LocalItem) → at ≡ key.Local number → HasLocal rows number local → IsFinished set local
 
 -- the older set may go: the last page was given, and no item needs it
 abbrev pub MayRetire : Rows → Option Bytes → KeySet → Type 0
@@ -223,20 +217,56 @@ AppliesTo rows words (request.Params identifier) given changes left = ⊥
 AppliesTo rows words (request.SignIn identifier pw) given changes left = ⊥
 AppliesTo rows words (request.ChangePw token current pw cost nonce) given changes left = ⊥
 
--- ---- changes of password: a place for each of their commits, none of which is made yet
+-- ---- changes of password
+
+-- the change puts the set into the slot
+pub record PutsSet (change : Change) (slot : Slot) (identifier : Bytes) (set : KeySet) : Type 0 where
+  pub keys : SetRow
+  pub keys_are : IsSetOf identifier keys set
+  pub puts : Puts change (key.Set slot) (value.Set keys)
 
 -- the set is kept as asked for
-abbrev pub Asks : Rows → KeySet → List Change → Type 0
-Asks rows set changes = ⊥
+pub record Asks (rows : Rows) (set : KeySet) (changes : List Change) : Type 0 where
+  pub owner : OwnerRow
+  pub sets : Sets
+  pub holds : HasSets rows owner sets
+  pub may : MayAsk rows sets
+  pub change : Change
+  pub put : PutsSet change Asked owner.identifier set
+  pub changes_are : changes ≡ change ∷ []
 
--- the set is the present one, the present one the older, a former older one and the asked one go; each version that opens is sealed again under the
--- set, and one that a server has is then stale
-abbrev pub Adopts : Rows → ChaCha → KeySet → Bytes → List Change → ChaCha → Type 0
-Adopts rows words set token changes left = ⊥
+-- the set that is asked for goes, where there is one
+abbrev pub DropsAsked : Option KeySet → List Change → Type 0
+DropsAsked None changes = changes ≡ []
+DropsAsked (Some set) changes = (change : Change) × Removes change (key.Set Asked) × (changes ≡ change ∷ [])
+
+-- the set is the present one, the present one the older, a former older one and the one that was asked for go; each version that opens is sealed again
+-- under the set, and one that a server has is then stale
+pub record Adopts (rows : Rows) (words : ChaCha) (set : KeySet) (token : Bytes) (changes : List Change) (left : ChaCha) : Type 0 where
+  pub owner : OwnerRow
+  pub sets : Sets
+  pub holds : HasSets rows owner sets
+  pub items : List Numbered
+  pub items_are : AreItems rows items
+  pub rekeyed : List Change
+  pub rekeys : RekeysAll sets set words items rekeyed left
+  pub counted : Change
+  pub counted_is : PutsOwner counted (with_token token (owner_columns owner))
+  pub present : Change
+  pub present_is : PutsSet present Present owner.identifier set
+  pub older : Change
+  pub older_is : PutsSet older Older owner.identifier sets.present
+  pub dropped : List Change
+  pub drops : DropsAsked sets.asked dropped
+  pub changes_are : changes ≡ rekeyed ++ counted ∷ present ∷ older ∷ dropped
 
 -- the set that was asked for goes
-abbrev pub Forgets : Rows → List Change → Type 0
-Forgets rows changes = ⊥
+pub record Forgets (rows : Rows) (changes : List Change) : Type 0 where
+  pub asked : SetRow
+  pub stands : HasSet rows Asked asked
+  pub change : Change
+  pub removes : Removes change (key.Set Asked)
+  pub changes_are : changes ≡ change ∷ []
 
 -- ---- each of them
 

@@ -1,5 +1,5 @@
--- One exchange of a sync, and all of them, by what each leaves: a device behind an answer that was applied, or the end of the call.
-use Rattle.std.specs.Prelude.{◌≡◌, ◌⊎◌, ◌↔◌, ◌≤◌, ◌++◌, ℕ, Bool, IsTrue, List, [], ◌∷◌, None, Some, codes}
+-- One exchange of a sync, and each piece of a call, by what it leaves: a device with which the call goes on, or the end of the call.
+use Rattle.std.specs.Prelude.{◌≡◌, ◌⊎◌, ◌↔◌, ◌≤◌, ◌++◌, ℕ, Bool, IsTrue, List, [], ◌∷◌, None}
 use Rattle.rand_chacha.specs.ChaCha.{ChaCha}
 use Rattle.sn_conflict.specs.declared.error.CheckError.{CheckError}
 use Rattle.sn_conflict.specs.declared.error.CheckError.TheVariants as wrong
@@ -10,6 +10,8 @@ use Rattle.sn_journal.specs.declared.owner.Owner.TheVariants.{Device as DeviceOw
 use Rattle.sn_net.specs.Exchanges.{Exchange}
 use Rattle.sn_rows.specs.Table.{Rows, rows_after}
 use Rattle.sn_rows.specs.declared.change.Change.{Change}
+use Rattle.sn_rows.specs.declared.key.Key.TheVariants as key
+use Rattle.sn_rows.specs.declared.key.Slot.TheVariants.{Asked}
 use Rattle.sn_sync.specs.declared.answer.Answer.{Answer}
 use Rattle.sn_sync.specs.declared.item.Item.{Item}
 use Rattle.sn_sync.specs.declared.request.Request.{Request}
@@ -19,7 +21,7 @@ use Rattle.sn_table.specs.Kept.{Kept, with_batch}
 use Rattle.sn_client.specs.Asked.{AsksOnce}
 use Rattle.sn_client.specs.Asking.{Reply, said}
 use Rattle.sn_client.specs.Calls.{Ends, IfBroken, IfStands, IsOpen, MayHave, called_disk, device_disk, device_rows, kept_done}
-use Rattle.sn_client.specs.Runs.{Act, AreExchanges, EndsBehind, EndsUnapplied, Exchanges, Given, Halt, IsBatch, IsCheckPlace, IsDue, IsLeft, IsRound, Round, Standing, Wants, acts_of, asked, nothing, refused}
+use Rattle.sn_client.specs.Runs.{Act, AreExchanges, EndsBehind, EndsUnapplied, Given, Halt, IsBatch, IsCheckPlace, IsDue, IsLeft, IsRound, Point, Round, Standing, Turn, Wants, acts_of, asked, goes_on, is_over, most_exchanges, nothing}
 use Rattle.sn_client.specs.Sending.{AreOfRows}
 use Rattle.sn_client.specs.States.{Bytes, IsSound}
 use Rattle.sn_client.specs.Steps.{Step, applies}
@@ -30,13 +32,11 @@ use Rattle.sn_client.specs.declared.error.ClientError.{ClientError}
 use Rattle.sn_client.specs.declared.error.ClientError.TheVariants as refusal
 use Rattle.sn_client.specs.declared.syncing.Exchanged.{Exchanged}
 use Rattle.sn_client.specs.declared.syncing.Exchanged.TheVariants as exchanged
+use Rattle.sn_client.specs.declared.went.Went.{Went}
+use Rattle.sn_client.specs.declared.went.Went.TheVariants as went
 
 abbrev pub gives_nothing : {T : Type 0} → T → Given
 gives_nothing given = nothing
-
--- while a change of password runs
-abbrev pub bad_auth : ClientError
-bad_auth = refusal.Refused 401 (codes "bad-auth")
 
 -- the refusal for a check that fails; memory may be wanting for it
 abbrev pub IsCheckRefusal : CheckError → ClientError → Type 0
@@ -165,14 +165,60 @@ module _ {S D T : Type 0} (is_open : S → Kept → Type 0) (may_have : D → Ke
   IsExchanged kept at host asks left (exchanged.Applied device more) = AppliesOne is_open kept at host asks left device more
   IsExchanged kept at host asks left (exchanged.Ended result) = EndsOne kept at host asks left result
 
-  -- ---- all of them
+-- ---- a piece of a call
 
-  pub record ExchangesOver (kept : Kept) (words : ChaCha) (host : Bytes) (asks : List Exchange → Type 0) (left : ChaCha) (result : Called S D T)
-      : Type 0 where
+-- what became of it as a call: one that goes on is taken as one that is refused
+abbrev pub called_past : {S D T : Type 0} → Went S D T → Called S D T
+called_past (went.On device made) = called.Refused device refusal.RoundsUsed
+called_past (went.Over result) = result
+
+-- as a call of which nothing is left
+abbrev pub IsAnsweredPast : {S D T : Type 0} → Went S D T → Called S D T → Type 0
+IsAnsweredPast {T = T} (went.On device made) result = (given : T) × (result ≡ called.Done device given)
+IsAnsweredPast (went.Over ended) result = result ≡ ended
+
+-- the device, where the call goes on
+abbrev pub IfOn : {S D T : Type 0} → Went S D T → (S → Type 0) → Type 0
+IfOn (went.On device made) P = P device
+IfOn (went.Over result) P = Unit {0}
+
+-- the exchanges that were made, where it goes on, are no more than a call makes
+abbrev pub MadeAtMost : {S D T : Type 0} → Went S D T → Type 0
+MadeAtMost (went.On device made) = made ≤ most_exchanges
+MadeAtMost (went.Over result) = Unit {0}
+
+-- nothing is asked
+abbrev pub none_asked : List Exchange → Type 0
+none_asked exchanges = exchanges ≡ []
+
+-- no set is asked for
+abbrev pub HasNoneAsked : Rows → Type 0
+HasNoneAsked rows = rows (key.Set Asked) ≡ None
+
+module _ {S : Type 0} (is_open : S → Kept → Type 0) (piece : Point → List Act → Turn → Type 0) (p : Point) (kept : Kept) (host : Bytes)
+    (asks : List Exchange → Type 0) (left : ChaCha) where
+  -- from the point the call goes on, with so many exchanges made, and the device has what the acts leave
+  pub record GoesThere (device : S) (made : ℕ) : Type 0 where
+    pub acts : List Act
+    pub goes : piece p acts (goes_on (record { made = made; rows = (kept_done kept acts).rows; words = left }))
+    pub exchanges : List Exchange
+    pub are : AreExchanges host acts exchanges
+    pub asked_so : asks exchanges
+    pub stands : is_open device (kept_done kept acts)
+
+module _ {S D T : Type 0} (is_open : S → Kept → Type 0) (may_have : D → Kept → List Change → Type 0) (piece : Point → List Act → Turn → Type 0) (p : Point)
+    (kept : Kept) (host : Bytes) (asks : List Exchange → Type 0) (left : ChaCha) where
+  -- the call ends there
+  pub record EndsThere (result : Called S D T) : Type 0 where
     pub acts : List Act
     pub halt : Halt
-    pub so : Exchanges kept.rows words acts halt
+    pub so : piece p acts (is_over halt)
     pub exchanges : List Exchange
     pub are : AreExchanges host acts exchanges
     pub asked_so : asks exchanges
     pub ends : Ends is_open may_have gives_nothing kept acts halt left result
+
+  -- either, with the exchanges that the link tells
+  abbrev pub WentBy : Went S D T → Type 0
+  WentBy (went.On device made) = GoesThere is_open piece p kept host asks left device made
+  WentBy (went.Over result) = EndsThere result

@@ -1,5 +1,5 @@
 -- What an answer has made of a device's rows so far, as it is kept until it is committed, and why it can't go on.
-use Rattle.std.specs.Prelude.{◌≡◌, ◌≢◌, ◌⊎◌, ℕ, Bool, true, false, Option, Some, None}
+use Rattle.std.specs.Prelude.{◌≡◌, ◌≢◌, ◌⊎◌, ℕ, Bool, true, false, List, [], ◌∷◌, Option, Some, None}
 use Rattle.rand_chacha.specs.ChaCha.{ChaCha}
 use Rattle.sn_conflict.specs.Checks.{HasItsStrings}
 use Rattle.sn_conflict.specs.declared.meeting.Meeting.{Meeting}
@@ -95,6 +95,11 @@ HasVersion (conflict.Content unsaved) = Unit {0}
 pub record FitsTokens (token : Bytes) (cursor : Option Bytes) : Type 0 where
   pub token_fits : HasLength 0 33554432 token
   pub cursor_fits : HasLength 0 33554432 (text_of_token cursor)
+
+-- one change, if there is one
+abbrev pub option_list : Option Change → List Change
+option_list None = []
+option_list (Some change) = change ∷ []
 
 -- what a row's draft leaves to the row where that takes the version it meets
 abbrev pub left_by : LocalItem → Meeting → Option RowBody

@@ -9,6 +9,7 @@ use Rattle.sn_conflict.specs.declared.meeting.Meeting.{Meeting}
 use Rattle.sn_conflict.specs.declared.meeting.Meeting.TheVariants as meeting
 use Rattle.sn_items.specs.declared.sealed.Sealed.{Sealed}
 use Rattle.sn_notes.specs.Copies.{copy_of}
+use Rattle.sn_rekey.specs.Rewraps.{Rewraps}
 use Rattle.sn_rows.specs.Table.{Removes, Rows, rows_after}
 use Rattle.sn_rows.specs.declared.body.RowBody.{RowBody}
 use Rattle.sn_rows.specs.declared.body.RowBody.TheVariants as row
@@ -24,7 +25,7 @@ use Rattle.sn_sync.specs.declared.answer.Conflict.TheVariants as conflict
 use Rattle.sn_sync.specs.declared.item.Body.{Body}
 use Rattle.sn_sync.specs.declared.item.Body.TheVariants as body
 use Rattle.sn_sync.specs.declared.item.Item.{Item}
-use Rattle.sn_client.specs.Draws.{DrawsFresh, DrawsNoFresh, Rewraps}
+use Rattle.sn_client.specs.Draws.{DrawsFresh, DrawsNoFresh}
 use Rattle.sn_client.specs.Sending.{PutsColumns}
 use Rattle.sn_client.specs.States.{Bytes, Columns, HasItem, IsFree, columns}
 use Rattle.sn_client.specs.declared.error.ClientError.{ClientError}
@@ -56,11 +57,11 @@ last_number = 2 ^ 64 - 1
 
 -- the version's strings as they are kept, and whether they are to be sent again: one that opens under the older set alone is sealed again under the
 -- present one; each other one is kept as it is
-abbrev pub KeepsStrings : Sets → ChaCha → Bytes → Sealed → RowStrings → Columns → ChaCha → Type 0
-KeepsStrings sets words uuid given strings c left =
-    (((text : Bytes) → ¬ (OpensOlder sets uuid given text)) × (sealed_of strings ≡ given) × (c.stale ≡ false) × (left ≡ words))
+abbrev pub IsKeptAs : Sets → ChaCha → Bytes → Sealed → RowStrings → Bool → ChaCha → Type 0
+IsKeptAs sets words uuid given strings stale left =
+    (((text : Bytes) → ¬ (OpensOlder sets uuid given text)) × (sealed_of strings ≡ given) × (stale ≡ false) × (left ≡ words))
     ⊎ ((text : Bytes) × (opens : OpensOlder sets uuid given text) × Rewraps words uuid text opens.set sets.present given (sealed_of strings) left
-    × (c.stale ≡ true))
+    × (stale ≡ true))
 
 -- the columns of a row that stands on an undeleted version, with this draft
 pub record StandsOn (sets : Sets) (words : ChaCha) (i : Item) (content enc : Bytes) (latest posted : Option RowBody) (c : Columns) (left : ChaCha)
@@ -71,7 +72,7 @@ pub record StandsOn (sets : Sets) (words : ChaCha) (i : Item) (content enc : Byt
   pub stamped : NamesStamp i stamp
   pub base_is : c.base ≡ Some stamp
   pub strings : RowStrings
-  pub kept : KeepsStrings sets words i.uuid (record { content = content; enc = enc }) strings c left
+  pub kept : IsKeptAs sets words i.uuid (record { content = content; enc = enc }) strings c.stale left
   pub body_is : c.body ≡ Some (row.Sealed strings)
   pub latest_is : c.latest ≡ latest
   pub posted_is : c.posted ≡ posted

@@ -25,6 +25,7 @@ use crate::device::Device;
 use crate::error::ClientError;
 use crate::state::owner;
 use sn_disk::Disk;
+use sn_items::Words;
 use sn_net::Link;
 use sn_rows::{Boxed, Change, Key, OwnerRow, Row, SetRow, Slot, Value};
 use sn_string::{KeySet, Params, Text, Twin};
@@ -162,7 +163,7 @@ fn renewed_row<D: Disk, L: Link>(
     }
 }
 
-// An account's row with another session token.
+// The change of it to another session token.
 fn renewed(alloc: Global, owner: &OwnerRow, token: Text) -> Result<Vec<Change>, AllocError>
     requires { IsSessionToken token }
     ensures renews { IfOk result (λ changes. (rows : Rows) → HasOwner rows owner.now → Renews rows token changes.items) }
@@ -175,7 +176,12 @@ fn renewed(alloc: Global, owner: &OwnerRow, token: Text) -> Result<Vec<Change>, 
     Ok(changes)
 }
 
-fn renewed_owner(alloc: Global, owner: &OwnerRow, token: Text) -> Result<OwnerRow, AllocError>
+/// An account's row with another session token.
+pub(crate) fn renewed_owner(
+    alloc: Global,
+    owner: &OwnerRow,
+    token: Text,
+) -> Result<OwnerRow, AllocError>
     requires { IsSessionToken token }
     ensures { IfOk result (λ row. owner_columns row ≡ with_token token (owner_columns owner.now)) }
 {
@@ -204,7 +210,8 @@ impl<D: Disk> Device<D> {
     ghost use Rattle.sn_client.specs.Going.{GoesOver, MayWant};
     ghost use Rattle.sn_client.specs.Runs.{AsksAccount, nothing};
     ghost use Rattle.sn_client.specs.States.{HasNoAccount, IsSound};
-    ghost use Rattle.sn_client.specs.Steps.{begins, renews};
+    ghost use Rattle.sn_client.specs.Steps.{Adopts, adopts, begins, renews};
+    ghost use Rattle.sn_sets.specs.Seals.{IsLater};
 
     /// Asks for an account, and begins with it and its set.
     pub(crate) fn begin<L: Link>(
@@ -261,5 +268,42 @@ impl<D: Disk> Device<D> {
             Ok(changes) => self.answer(changes, ()),
             Err(why) => Called::Refused(self, why),
         }
+    }
+
+    /// Asks for the account with keys of its that aren't held, and adopts their set.
+    pub(crate) fn adopt_account<L: Link>(
+        self,
+        link: &mut L,
+        words: &mut Words,
+        request: Request,
+        set: &KeySet,
+    ) -> Called<Device<D>, D, ()>
+        requires request { IsForAccount request }
+        requires sound { IsSound (device_rows self) }
+        requires owned { (owner : OwnerRow) × HasOwner (device_rows self) owner × (set.now.params.identifier ≡ owner.identifier) }
+        ensures runs { (kept : Kept) → IsOpen self kept →
+            GoesOver IsOpen (MayHave D.told D.may_leave) (λ given. nothing) (MayWant (AsksAccount kept.rows words.old request (λ uuid token. adopts set.now token)))
+            (L.asks link.old link.new) (L.aimed link.old) kept words.new result }
+        ensures any_moment { D.told → (kept : Kept) → IsOpen self kept →
+            LeavesOnly D.moment D.left_since (device_disk self) (called_disk device_disk result)
+            (StandsOrHas kept.batches (λ changes. (token : List ℕ) × Adopts kept.rows words.old set.now token changes words.new)) }
+        ensures words { IsLater words.old words.new }
+        ensures sound { IfStands result (λ device. IsSound (device_rows device)) }
+        ensures least { IfStands result (λ device. device.least_cost ≡ self.least_cost) }
+        ensures fault { IfBroken result (λ disk. Rose (D.fault_count (device_disk self)) (D.fault_count disk)) }
+        ensures grows { D.grows (device_disk self) (called_disk device_disk result) }
+        ensures later { D.fault_count (device_disk self) ≤ D.fault_count (called_disk device_disk result) }
+        ensures aimed { L.aimed link.new ≡ L.aimed link.old }
+        ensures link_fault { IfRefused result (λ why. why ≡ ClientError.LinkFault → Rose (L.fault_count link.old) (L.fault_count link.new)) }
+        ensures link_later { L.fault_count link.old ≤ L.fault_count link.new }
+    {
+        let account = match ask_account(self.alloc, link, request) {
+            Ok(account) => account,
+            Err(why) => return Called::Refused(self, why),
+        };
+        let Ok(changes) = self.adoption(words, set, account.token) else {
+            return Called::Refused(self, ClientError::Memory);
+        };
+        self.answer(changes, ())
     }
 }

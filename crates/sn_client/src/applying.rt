@@ -1,12 +1,12 @@
 //! The commit that applies an answer to a sync.
 
-ghost use Rattle.std.specs.Prelude.{◌≡◌, ◌++◌, ◌∷◌, [], All, None, IfErr, IfOk};
+ghost use Rattle.std.specs.Prelude.{◌≡◌, ◌++◌, ◌∷◌, [], All, IfErr, IfOk, OnOk};
 ghost use Rattle.sn_client.specs.declared.taken.NotTaken.TheVariants as stop;
 ghost use Rattle.sn_rows.specs.declared.change.Change.{Change};
 ghost use Rattle.sn_client.specs.Sending.{AreOfRows};
 ghost use Rattle.sn_client.specs.States.{HasSets, owner_columns, text_of_token};
 ghost use Rattle.sn_client.specs.Steps.{Applies, PutsOwner, start, with_tokens};
-ghost use Rattle.sn_client.specs.Taken.{AreFound, FitsTokens, StopsBy};
+ghost use Rattle.sn_client.specs.Taken.{AreFound, FitsTokens, StopsBy, option_list};
 ghost use Rattle.sn_client.specs.Taking.{RunsOut, told_by};
 ghost use Rattle.sn_conflict.specs.Checks.{Passes};
 ghost use Rattle.sn_journal.specs.declared.owner.Owner.TheVariants.{Device as DeviceOwner};
@@ -17,18 +17,19 @@ ghost use Rattle.sn_table.specs.Batches.{IsOf};
 
 use crate::changes::put_owner;
 use crate::index::Index;
+use crate::retiring::retired;
 use crate::taken::{NotTaken, Taken};
 use crate::taking::take_answer;
 use sn_items::Words;
 use sn_row_map::RowMap;
 use sn_rows::{Change, OwnerRow};
 use sn_sets::Sets;
-use sn_string::{Text, Twin};
+use sn_string::{Many, Text, Twin};
 use sn_sync::{Conflict, Item};
 use std::alloc::{AllocError, Global};
 
 /// The changes that apply an answer to what was sent, which passes the checks: what each of its versions
-/// makes of the items, and then the tokens and the next local number. No older set is held.
+/// makes of the items, then the tokens and the next local number, and then the older set, where that may go.
 pub(crate) fn applied(
     alloc: Global,
     rows: &RowMap,
@@ -45,7 +46,6 @@ pub(crate) fn applied(
 ) -> Result<Vec<Change>, NotTaken>
     requires found { AreFound index.now rows.now }
     requires holds { HasSets (row_in rows.now) owner.now sets.now }
-    requires alone { sets.now.older ≡ None }
     requires sent_of_rows { AreOfRows (row_in rows.now) sent.now }
     requires passes { Passes sent.now saved.now conflicts.now retrieved.now cursor.now }
     requires saved { All FitsStored saved.now }
@@ -61,25 +61,38 @@ pub(crate) fn applied(
     let taken = take_answer(
         alloc, rows, index, sets, saved, conflicts, retrieved, next, words,
     )?;
-    and_tokens(alloc, owner, taken, token, cursor)
+    let gone = retired(alloc, rows, taken.changes.as_slice(), sets, cursor)?;
+    and_tokens(alloc, owner, taken, token, cursor, gone)
 }
 
-// The taken changes, and that of the device's own row behind them.
+// The taken changes, that of the device's own row behind them, and one more, if there is one.
 fn and_tokens(
     alloc: Global,
     owner: &OwnerRow,
     taken: Taken,
     token: &Text,
     cursor: &Option<Text>,
+    gone: Option<Change>,
 ) -> Result<Vec<Change>, NotTaken>
     requires { FitsTokens token.now cursor.now }
-    ensures ok { IfOk result (λ changes. (change : Change) × PutsOwner change (with_tokens taken.next token.now cursor.now (owner_columns owner.now)) × (changes.items ≡ taken.changes ++ change ∷ [])) }
+    ensures ok { IfOk result (λ changes. (change : Change) × PutsOwner change (with_tokens taken.next token.now cursor.now (owner_columns owner.now)) × (changes.items ≡ taken.changes ++ change ∷ option_list gone)) }
     ensures err { IfErr result (λ e. e ≡ stop.Memory) }
 {
     let Taken { mut changes, next } = taken;
     let counted = put_tokens(alloc, owner, next, token, cursor)?;
     changes.push(counted)?;
+    push_some(&mut changes, gone)?;
     Ok(changes.into_vec())
+}
+
+// Adds one change more, if there is one.
+fn push_some(changes: &mut Many<Change>, found: Option<Change>) -> Result<(), AllocError>
+    ensures { OnOk result (changes.new ≡ changes.old ++ option_list found) }
+{
+    match found {
+        Some(change) => changes.push(change),
+        None => Ok(()),
+    }
 }
 
 // The device's own row with the tokens of an answer and another next local number.

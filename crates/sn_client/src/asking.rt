@@ -1,10 +1,12 @@
 //! Asking a server over a link: the bytes of a request, and what those that come back come to.
 
 ghost use Rattle.std.specs.Prelude.{◌≡◌, ◌≤◌, IfErr, IfOk, IsErrOf, string_bytes};
-ghost use Rattle.sn_client.specs.Asked.{ComesTo, IsAsked, IsRefusalFor};
-ghost use Rattle.sn_client.specs.Asking.{IsReply, IsRequestBytes, Reply, body_of, session_of, target_of};
+ghost use Rattle.sn_client.specs.Asked.{HeardAs, IsAsked, IsGranted, IsHeard, IsHeardBehind, IsRefusalFor, IsUnreadBody};
+ghost use Rattle.sn_client.specs.Asking.{Fails, IsReply, IsRequestBytes, Reply, body_of, said, session_of, target_of};
+ghost use Rattle.sn_client.specs.Runs.{most_exchanges};
 ghost use Rattle.sn_io.specs.Causes.{Rose};
 ghost use Rattle.sn_net.specs.Exchanges.{answer_of};
+ghost use Rattle.sn_sync.specs.Answers.{IsAnswer};
 ghost use Rattle.sn_sync.specs.Fits.{FitsAnswer};
 ghost use Rattle.sn_sync.specs.Requests.{route_of};
 
@@ -12,6 +14,9 @@ use crate::error::{ClientError, Place};
 use sn_net::{AskError, Link};
 use sn_sync::{Answer, Request, Route, SyncError};
 use std::alloc::{AllocError, Global};
+
+/// How many exchanges a call makes at most.
+pub(crate) const MOST_EXCHANGES: u64 = 10_000;
 
 /// The most bytes of an answer: a head of 16,384 bytes and a body of 33,554,432.
 const LONGEST_ANSWER: usize = 33_570_816;
@@ -28,11 +33,62 @@ pub(crate) fn ask<L: Link>(
     ensures link_fault { IsErrOf result ClientError.LinkFault → Rose (L.fault_count link.old) (L.fault_count link.new) }
     ensures link_later { L.fault_count link.old ≤ L.fault_count link.new }
 {
+    match hear(alloc, link, request) {
+        Ok(answer) => granted(answer),
+        Err(why) => Err(why),
+    }
+}
+
+// The answer, if it is no refusal.
+fn granted(answer: Answer) -> Result<Answer, ClientError>
+    ensures ok { IfOk result (λ given. (given ≡ answer) × IsGranted answer) }
+    ensures err { IfErr result (Fails (said answer)) }
+    ensures link { IsErrOf result ClientError.LinkFault → ⊥ }
+{
+    match answer {
+        Answer::Refused { status, tag, .. } => Err(ClientError::Refused { status, tag }),
+        answer => Ok(answer),
+    }
+}
+
+/// Asks the link's host, and gives its answer, which may be a refusal.
+pub(crate) fn hear<L: Link>(
+    alloc: Global,
+    link: &mut L,
+    request: &Request,
+) -> Result<Answer, ClientError>
+    ensures heard { IsHeard (L.asks link.old link.new) (L.aimed link.old) request.now result }
+    ensures fits { IfOk result (λ given. IsGranted given → FitsAnswer (route_of request.now) 200 given) }
+    ensures aimed { L.aimed link.new ≡ L.aimed link.old }
+    ensures link_fault { IsErrOf result ClientError.LinkFault → Rose (L.fault_count link.old) (L.fault_count link.new) }
+    ensures link_later { L.fault_count link.old ≤ L.fault_count link.new }
+{
     let Ok((route, bytes)) = request_bytes(alloc, link.host(), request) else {
         return Err(ClientError::Memory);
     };
     let answered = link.ask(alloc, &bytes, LONGEST_ANSWER);
     reply(alloc, route, answered)
+}
+
+/// The same behind so many exchanges of a call.
+pub(crate) fn hear_behind<L: Link>(
+    alloc: Global,
+    link: &mut L,
+    made: u64,
+    request: &Request,
+) -> Result<Answer, ClientError>
+    requires few { made ≤ most_exchanges }
+    ensures heard { IsHeardBehind made (L.asks link.old link.new) (L.aimed link.old) request.now result }
+    ensures fits { IfOk result (λ given. IsGranted given → FitsAnswer (route_of request.now) 200 given) }
+    ensures aimed { L.aimed link.new ≡ L.aimed link.old }
+    ensures link_fault { IsErrOf result ClientError.LinkFault → Rose (L.fault_count link.old) (L.fault_count link.new) }
+    ensures link_later { L.fault_count link.old ≤ L.fault_count link.new }
+{
+    let used = made >= MOST_EXCHANGES;
+    if used {
+        return Err(ClientError::RoundsUsed);
+    }
+    hear(alloc, link, request)
 }
 
 /// The same with a request that isn't needed behind it.
@@ -108,8 +164,8 @@ fn reply(
     route: Route,
     answered: Result<Vec<u8>, AskError>,
 ) -> Result<Answer, ClientError>
-    ensures reply { (reply : Reply) × IsReply route (answer_of answered) reply × ComesTo reply result }
-    ensures fits { IfOk result (FitsAnswer route 200) }
+    ensures reply { (reply : Reply) × IsReply route (answer_of answered) reply × HeardAs reply result }
+    ensures fits { IfOk result (λ given. IsGranted given → FitsAnswer route 200 given) }
     ensures link { IsErrOf result ClientError.LinkFault → IsErrOf answered AskError.Failed }
 {
     match answered {
@@ -121,15 +177,24 @@ fn reply(
 
 // What the bytes come to that came back.
 fn read(alloc: Global, route: Route, bytes: &[u8]) -> Result<Answer, ClientError>
-    ensures reply { (reply : Reply) × IsReply route (Some bytes.now) reply × ComesTo reply result }
-    ensures fits { IfOk result (FitsAnswer route 200) }
+    ensures reply { (reply : Reply) × IsReply route (Some bytes.now) reply × HeardAs reply result }
+    ensures fits { IfOk result (λ given. IsGranted given → FitsAnswer route 200 given) }
     ensures link { IsErrOf result ClientError.LinkFault → ⊥ }
 {
     let Ok((status, body)) = sn_http::read_answer(bytes) else {
         return Err(ClientError::BadAnswer { place: Place::Head });
     };
+    read_body(alloc, route, status, body)
+}
+
+// What an answer's body comes to.
+fn read_body(alloc: Global, route: Route, status: u16, body: &[u8]) -> Result<Answer, ClientError>
+    ensures ok { IfOk result (IsAnswer route status body.now) }
+    ensures fits { IfOk result (λ given. IsGranted given → FitsAnswer route 200 given) }
+    ensures err { IfErr result (IsUnreadBody route status body.now) }
+    ensures link { IsErrOf result ClientError.LinkFault → ⊥ }
+{
     match sn_sync::read_answer(alloc, route, status, body) {
-        Ok(Answer::Refused { status, tag, .. }) => Err(ClientError::Refused { status, tag }),
         Ok(answer) => Ok(answer),
         Err(error) => Err(unread(error)),
     }

@@ -7,11 +7,13 @@ ghost use Rattle.sn_rows.specs.declared.key.Key.TheVariants as key;
 ghost use Rattle.sn_rows.specs.declared.value.Value.TheVariants as value;
 ghost use Rattle.sn_client.specs.Sending.{PutsColumns};
 ghost use Rattle.sn_client.specs.States.{columns, owner_columns};
-ghost use Rattle.sn_client.specs.Steps.{PutsOwner, drafted, with_next};
+ghost use Rattle.sn_client.specs.Steps.{PutsOwner, PutsSet, drafted, with_next};
 ghost use Rattle.sn_client.specs.Taking.{new_columns};
 
-use sn_rows::{Boxed, Change, Key, LocalItem, OwnerRow, Row, RowBody, RowStrings, Value};
-use sn_string::{Text, Twin};
+use sn_rows::{
+    Boxed, Change, Key, LocalItem, OwnerRow, Row, RowBody, RowStrings, SetRow, Slot, Value,
+};
+use sn_string::{KeySet, Text, Twin};
 use std::alloc::{AllocError, Global};
 use uuid::Uuid;
 
@@ -23,6 +25,21 @@ pub(crate) fn put_owner(alloc: Global, owner: OwnerRow) -> Result<Change, AllocE
     Ok(Change::Put(Row {
         key: Key::Owner,
         value: Value::Owner(owner),
+    }))
+}
+
+/// The change that puts a key set into a slot.
+pub(crate) fn put_set(alloc: Global, slot: Slot, set: &KeySet) -> Result<Change, AllocError>
+    ensures { IfOk result (λ change. PutsSet change slot set.now.params.identifier set.now) }
+{
+    let nonce = set.params.pw_nonce.twin(alloc)?;
+    let Some(keys) = SetRow::new(set.params.pw_cost, nonce, set.pw, set.mk, set.ak) else {
+        unreachable!();
+    };
+    let keys = Boxed::of(alloc, keys)?;
+    Ok(Change::Put(Row {
+        key: Key::Set(slot),
+        value: Value::Set(keys),
     }))
 }
 

@@ -4,6 +4,7 @@ ghost use Rattle.std.specs.Prelude.{◌≡◌};
 ghost use Rattle.sn_client.specs.Calls.{of_commit};
 ghost use Rattle.sn_client.specs.declared.error.ClientError.TheVariants.{Memory};
 
+use sn_rekey::RekeyError;
 use sn_rows::RowKind;
 use sn_string::Text;
 use sn_table::{CommitError, TableError};
@@ -71,6 +72,9 @@ pub enum ClientError {
     /// A new row is due, and the local numbers are used up.
     #[error("no local number is left")]
     NumbersUsed { next: u64 },
+    /// A change of password may not begin.
+    #[error("no change of password may begin: {error}")]
+    Rekey { error: RekeyError },
     /// The changes of a commit are longer than a batch of the journal may be.
     #[error("a batch of {size} bytes is too large")]
     TooLarge { size: u64 },

@@ -1,5 +1,5 @@
 // What holds of all devices, by the definitions alone. The functions do nothing; their contracts are the laws.
-ghost use Rattle.sn_client.specs.Laws.{DraftKept, DraftKeptByAnswer, DraftKeptBySync, DraftStays, FreshIsSound, RunsBySteps, RunsStaySound, RunsStaySoundDevice, StayStanding, StayWell, StepsStaySound, StepsStaySoundDevice, TellsSoundness};
+ghost use Rattle.sn_client.specs.Laws.{DraftAdopted, DraftKept, DraftKeptByAnswer, DraftKeptByPasswd, DraftKeptBySignIn, DraftKeptBySync, DraftStays, FreshIsSound, RunsBySteps, RunsStaySound, RunsStaySoundDevice, StayStanding, StayWell, StepsStaySound, StepsStaySoundDevice, TellsSoundness};
 
 /// No kind of rows is told just of sound rows.
 pub fn tells_soundness()
@@ -11,9 +11,16 @@ pub fn fresh_is_sound()
     ensures { FreshIsSound }
 {}
 
-/// A draft stays as it is but for the user's own call of its item, and for an answer that tells of it.
+/// A draft stays as it is but for the user's own call of its item, for an answer that tells of it, and for
+/// the adoption of a set.
 pub fn draft_stays()
     ensures { DraftStays }
+{}
+
+/// At the adoption of a set a draft stays in its row, with its content: where it opens it is sealed again
+/// under the new set.
+pub fn draft_adopted()
+    ensures { DraftAdopted }
 {}
 
 /// Whatever a server answers, no draft is lost but a deletion: where one version of an answer ends a
@@ -66,7 +73,17 @@ pub fn runs_stay_sound_device()
 {}
 
 /// Whatever a server answers, no draft but a deletion is lost in a sync, wherever it ends and whichever of its
-/// first commits a crash leaves.
+/// first commits a crash leaves, also where a key set is adopted in it.
 pub fn draft_kept_by_sync()
     ensures { DraftKeptBySync }
+{}
+
+/// Nor is any lost in a change of password.
+pub fn draft_kept_by_passwd()
+    ensures { DraftKeptByPasswd }
+{}
+
+/// Nor in a sign-in.
+pub fn draft_kept_by_sign_in()
+    ensures { DraftKeptBySignIn }
 {}

@@ -102,6 +102,22 @@ pub(crate) fn is_bad_cost(least: u32, cost: u32) -> bool
     cost == 0 || cost < least || cost > MOST_COST
 }
 
+/// The set of a password, under the identifier, the cost and this nonce.
+pub(crate) fn new_set(
+    alloc: Global,
+    nonce: &[u8; 32],
+    identifier: &str,
+    password: &str,
+    cost: u32,
+) -> Result<KeySet, AllocError>
+    requires identifier { IsIdentifier identifier.now }
+    requires cost { 1 ≤ cost }
+    ensures { IfOk result (IsSetWith nonce.now identifier.now password.now cost) }
+{
+    let params = new_params(alloc, nonce, identifier, cost)?;
+    derive(alloc, password, &params)
+}
+
 // The set of a password under these parameters, and the request that registers it.
 fn registration(
     alloc: Global,
@@ -115,8 +131,8 @@ fn registration(
     ensures set { IfOk result (λ made. IsSetWith nonce.now identifier.now password.now cost made.0) }
     ensures request { IfOk result (λ made. made.1 ≡ request.Register made.0.params made.0.pw) }
 {
-    let params = new_params(alloc, nonce, identifier, cost)?;
-    let set = derive(alloc, password, &params)?;
+    let set = new_set(alloc, nonce, identifier, password, cost)?;
+    let params = set.params.twin(alloc)?;
     let pw = set.pw;
     Ok((set, Request::Register { params, pw }))
 }

@@ -1,10 +1,10 @@
 //! Signing in: the parameters of an account are asked for, and a password's keys under them tell what the store takes.
 
-ghost use Rattle.std.specs.Prelude.{◌≡◌, ◌≢◌, ◌⊎◌, ◌↔◌, ◌≤◌, ℕ, List, Err, IfErr, IfNone, IfOk, IfSome, IsErrOf, IsTrue, OnOk, true};
+ghost use Rattle.std.specs.Prelude.{◌≡◌, ◌≢◌, ◌⊎◌, ◌↔◌, ◌≤◌, ℕ, List, Err, IfErr, IfNone, IfOk, IfSome, IsErrOf, IsTrue, OnOk};
 ghost use Rattle.sn_client.specs.Asked.{AsksOnce, IsAsked};
 ghost use Rattle.sn_client.specs.Asking.{said};
 ghost use Rattle.sn_client.specs.Runs.{IsBadCost, IsOrMayBe, IsOtherOlder};
-ghost use Rattle.sn_client.specs.Signing.{HasKeys, RefusesAgain, RefusesKeys, RefusesParams, RefusesWith, RenewsWith};
+ghost use Rattle.sn_client.specs.Signing.{HasKeys, JoinsAgain, JoinsBy, RefusesAgain, RefusesKeys, RefusesParams, RefusesWith, bad_auth};
 ghost use Rattle.sn_client.specs.States.{AreSoundSets, HasOwner};
 ghost use Rattle.sn_client.specs.declared.error.ClientError.TheVariants as refusal;
 ghost use Rattle.sn_io.specs.Causes.{Rose};
@@ -29,8 +29,18 @@ use sn_sync::{Answer, Request};
 use sn_table::Table;
 use std::alloc::{AllocError, Global};
 
+/// What a device does with the keys of a password under parameters of its account.
+#[derive(Drop)]
+pub(crate) enum Joining {
+    /// It has no account, and begins with it.
+    Begins,
+    /// The keys are those of the present set: the session token is renewed.
+    Renews,
+    /// The keys are of no set that is held: theirs is adopted.
+    Adopts,
+}
+
 impl<D: Disk> Device<D> {
-    ghost use Rattle.rand_chacha.specs.ChaCha.{ChaCha};
     ghost use Rattle.sn_disk.specs.Disk.{LeavesOnly};
     ghost use Rattle.sn_table.specs.Kept.{Kept};
     ghost use Rattle.sn_client.specs.Calls.{CallsOver, IfBroken, IfRefused, IfStands, IsOpen, MayHave, StandsOrHas, called_disk, device_disk, device_rows};
@@ -38,7 +48,8 @@ impl<D: Disk> Device<D> {
     ghost use Rattle.sn_client.specs.Runs.{SignsInWith, nothing, sign_in};
     ghost use Rattle.sn_client.specs.Signing.{MadeBySignIn};
     ghost use Rattle.sn_client.specs.States.{IsSound};
-    ghost use Rattle.sn_client.specs.Steps.{Begins, Renews};
+    ghost use Rattle.sn_sets.specs.Seals.{IsLater};
+    ghost use Rattle.sn_client.specs.Steps.{Adopts, Begins, Renews};
 
     /// Signs in to an account at the link's host. Its identifier has 1 to 254 bytes. The time goes with the account's cost.
     pub fn sign_in<L: Link>(
@@ -54,8 +65,8 @@ impl<D: Disk> Device<D> {
             (L.asks link.old link.new) (L.aimed link.old) kept words.old words.new result }
         ensures any_moment { D.told → (kept : Kept) → IsOpen self kept →
             LeavesOnly D.moment D.left_since (device_disk self) (called_disk device_disk result)
-            (StandsOrHas kept.batches (MadeBySignIn kept.rows identifier.now password.now)) }
-        ensures words { words.new ≡ words.old }
+            (StandsOrHas kept.batches (λ changes. MadeBySignIn kept.rows words.old identifier.now password.now changes words.new)) }
+        ensures words { IsLater words.old words.new }
         ensures sound { IfStands result (λ device. IsSound (device_rows device)) }
         ensures least { IfStands result (λ device. device.least_cost ≡ self.least_cost) }
         ensures fault { IfBroken result (λ disk. Rose (D.fault_count (device_disk self)) (D.fault_count disk)) }
@@ -69,20 +80,28 @@ impl<D: Disk> Device<D> {
             return Called::Refused(self, why);
         }
         match keys(self.alloc, link, self.least_cost, identifier, password) {
-            Ok(set) => self.sign_in_with(link, set),
+            Ok(set) => self.sign_in_with(link, words, set),
             Err(why) => Called::Refused(self, why),
         }
     }
 
     // Signs in with the keys of a password.
-    fn sign_in_with<L: Link>(self, link: &mut L, set: KeySet) -> Called<Device<D>, D, ()>
+    fn sign_in_with<L: Link>(
+        self,
+        link: &mut L,
+        words: &mut Words,
+        set: KeySet,
+    ) -> Called<Device<D>, D, ()>
         requires sound { IsSound (device_rows self) }
-        ensures runs { (kept : Kept) (words : ChaCha) → IsOpen self kept →
-            GoesOver IsOpen (MayHave D.told D.may_leave) (λ given. nothing) (MayWant (SignsInWith kept.rows words set.params.identifier set))
-            (L.asks link.old link.new) (L.aimed link.old) kept words result }
+        requires named { IsOrMayBe (device_rows self) set.params.identifier }
+        ensures runs { (kept : Kept) → IsOpen self kept →
+            GoesOver IsOpen (MayHave D.told D.may_leave) (λ given. nothing) (MayWant (SignsInWith kept.rows words.old set.params.identifier set))
+            (L.asks link.old link.new) (L.aimed link.old) kept words.new result }
         ensures any_moment { D.told → (kept : Kept) → IsOpen self kept →
             LeavesOnly D.moment D.left_since (device_disk self) (called_disk device_disk result)
-            (StandsOrHas kept.batches (λ changes. (uuid : List ℕ) × (token : List ℕ) × (Begins set uuid token changes ⊎ Renews kept.rows token changes))) }
+            (StandsOrHas kept.batches (λ changes. (uuid : List ℕ) × (token : List ℕ)
+            × (Begins set uuid token changes ⊎ (Renews kept.rows token changes ⊎ Adopts kept.rows words.old set token changes words.new)))) }
+        ensures words { IsLater words.old words.new }
         ensures sound { IfStands result (λ device. IsSound (device_rows device)) }
         ensures least { IfStands result (λ device. device.least_cost ≡ self.least_cost) }
         ensures fault { IfBroken result (λ disk. Rose (D.fault_count (device_disk self)) (D.fault_count disk)) }
@@ -92,45 +111,48 @@ impl<D: Disk> Device<D> {
         ensures link_fault { IfRefused result (λ why. why ≡ ClientError.LinkFault → Rose (L.fault_count link.old) (L.fault_count link.new)) }
         ensures link_later { L.fault_count link.old ≤ L.fault_count link.new }
     {
-        let renewing = match renews_with(self.alloc, &self.table, &set) {
-            Ok(renewing) => renewing,
+        let joining = match joins_by(self.alloc, &self.table, &set) {
+            Ok(joining) => joining,
             Err(why) => return Called::Refused(self, why),
         };
         let Ok(request) = sign_in_request(self.alloc, &set) else {
             return Called::Refused(self, ClientError::Memory);
         };
-        if renewing {
-            self.renew(link, request)
-        } else {
-            self.begin(link, request, set)
+        match joining {
+            Joining::Begins => self.begin(link, request, set),
+            Joining::Renews => self.renew(link, request),
+            Joining::Adopts => self.adopt_account(link, words, request, &set),
         }
     }
 }
 
-// Whether a device has the account of these keys, whose session token is to be renewed, or none.
-fn renews_with<D: Disk>(alloc: Global, table: &Table<D>, set: &KeySet) -> Result<bool, ClientError>
+// What a device does with keys.
+fn joins_by<D: Disk>(alloc: Global, table: &Table<D>, set: &KeySet) -> Result<Joining, ClientError>
     requires sound { AreSoundSets (row_in (table_rows table.now)) }
-    ensures ok { IfOk result (λ renewing. RenewsWith (row_in (table_rows table.now)) set.now renewing) }
+    ensures ok { IfOk result (JoinsBy (row_in (table_rows table.now)) set.now) }
     ensures err { IfErr result (RefusesWith (row_in (table_rows table.now)) set.now) }
 {
     let Ok(found) = sets_of(alloc, table) else {
         return Err(ClientError::Memory);
     };
     match found {
-        Some(sets) => renews_again(&sets, set),
-        None => Ok(false),
+        Some(sets) => joins_again(&sets, set),
+        None => Ok(Joining::Begins),
     }
 }
 
 // The same on a device that holds these sets.
-fn renews_again(sets: &Sets, set: &KeySet) -> Result<bool, ClientError>
-    ensures ok { IfOk result (λ renewing. (renewing ≡ true) × (set.now ≡ sets.now.present)) }
+fn joins_again(sets: &Sets, set: &KeySet) -> Result<Joining, ClientError>
+    ensures ok { IfOk result (JoinsAgain sets.now set.now) }
     ensures err { IfErr result (RefusesAgain sets.now set.now) }
 {
-    match refusal_again(sets, set) {
-        Some(why) => Err(why),
-        None => Ok(true),
+    if set.same(&sets.present) {
+        return Ok(Joining::Renews);
     }
+    if set.params.same(&sets.present.params) || is_other_older(sets, set) {
+        return Err(ClientError::WrongPassword);
+    }
+    Ok(Joining::Adopts)
 }
 
 // The refusal of a store with another account.
@@ -208,21 +230,14 @@ fn check_params(least: u32, identifier: &str, params: &Params) -> Result<(), Cli
     Ok(())
 }
 
-// Why keys are refused on a device that holds these sets.
-fn refusal_again(sets: &Sets, set: &KeySet) -> Option<ClientError>
-    ensures some { IfSome result (RefusesAgain sets.now set.now) }
-    ensures none { IfNone result (set.now ≡ sets.now.present) }
+/// The refusal of a set that the account doesn't have.
+pub(crate) fn bad_auth() -> ClientError
+    ensures { result ≡ bad_auth }
 {
-    if set.same(&sets.present) {
-        return None;
-    }
-    if set.params.same(&sets.present.params) || is_other_older(sets, set) {
-        return Some(ClientError::WrongPassword);
-    }
-    Some(ClientError::Refused {
+    ClientError::Refused {
         status: 401,
         tag: Text::fixed("bad-auth"),
-    })
+    }
 }
 
 // Whether keys have the older set's parameters and aren't its own.
@@ -235,7 +250,8 @@ fn is_other_older(sets: &Sets, set: &KeySet) -> bool
     }
 }
 
-fn sign_in_request(alloc: Global, set: &KeySet) -> Result<Request, AllocError>
+/// The request that signs in with a set.
+pub(crate) fn sign_in_request(alloc: Global, set: &KeySet) -> Result<Request, AllocError>
     ensures { IfOk result (λ r. r ≡ request.SignIn set.now.params.identifier set.now.pw) }
 {
     let identifier = set.params.identifier.twin(alloc)?;

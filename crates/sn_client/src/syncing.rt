@@ -1,19 +1,20 @@
 //! Syncing with a server: exchanges, one after another, until nothing is left.
 
-ghost use Rattle.std.specs.Prelude.{◌≡◌, ◌↔◌, IfNone, IfSome, IsTrue, None};
+ghost use Rattle.std.specs.Prelude.{◌≡◌, ◌↔◌, IfNone, IfSome, IsTrue};
 ghost use Rattle.sn_client.specs.Runs.{HasCursor, HasLongToken};
 ghost use Rattle.sn_client.specs.Taken.{FitsTokens};
 ghost use Rattle.sn_client.specs.declared.error.ClientError.TheVariants as refusal;
 ghost use Rattle.sn_client.specs.declared.error.Place.TheVariants as place;
-ghost use Rattle.sn_client.specs.Syncing.{IsCheckRefusal, bad_auth};
+ghost use Rattle.sn_client.specs.Syncing.{IsCheckRefusal};
 
 use crate::applying::applied;
-use crate::asking::ask;
+use crate::asking::{MOST_EXCHANGES, ask};
 use crate::called::Called;
 use crate::device::Device;
 use crate::error::{ClientError, Place, of_commit};
 use crate::sending::{Sending, is_left, next_sending};
 use crate::state::{owner, sets_of};
+use crate::went::Went;
 use sn_conflict::{CheckError, check};
 use sn_disk::Disk;
 use sn_items::Words;
@@ -24,9 +25,6 @@ use sn_string::Text;
 use sn_sync::{Answer, Request};
 use sn_table::Committed;
 use std::alloc::AllocError;
-
-/// How many exchanges a call makes at most.
-const MOST_EXCHANGES: u64 = 10_000;
 
 /// The most bytes of a sync or cursor token in a device's row.
 const LONGEST_TOKEN: usize = 33_554_432;
@@ -55,10 +53,10 @@ impl<D: Disk> Device<D> {
     ghost use Rattle.sn_table.specs.Kept.{Kept};
     ghost use Rattle.std.specs.Prelude.{Option, IfErr, IfOk};
     ghost use Rattle.sn_client.specs.Calls.{CallsOver, HasFront, IfBroken, IfRefused, IfStands, IsOpen, MayHave, called_disk, device_disk, device_rows, tried};
-    ghost use Rattle.sn_client.specs.Runs.{IsDue, IsUnapplied, Sends, items_of, sync};
+    ghost use Rattle.sn_client.specs.Runs.{Exchanges, IsDue, IsUnapplied, Sends, SyncsUnder, begun, items_of, most_exchanges, sync};
     ghost use Rattle.sn_client.specs.States.{HasOwner, HasSets, IsSound};
     ghost use Rattle.sn_client.specs.Steps.{AppliesTo};
-    ghost use Rattle.sn_client.specs.Syncing.{ExchangesOver, IsApplied, IsAskedAndApplied, IsExchanged, IsOpenSince, IsSyncFrom, KeepsDevice, MayHaveSince, called_of, gives_nothing};
+    ghost use Rattle.sn_client.specs.Syncing.{HasNoneAsked, IfOn, MadeAtMost, IsApplied, IsAskedAndApplied, IsExchanged, IsOpenSince, IsSyncFrom, KeepsDevice, MayHaveSince, WentBy, called_of, called_past, gives_nothing};
     ghost use Rattle.sn_client.specs.declared.error.ClientError.TheVariants as refusal;
 
     /// Brings the device and its server together: sends what waits, and takes what the server has, in as many
@@ -82,80 +80,91 @@ impl<D: Disk> Device<D> {
         ensures link_later { L.fault_count link.old ≤ L.fault_count link.new }
     {
         match sets_of(self.alloc, &self.table) {
-            Ok(Some(sets)) => self.sync_under(link, words, &sets),
+            Ok(Some(sets)) => match self.bring_together(link, words, &sets) {
+                Went::On(device, _) => Called::Done(device, ()),
+                Went::Over(called) => called,
+            },
             Ok(None) => Called::Refused(self, ClientError::NoAccount),
             Err(_) => Called::Refused(self, ClientError::Memory),
         }
     }
 
-    // The same with an account's sets. While a change of password runs it is refused.
-    fn sync_under<L: Link>(
+    /// Brings the device and its server together, as the first thing that a call does: a set that is asked for is
+    /// resolved, and then exchanges are made until nothing is left. The sets are the device's.
+    pub(crate) fn bring_together<L: Link>(
         self,
         link: &mut L,
         words: &mut Words,
         sets: &Sets,
-    ) -> Called<Device<D>, D, ()>
+    ) -> Went<Device<D>, D, ()>
         requires sound { IsSound (device_rows self) }
         requires holds { (owner : OwnerRow) × HasSets (device_rows self) owner sets.now }
-        ensures runs { (kept : Kept) → IsOpen self kept → CallsOver (IsOpenSince self kept) (MayHaveSince self kept) gives_nothing self.least_cost sync (L.asks link.old link.new) (L.aimed link.old) kept words.old words.new result }
-        ensures device { KeepsDevice self result }
+        ensures went { (kept : Kept) (owner : OwnerRow) → IsOpen self kept → HasSets kept.rows owner sets.now →
+            WentBy (IsOpenSince self kept) (MayHaveSince self kept) (SyncsUnder owner sets.now) (begun kept.rows words.old) kept (L.aimed link.old) (L.asks link.old link.new) words.new result }
+        ensures device { KeepsDevice self (called_past result) }
+        ensures owned { IfOn result (λ device. (owner : OwnerRow) × HasOwner (device_rows device) owner) }
+        ensures settled { IfOn result (λ device. HasNoneAsked (device_rows device)) }
+        ensures few { MadeAtMost result }
         ensures words { IsLater words.old words.new }
         ensures aimed { L.aimed link.new ≡ L.aimed link.old }
-        ensures link_fault { IfRefused result (λ why. why ≡ refusal.LinkFault → Rose (L.fault_count link.old) (L.fault_count link.new)) }
+        ensures link_fault { IfRefused (called_past result) (λ why. why ≡ refusal.LinkFault → Rose (L.fault_count link.old) (L.fault_count link.new)) }
         ensures link_later { L.fault_count link.old ≤ L.fault_count link.new }
     {
-        if sets.older.is_some() || sets.asked.is_some() {
-            return Called::Refused(self, bad_auth());
+        let Some(set) = &sets.asked else {
+            return self.exchanges(link, words, 0);
+        };
+        match self.resolve(link, words, &sets.present, set, 0) {
+            Went::On(device, made) => device.exchanges(link, words, made),
+            Went::Over(called) => Went::Over(called),
         }
-        self.exchanges(link, words, sets)
     }
 
-    // Exchanges until nothing is left, or as many as may be.
-    fn exchanges<L: Link>(
+    /// Exchanges until nothing is left, or as many as may be, behind those that the call made before.
+    pub(crate) fn exchanges<L: Link>(
         self,
         link: &mut L,
         words: &mut Words,
-        sets: &Sets,
-    ) -> Called<Device<D>, D, ()>
+        made: u64,
+    ) -> Went<Device<D>, D, ()>
         requires sound { IsSound (device_rows self) }
-        requires holds { (owner : OwnerRow) × HasSets (device_rows self) owner sets.now }
-        requires alone { sets.now.older ≡ None }
-        ensures runs { (kept : Kept) → IsOpen self kept → ExchangesOver (IsOpenSince self kept) (MayHaveSince self kept) kept words.old (L.aimed link.old) (L.asks link.old link.new) words.new result }
-        ensures device { KeepsDevice self result }
+        requires owned { (owner : OwnerRow) × HasOwner (device_rows self) owner }
+        requires settled { HasNoneAsked (device_rows self) }
+        requires few { made ≤ most_exchanges }
+        ensures went { (kept : Kept) → IsOpen self kept →
+            WentBy (IsOpenSince self kept) (MayHaveSince self kept) Exchanges (record { made = made; rows = kept.rows; words = words.old }) kept (L.aimed link.old) (L.asks link.old link.new) words.new result }
+        ensures device { KeepsDevice self (called_past result) }
+        ensures owned { IfOn result (λ device. (owner : OwnerRow) × HasOwner (device_rows device) owner) }
+        ensures settled { IfOn result (λ device. HasNoneAsked (device_rows device)) }
+        ensures few { MadeAtMost result }
         ensures words { IsLater words.old words.new }
         ensures aimed { L.aimed link.new ≡ L.aimed link.old }
-        ensures link_fault { IfRefused result (λ why. why ≡ refusal.LinkFault → Rose (L.fault_count link.old) (L.fault_count link.new)) }
+        ensures link_fault { IfRefused (called_past result) (λ why. why ≡ refusal.LinkFault → Rose (L.fault_count link.old) (L.fault_count link.new)) }
         ensures link_later { L.fault_count link.old ≤ L.fault_count link.new }
     {
         let mut device = self;
-        let mut count = 0;
+        let mut count = made;
         'exchanges: while count < MOST_EXCHANGES {
-            match device.exchange(link, words, sets) {
+            match device.exchange(link, words) {
                 Exchanged::Applied(next, true) => {
                     device = next;
                     count += 1;
                 }
-                Exchanged::Applied(next, false) => return Called::Done(next, ()),
-                Exchanged::Ended(called) => return called,
+                Exchanged::Applied(next, false) => return Went::On(next, count + 1),
+                Exchanged::Ended(called) => return Went::Over(called),
             }
         }
-        Called::Refused(device, ClientError::RoundsUsed)
+        Went::Over(Called::Refused(device, ClientError::RoundsUsed))
     }
 
     // One exchange: posts the drafts that weren't sent before, asks, and applies the answer.
-    fn exchange<L: Link>(
-        self,
-        link: &mut L,
-        words: &mut Words,
-        sets: &Sets,
-    ) -> Exchanged<Device<D>, D, ()>
+    fn exchange<L: Link>(self, link: &mut L, words: &mut Words) -> Exchanged<Device<D>, D, ()>
         requires sound { IsSound (device_rows self) }
-        requires holds { (owner : OwnerRow) × HasSets (device_rows self) owner sets.now }
-        requires alone { sets.now.older ≡ None }
+        requires owned { (owner : OwnerRow) × HasOwner (device_rows self) owner }
         ensures exchanged { (kept : Kept) (last : Option Answer) → IsOpen self kept → IsDue kept.rows last →
             IsExchanged (IsOpenSince self kept) (MayHaveSince self kept) kept (record { rows = kept.rows; words = words.old; last = last }) (L.aimed link.old) (L.asks link.old link.new) words.new result }
         ensures device { KeepsDevice self (called_of result) }
-        ensures holds { IfStands (called_of result) (λ device. (owner : OwnerRow) × HasSets (device_rows device) owner sets.now) }
+        ensures owned { IfStands (called_of result) (λ device. (owner : OwnerRow) × HasOwner (device_rows device) owner) }
+        ensures settled { HasNoneAsked (device_rows self) → IfStands (called_of result) (λ device. HasNoneAsked (device_rows device)) }
         ensures words { IsLater words.old words.new }
         ensures aimed { L.aimed link.new ≡ L.aimed link.old }
         ensures link_fault { IfRefused (called_of result) (λ why. why ≡ refusal.LinkFault → Rose (L.fault_count link.old) (L.fault_count link.new)) }
@@ -170,10 +179,10 @@ impl<D: Disk> Device<D> {
             request,
         } = sending;
         if numbers.is_empty() {
-            return self.ask_and_apply(link, words, sets, &request);
+            return self.ask_and_apply(link, words, &request);
         }
         match self.commit(changes) {
-            Committed::Done(device) => device.ask_and_apply(link, words, sets, &request),
+            Committed::Done(device) => device.ask_and_apply(link, words, &request),
             Committed::Refused(device, error) => {
                 Exchanged::Ended(Called::Refused(device, of_commit(error)))
             }
@@ -199,23 +208,22 @@ impl<D: Disk> Device<D> {
         self,
         link: &mut L,
         words: &mut Words,
-        sets: &Sets,
         request: &Request,
     ) -> Exchanged<Device<D>, D, ()>
         requires sound { IsSound (device_rows self) }
-        requires holds { (owner : OwnerRow) × HasSets (device_rows self) owner sets.now }
-        requires alone { sets.now.older ≡ None }
+        requires owned { (owner : OwnerRow) × HasOwner (device_rows self) owner }
         requires sent { IsSyncFrom (device_rows self) request.now }
         ensures asked { (kept : Kept) → IsOpen self kept → IsAskedAndApplied (IsOpenSince self kept) (MayHaveSince self kept) kept words.old request.now (L.aimed link.old) (L.asks link.old link.new) words.new result }
         ensures device { KeepsDevice self (called_of result) }
-        ensures holds { IfStands (called_of result) (λ device. (owner : OwnerRow) × HasSets (device_rows device) owner sets.now) }
+        ensures owned { IfStands (called_of result) (λ device. (owner : OwnerRow) × HasOwner (device_rows device) owner) }
+        ensures settled { HasNoneAsked (device_rows self) → IfStands (called_of result) (λ device. HasNoneAsked (device_rows device)) }
         ensures words { IsLater words.old words.new }
         ensures aimed { L.aimed link.new ≡ L.aimed link.old }
         ensures link_fault { IfRefused (called_of result) (λ why. why ≡ refusal.LinkFault → Rose (L.fault_count link.old) (L.fault_count link.new)) }
         ensures link_later { L.fault_count link.old ≤ L.fault_count link.new }
     {
         match ask(self.alloc, link, request) {
-            Ok(answer) => self.apply(words, sets, request, &answer),
+            Ok(answer) => self.apply(words, request, &answer),
             Err(why) => Exchanged::Ended(Called::Refused(self, why)),
         }
     }
@@ -224,22 +232,21 @@ impl<D: Disk> Device<D> {
     fn apply(
         self,
         words: &mut Words,
-        sets: &Sets,
         request: &Request,
         answer: &Answer,
     ) -> Exchanged<Device<D>, D, ()>
         requires sound { IsSound (device_rows self) }
-        requires holds { (owner : OwnerRow) × HasSets (device_rows self) owner sets.now }
-        requires alone { sets.now.older ≡ None }
+        requires owned { (owner : OwnerRow) × HasOwner (device_rows self) owner }
         requires sent { IsSyncFrom (device_rows self) request.now }
         requires fits { FitsAnswer route.Sync 200 answer.now }
         ensures applied { (kept : Kept) → IsOpen self kept → IsApplied (IsOpenSince self kept) (MayHaveSince self kept) kept words.old request.now answer.now words.new result }
         ensures device { KeepsDevice self (called_of result) }
-        ensures holds { IfStands (called_of result) (λ device. (owner : OwnerRow) × HasSets (device_rows device) owner sets.now) }
+        ensures owned { IfStands (called_of result) (λ device. (owner : OwnerRow) × HasOwner (device_rows device) owner) }
+        ensures settled { HasNoneAsked (device_rows self) → IfStands (called_of result) (λ device. HasNoneAsked (device_rows device)) }
         ensures no_link { IfRefused (called_of result) (λ why. why ≢ refusal.LinkFault) }
         ensures words { IsLater words.old words.new }
     {
-        let changes = match self.changes_of(words, sets, request, answer) {
+        let changes = match self.changes_of(words, request, answer) {
             Ok(changes) => changes,
             Err(why) => return Exchanged::Ended(Called::Refused(self, why)),
         };
@@ -259,13 +266,11 @@ impl<D: Disk> Device<D> {
     fn changes_of(
         &self,
         words: &mut Words,
-        sets: &Sets,
         request: &Request,
         answer: &Answer,
     ) -> Result<Vec<Change>, ClientError>
         requires sound { IsSound (device_rows self.now) }
-        requires holds { (owner : OwnerRow) × HasSets (device_rows self.now) owner sets.now }
-        requires alone { sets.now.older ≡ None }
+        requires owned { (owner : OwnerRow) × HasOwner (device_rows self.now) owner }
         requires sent { IsSyncFrom (device_rows self.now) request.now }
         requires fits { FitsAnswer route.Sync 200 answer.now }
         ensures ok { IfOk result (λ changes. AppliesTo (device_rows self.now) words.old request.now answer.now changes.items words.new) }
@@ -302,12 +307,15 @@ impl<D: Disk> Device<D> {
         let Some(account) = owner(&self.table) else {
             unreachable!();
         };
+        let Some(sets) = sets_of(self.alloc, &self.table)? else {
+            unreachable!();
+        };
         match applied(
             self.alloc,
             self.table.rows(),
             &self.index,
             account,
-            sets,
+            &sets,
             sent,
             saved,
             conflicts,
@@ -329,16 +337,6 @@ fn has_cursor(answer: &Answer) -> bool
     match answer {
         Answer::Sync { cursor_token, .. } => cursor_token.is_some(),
         _ => false,
-    }
-}
-
-// The refusal while a change of password runs.
-fn bad_auth() -> ClientError
-    ensures { result ≡ bad_auth }
-{
-    ClientError::Refused {
-        status: 401,
-        tag: Text::fixed("bad-auth"),
     }
 }
 

@@ -4,7 +4,7 @@ ghost use Rattle.std.specs.Prelude.{◌≡◌, ◌≢◌, ℕ, [], IfNone, IfSom
 ghost use Rattle.std.specs.Bool.{MatchBool};
 ghost use Rattle.std.specs.Option.{option_copied};
 ghost use Rattle.rand_chacha.specs.ChaCha.{ChaCha};
-ghost use Rattle.sn_client.specs.States.{HasItem, IsFree, IsUsed};
+ghost use Rattle.sn_client.specs.States.{HasItem, HasLocal, IsFree, IsUsed};
 ghost use Rattle.sn_client.specs.Taking.{last_number, made, with_words};
 ghost use Rattle.sn_client.specs.Taken.{AreFound, HasNumber, IsGone, PutsNamed, after, refusal_of, so_far};
 ghost use Rattle.sn_row_map.specs.RowMaps.{row_in};
@@ -197,6 +197,21 @@ fn item_named<'a>(
         return None;
     }
     Some(item)
+}
+
+/// The item of a local number behind changes. Takes no memory.
+pub(crate) fn local_after<'a>(
+    rows: &'a RowMap,
+    changes: &'a [Change],
+    number: u64,
+) -> Option<&'a LocalItem>
+    ensures some { IfSome result (λ item. HasLocal (rows_after (row_in rows.now) changes.now) number item.now) }
+    ensures none { IfNone result ((item : LocalItem) → ¬ (HasLocal (rows_after (row_in rows.now) changes.now) number item)) }
+{
+    let Some(Value::Local(item)) = value_after(rows, changes, Key::Local(number)) else {
+        return None;
+    };
+    Some(item.get())
 }
 
 // The row of a key behind changes.

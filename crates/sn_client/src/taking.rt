@@ -1,6 +1,6 @@
 //! What an answer to a sync makes of a device's items, one version after another.
 
-ghost use Rattle.std.specs.Prelude.{◌≡◌, ◌↔◌, List, [], All, None, map, IfErr, IfOk, IsTrue, OnOk};
+ghost use Rattle.std.specs.Prelude.{◌≡◌, ◌↔◌, List, [], All, map, IfErr, IfOk, IsTrue, OnOk};
 ghost use Rattle.std.specs.List.{Contains};
 ghost use Rattle.sn_client.specs.States.{HasItem};
 ghost use Rattle.sn_client.specs.Taken.{AreFound, HasNumber, HasVersion, IsVersion, StopsBy, StopsServer, after, left_by, so_far};
@@ -30,7 +30,7 @@ use std::alloc::{AllocError, Global};
 use uuid::Uuid;
 
 /// What an answer to a sync makes of the items: the saved versions, then the conflicts, then the retrieved
-/// versions, each in order. No older set is held.
+/// versions, each in order.
 pub(crate) fn take_answer(
     alloc: Global,
     rows: &RowMap,
@@ -43,7 +43,6 @@ pub(crate) fn take_answer(
     words: &mut Words,
 ) -> Result<Taken, NotTaken>
     requires found { AreFound index.now rows.now }
-    requires alone { sets.now.older ≡ None }
     requires saved { All IsVersion saved.now }
     requires conflicts { All HasVersion conflicts.now }
     requires retrieved { All IsVersion retrieved.now }
@@ -72,7 +71,6 @@ fn take_saved(
     words: &mut Words,
 ) -> Result<(), NotTaken>
     requires found { AreFound index.now rows.now }
-    requires alone { sets.now.older ≡ None }
     requires versions { All IsVersion saved.now }
     ensures ok { OnOk result (TakesAll sets.now saved.now (so_far (row_in rows.now) taken.old words.old) (map is_saved saved.now) (so_far (row_in rows.now) taken.new words.new)) }
     ensures err { IfErr result (StopsBy (RunsOut sets.now saved.now (so_far (row_in rows.now) taken.old words.old) (map is_saved saved.now))) }
@@ -96,7 +94,6 @@ fn take_conflicts(
     words: &mut Words,
 ) -> Result<(), NotTaken>
     requires found { AreFound index.now rows.now }
-    requires alone { sets.now.older ≡ None }
     requires versions { All HasVersion conflicts.now }
     ensures ok { OnOk result (TakesAll sets.now saved.now (so_far (row_in rows.now) taken.old words.old) (map is_conflict conflicts.now) (so_far (row_in rows.now) taken.new words.new)) }
     ensures err { IfErr result (StopsBy (RunsOut sets.now saved.now (so_far (row_in rows.now) taken.old words.old) (map is_conflict conflicts.now))) }
@@ -120,7 +117,6 @@ fn take_retrieved(
     words: &mut Words,
 ) -> Result<(), NotTaken>
     requires found { AreFound index.now rows.now }
-    requires alone { sets.now.older ≡ None }
     requires versions { All IsVersion retrieved.now }
     ensures ok { OnOk result (TakesAll sets.now saved.now (so_far (row_in rows.now) taken.old words.old) (map is_retrieved retrieved.now) (so_far (row_in rows.now) taken.new words.new)) }
     ensures err { IfErr result (StopsBy (RunsOut sets.now saved.now (so_far (row_in rows.now) taken.old words.old) (map is_retrieved retrieved.now))) }
@@ -146,7 +142,6 @@ fn take_unless_saved(
     words: &mut Words,
 ) -> Result<Effect, NotTaken>
     requires found { AreFound index.now rows.now }
-    requires alone { sets.now.older ≡ None }
     requires version { IsVersion item.now }
     ensures ok { let p = so_far (row_in rows.now) taken.now words.old in IfOk result (λ effect. Takes sets.now saved.now p (is_retrieved item.now) (after p effect words.new)) }
     ensures number { IfOk result (HasNumber taken.now.next) }
@@ -182,7 +177,6 @@ fn take_conflict(
     words: &mut Words,
 ) -> Result<Effect, NotTaken>
     requires found { AreFound index.now rows.now }
-    requires alone { sets.now.older ≡ None }
     requires version { HasVersion conflict.now }
     ensures ok { let p = so_far (row_in rows.now) taken.now words.old in (saved : List Item) → IfOk result (λ effect. Takes sets.now saved p (is_conflict conflict.now) (after p effect words.new)) }
     ensures number { IfOk result (HasNumber taken.now.next) }
@@ -256,7 +250,6 @@ fn take_server(
     words: &mut Words,
 ) -> Result<Effect, NotTaken>
     requires found { AreFound index.now rows.now }
-    requires alone { sets.now.older ≡ None }
     requires version { IsVersion item.now }
     ensures ok { let p = so_far (row_in rows.now) taken.now words.old in IfOk result (λ effect. TakesServer sets.now p item.now saved (after p effect words.new)) }
     ensures number { IfOk result (HasNumber taken.now.next) }
@@ -265,19 +258,20 @@ fn take_server(
 {
     let changes = taken.changes.as_slice();
     let Some((number, local)) = item_at(rows, index, changes, item.uuid) else {
-        return make_row(alloc, taken, item);
+        return make_row(alloc, sets, taken, item, words);
     };
     let meeting = meet(alloc, local, item, saved, sets)?;
     match meeting {
         Meeting::Same => Ok(Effect::Nothing),
         Meeting::Fork => {
             let copy = copy_draft(alloc, rows, index, sets, taken, local, words)?;
-            let change = take_version(alloc, number, item, None)?;
+            let change = take_version(alloc, sets, number, item, None, words)?;
             Ok(Effect::Forked(copy, change))
         }
         _ => {
             let latest = left_by(alloc, local, meeting)?;
-            Ok(Effect::Changed(take_version(alloc, number, item, latest)?))
+            let change = take_version(alloc, sets, number, item, latest, words)?;
+            Ok(Effect::Changed(change))
         }
     }
 }

@@ -20,8 +20,9 @@ returns-clause-ok c =
     IfOk-weaker c.and_tokens.result _ _
     (λ changes h.
     applies (row_in c.args.rows.now) c.args.words.now c.args.sent.now c.args.conflicts.now c.args.cursor.now c.args.retrieved.now c.args.saved.now c.args.token.now
-    c.args.owner.now c.args.sets.now c.in_ok-taken.taken c.take_answer.new.words h.0 changes.items c.requires.sent_of_rows c.requires.passes c.requires.holds
-    c.requires.alone c.in_ok-taken.ensures.ok h.1 h.2)
+    c.args.owner.now c.args.sets.now c.in_ok-taken.taken c.take_answer.new.words c.as_slice.result.now c.in_ok-gone.gone h.0 changes.items
+    c.requires.sent_of_rows c.requires.passes c.requires.holds c.in_ok-taken.ensures.ok (c.as_slice.ensures, c.in_ok-gone.ensures.some, c.in_ok-gone.ensures.none)
+    h.1 h.2)
     c.and_tokens.ensures.ok
 
 pub returns-clause-owned : goal.returns-clause-owned
@@ -29,5 +30,6 @@ returns-clause-owned c =
     IfOk-weaker c.and_tokens.result _ _
     (λ changes h.
     applied_owned (row_in c.args.rows.now) c.args.words.now c.args.conflicts.now c.args.cursor.now c.args.retrieved.now c.args.saved.now c.args.token.now
-    c.args.owner.now c.args.sets.now c.in_ok-taken.taken c.take_answer.new.words h.0 changes.items c.in_ok-taken.ensures.ok h.1 h.2)
+    c.args.owner.now c.args.sets.now c.in_ok-taken.taken c.take_answer.new.words c.as_slice.result.now c.in_ok-gone.gone h.0 changes.items
+    c.in_ok-taken.ensures.ok (c.as_slice.ensures, c.in_ok-gone.ensures.some, c.in_ok-gone.ensures.none) h.1 h.2)
     c.and_tokens.ensures.ok

@@ -1,14 +1,20 @@
-use Rattle.std.proofs.Common.{inl, refl, subst}
-use Rattle.std.proofs.lemmas.Result.{IfErr-weaker}
+use Rattle.std.proofs.Common.{inl, inr, refl, subst}
+use Rattle.std.proofs.lemmas.Result.{IfErr-weaker, IfOk-weaker}
 use Rattle.sn_conflict.specs.Meetings.{MeetsAs}
 use Rattle.sn_conflict.specs.declared.meeting.Meeting.{Meeting}
 use Rattle.sn_conflict.specs.declared.meeting.Meeting.TheVariants as meeting
 use Rattle.sn_row_map.specs.RowMaps.{row_in}
-use Rattle.sn_sets.proofs.Facts.{later_at_once}
+use Rattle.sn_sets.proofs.Facts.{later_again}
 use Rattle.sn_client.specs.Taken.{StopsBy, StopsServer, so_far}
 use Rattle.sn_client.specs.Taking.{changed, made, with_words}
-use Rattle.sn_client.proofs.TakingLemmas.{err_as, fork_stops, meets_left, new_stops, stands_at}
+use Rattle.sn_client.proofs.TakingLemmas.{err_as, fork_stops, free_at, meets_left, new_stops, stands_at}
 use Rattle.sn_client.proofs.taking.take_server.Goals as goal
+
+pub returns-in_default-clause-ok : goal.returns-in_default-clause-ok
+returns-in_default-clause-ok c =
+    let free = free_at (row_in c.args.rows.now) c.as_slice-changes.result.now c.args.taken.now.changes c.args.item.now.uuid c.as_slice-changes.ensures
+    c.in_default.ensures.none in
+    IfOk-weaker c.make_row.result _ _ (λ effect makes. inr (free, makes (row_in c.args.rows.now))) c.make_row.ensures.ok
 
 pub returns-in_default-clause-err : goal.returns-in_default-clause-err
 returns-in_default-clause-err c =
@@ -46,6 +52,10 @@ returns-in_err-copy-in-Fork-clause-err c =
     (fork_stops c.args.sets.now p c.args.item.now c.args.saved (c.in-Some.number, c.in-Some.local.now, has, meets) c.in_err-copy-in-Fork.field-0.0
     c.in_err-copy-in-Fork.ensures.err)
 
+pub returns-in_err-change-in-Fork-clause-words : goal.returns-in_err-change-in-Fork-clause-words
+returns-in_err-change-in-Fork-clause-words c =
+    later_again c.args.words.now c.copy_draft.new.words c.take_version.new.words c.copy_draft.ensures.words c.take_version.ensures.words
+
 pub returns-in_ok-change-in-Fork-clause-ok : goal.returns-in_ok-change-in-Fork-clause-ok
 returns-in_ok-change-in-Fork-clause-ok c =
     let p = so_far (row_in c.args.rows.now) c.args.taken.now c.args.words.now in
@@ -59,15 +69,19 @@ returns-in_ok-change-in-Fork-clause-ok c =
       meeting.Fork,
       has,
       meets,
-      (r, c.in_ok-copy-in-Fork.ensures.ok, c.in_ok-change-in-Fork.ensures c.args.sets.now r c.requires.alone),
+      (r, c.in_ok-copy-in-Fork.ensures.ok, c.in_ok-change-in-Fork.ensures.ok r refl),
     )
 
-pub returns-in_ok-take_version-in_default-meeting : goal.returns-in_ok-take_version-in_default-meeting
-returns-in_ok-take_version-in_default-meeting c =
+pub returns-in_ok-change-in-Fork-clause-words : goal.returns-in_ok-change-in-Fork-clause-words
+returns-in_ok-change-in-Fork-clause-words c =
+    later_again c.args.words.now c.copy_draft.new.words c.take_version.new.words c.copy_draft.ensures.words c.take_version.ensures.words
+
+pub returns-in_ok-change-in_default-meeting : goal.returns-in_ok-change-in_default-meeting
+returns-in_ok-change-in_default-meeting c =
     let p = so_far (row_in c.args.rows.now) c.args.taken.now c.args.words.now in
     let has = stands_at (row_in c.args.rows.now) c.as_slice-changes.result.now c.args.taken.now.changes c.args.item.now.uuid c.in-Some.number c.in-Some.local.now
     c.as_slice-changes.ensures c.in-Some.ensures.some in
-    let q = changed p c.in_ok-take_version-in_default-meeting.field-0 in
+    let q = with_words (changed p c.in_ok-change-in_default-meeting.change) c.take_version-in_default-meeting.new.words in
     record {
       ok = inl (
         c.in-Some.number,
@@ -77,9 +91,9 @@ returns-in_ok-take_version-in_default-meeting c =
         c.in_ok-meeting.ensures,
         meets_left c.args.sets.now p c.in-Some.number c.in-Some.local.now c.args.item.now c.in_ok-meeting.meeting c.in_ok-latest-in_default-meeting.latest q
             c.in_default-meeting.not-Same c.in_default-meeting.not-Fork c.in_ok-latest-in_default-meeting.ensures
-            (c.in_ok-take_version-in_default-meeting.ensures c.args.sets.now p c.requires.alone),
+            (c.in_ok-change-in_default-meeting.ensures.ok p refl),
       );
       number = tt;
       err = tt;
-      words = later_at_once c.args.words.now;
+      words = c.take_version-in_default-meeting.ensures.words;
     }

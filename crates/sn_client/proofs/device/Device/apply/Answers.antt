@@ -1,17 +1,17 @@
-use Rattle.std.proofs.Common.{◌≡◌, ◌⊎◌, ◌↔◌, ◌∙◌, IsTrue, ap, refl, subst, sym, true}
+use Rattle.std.proofs.Common.{◌≡◌, ◌⊎◌, ◌↔◌, ◌∙◌, IsTrue, ap, refl, subst, sym}
 use Rattle.sn_rows.specs.Table.{Rows, rows_after}
 use Rattle.sn_client.specs.Calls.{device_rows}
 use Rattle.sn_client.specs.Runs.{IsLeft, IsUnapplied, items_of}
 use Rattle.sn_client.specs.States.{IsSound}
 use Rattle.sn_client.specs.Steps.{AppliesTo, applies}
-use Rattle.sn_client.specs.Syncing.{IsApplied, IsOpenSince, MayHaveSince}
+use Rattle.sn_client.specs.Syncing.{HasNoneAsked, IsApplied, IsOpenSince, MayHaveSince}
 use Rattle.sn_client.specs.declared.called.Called.TheVariants as called
 use Rattle.sn_client.specs.declared.error.ClientError.{ClientError}
 use Rattle.sn_client.specs.declared.error.ClientError.TheVariants as refusal
 use Rattle.sn_client.specs.declared.syncing.Exchanged.TheVariants as exchanged
 use Rattle.sn_client.proofs.AnswerLemmas.{more_by_cursor, more_by_item}
 use Rattle.sn_client.proofs.Moments.{committed_broken, committed_open, still_open}
-use Rattle.sn_client.proofs.PostLemmas.{HoldsSets, holds_applied}
+use Rattle.sn_client.proofs.SettledLemmas.{HoldsOwner, owned_applied, settled_applied}
 use Rattle.sn_client.proofs.SoundSteps.{steps_stay_sound}
 use Rattle.sn_client.proofs.SyncLemmas.{broken_off, not_applied, not_committed}
 use Rattle.sn_client.proofs.device.Device.apply.Goals as goal
@@ -45,11 +45,16 @@ returns-after-has_cursor-clause-device g c = record {
   later = c.in-Done.ensures.later;
 }
 
-pub returns-after-has_cursor-clause-holds : goal.returns-after-has_cursor-clause-holds
-returns-after-has_cursor-clause-holds g c =
-    subst (λ (r : Rows). HoldsSets r c.args.sets.now) (sym c.in-Done.ensures.rows)
-    (holds_applied (device_rows c.args.self) c.args.words.now c.changes_of.new.words c.args.request.now c.args.answer.now c.in-Ok.changes.items c.args.sets.now
-    c.in-Ok.ensures.ok c.requires.alone c.requires.holds)
+pub returns-after-has_cursor-clause-owned : goal.returns-after-has_cursor-clause-owned
+returns-after-has_cursor-clause-owned g c =
+    subst HoldsOwner (sym c.in-Done.ensures.rows)
+    (owned_applied (device_rows c.args.self) c.args.words.now c.changes_of.new.words c.args.request.now c.args.answer.now c.in-Ok.changes.items c.in-Ok.ensures.ok)
+
+pub returns-after-has_cursor-clause-settled : goal.returns-after-has_cursor-clause-settled
+returns-after-has_cursor-clause-settled g c = λ none.
+    subst HasNoneAsked (sym c.in-Done.ensures.rows)
+    (settled_applied (device_rows c.args.self) c.args.words.now c.changes_of.new.words c.args.request.now c.args.answer.now c.in-Ok.changes.items
+    c.in-Ok.ensures.ok none)
 
 pub returns-in-Err-clause-applied : goal.returns-in-Err-clause-applied
 returns-in-Err-clause-applied g c = λ kept opens.
@@ -69,8 +74,11 @@ returns-in-Refused-clause-applied g c = λ kept opens.
     c.in-Refused.ensures.cause
     (still_open c.args.self c.in-Refused.device kept c.in-Refused.ensures.still g.met.D.Disk.only_now opens (c.in-Refused.ensures.stays kept opens)))
 
-pub returns-in-Refused-clause-holds : goal.returns-in-Refused-clause-holds
-returns-in-Refused-clause-holds g c = subst (λ (r : Rows). HoldsSets r c.args.sets.now) (sym c.in-Refused.ensures.same) c.requires.holds
+pub returns-in-Refused-clause-owned : goal.returns-in-Refused-clause-owned
+returns-in-Refused-clause-owned g c = subst HoldsOwner (sym c.in-Refused.ensures.same) c.requires.owned
+
+pub returns-in-Refused-clause-settled : goal.returns-in-Refused-clause-settled
+returns-in-Refused-clause-settled g c = λ none. subst HasNoneAsked (sym c.in-Refused.ensures.same) none
 
 pub returns-in-Broken-clause-applied : goal.returns-in-Broken-clause-applied
 returns-in-Broken-clause-applied g c = λ kept opens.

@@ -1,8 +1,6 @@
 use Rattle.std.proofs.Common.{[], refl, subst, List, ℕ}
 use Rattle.rand_chacha.specs.ChaCha.{of_seed}
 use Rattle.sn_disk.specs.Moments.{weaker}
-use Rattle.sn_rows.specs.Table.{Rows}
-use Rattle.sn_rows.specs.declared.change.Change.{Change}
 use Rattle.sn_journal.specs.declared.owner.Owner.TheVariants.{Device as DeviceOwner}
 use Rattle.sn_table.specs.Batches.{IsAllOrNothing}
 use Rattle.sn_io.specs.Causes.{Rose}

@@ -6,13 +6,14 @@ use Rattle.sn_client.specs.Calls.{device_rows}
 use Rattle.sn_client.specs.Runs.{Act, Sends, commits}
 use Rattle.sn_client.specs.States.{IsSound}
 use Rattle.sn_client.specs.Steps.{posts}
-use Rattle.sn_client.specs.Syncing.{IsAskedAndApplied, IsExchanged, IsOpenSince, IsSyncFrom, MayHaveSince, called_of}
+use Rattle.sn_client.specs.Syncing.{HasNoneAsked, IsAskedAndApplied, IsExchanged, IsOpenSince, IsSyncFrom, MayHaveSince, called_of}
 use Rattle.sn_client.specs.declared.called.Called.TheVariants as called
 use Rattle.sn_client.specs.declared.error.ClientError.{ClientError}
 use Rattle.sn_client.specs.declared.syncing.Exchanged.TheVariants as exchanged
 use Rattle.sn_client.proofs.KeepLemmas.{keeps_on}
 use Rattle.sn_client.proofs.Moments.{asked_as, committed_broken, committed_open, may_on, open_on, still_open}
-use Rattle.sn_client.proofs.PostLemmas.{HoldsSets, holds_posted, is_none, is_some, none_fits, none_posted, sync_from}
+use Rattle.sn_client.proofs.PostLemmas.{is_none, is_some, none_fits, none_posted, sync_from}
+use Rattle.sn_client.proofs.SettledLemmas.{HoldsOwner, owned_posted, settled_posted}
 use Rattle.sn_client.proofs.SoundSteps.{steps_stay_sound}
 use Rattle.sn_client.proofs.SyncLemmas.{asks_posted, not_posted, posted_first, posted_none, posting_broken, sends_none, stood}
 use Rattle.sn_client.proofs.device.Device.exchange.Goals as goal
@@ -47,10 +48,10 @@ ask_and_apply-requires-in-Done-clause-sound g c =
     (steps_stay_sound (device_rows c.args.self) c.args.words.now c.args.words.now (posts c.in-Ok.sending.numbers.items) c.in-Ok.sending.changes.items c.requires.sound
     (c.in-Ok.ensures.sends.1.posts_them, refl))
 
-pub ask_and_apply-requires-in-Done-clause-holds : goal.ask_and_apply-requires-in-Done-clause-holds
-ask_and_apply-requires-in-Done-clause-holds g c =
-    subst (λ (r : Rows). HoldsSets r c.args.sets.now) (sym c.in-Done.ensures.rows)
-    (holds_posted (device_rows c.args.self) c.in-Ok.sending.numbers.items c.in-Ok.sending.changes.items c.args.sets.now c.in-Ok.ensures.sends.1.posts_them c.requires.alone c.requires.holds)
+pub ask_and_apply-requires-in-Done-clause-owned : goal.ask_and_apply-requires-in-Done-clause-owned
+ask_and_apply-requires-in-Done-clause-owned g c =
+    subst HoldsOwner (sym c.in-Done.ensures.rows)
+    (owned_posted (device_rows c.args.self) c.in-Ok.sending.numbers.items c.in-Ok.sending.changes.items c.in-Ok.ensures.sends.1.posts_them c.requires.owned)
 
 pub ask_and_apply-requires-in-Done-clause-sent : goal.ask_and_apply-requires-in-Done-clause-sent
 ask_and_apply-requires-in-Done-clause-sent g c =
@@ -82,6 +83,12 @@ returns-in-Done-clause-device g c =
     keeps_on c.args.self c.in-Done.device (called_of c.ask_and_apply-in-Done.result) g.met.D.Disk.growing c.in-Done.ensures.least.0 c.in-Done.ensures.grows
     c.in-Done.ensures.later c.ask_and_apply-in-Done.ensures.device
 
+pub returns-in-Done-clause-settled : goal.returns-in-Done-clause-settled
+returns-in-Done-clause-settled g c = λ none.
+    c.ask_and_apply-in-Done.ensures.settled
+    (subst HasNoneAsked (sym c.in-Done.ensures.rows)
+    (settled_posted (device_rows c.args.self) c.in-Ok.sending.numbers.items c.in-Ok.sending.changes.items c.in-Ok.ensures.sends.1.posts_them c.requires.owned none))
+
 pub returns-in-Refused-clause-exchanged : goal.returns-in-Refused-clause-exchanged
 returns-in-Refused-clause-exchanged g c = λ kept last opens due.
     let some : c.in-Ok.sending.numbers.items ≢ [] = (is_some c.in-Ok.sending.numbers.len c.in-Ok.sending.numbers.items c.if-is_empty.ensures (omega (arith, c.in-Ok.sending.numbers.ok.0))) in
@@ -95,8 +102,11 @@ returns-in-Refused-clause-exchanged g c = λ kept last opens due.
     (g.met.L.Link.asking.none c.args.link.now)
     (still_open c.args.self c.in-Refused.device kept c.in-Refused.ensures.still g.met.D.Disk.only_now opens (c.in-Refused.ensures.stays kept opens)))
 
-pub returns-in-Refused-clause-holds : goal.returns-in-Refused-clause-holds
-returns-in-Refused-clause-holds g c = subst (λ (r : Rows). HoldsSets r c.args.sets.now) (sym c.in-Refused.ensures.same) c.requires.holds
+pub returns-in-Refused-clause-owned : goal.returns-in-Refused-clause-owned
+returns-in-Refused-clause-owned g c = subst HoldsOwner (sym c.in-Refused.ensures.same) c.requires.owned
+
+pub returns-in-Refused-clause-settled : goal.returns-in-Refused-clause-settled
+returns-in-Refused-clause-settled g c = λ none. subst HasNoneAsked (sym c.in-Refused.ensures.same) none
 
 pub returns-clause-exchanged : goal.returns-clause-exchanged
 returns-clause-exchanged g c = λ kept last opens due.

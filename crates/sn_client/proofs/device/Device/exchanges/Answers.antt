@@ -1,15 +1,15 @@
-use Rattle.std.proofs.Common.{arith, ◌≡◌, ◌≤◌, ◌+◌, ◌∙◌, ℕ, Bool, true, false, List, Option, None, refl, subst, sym}
+use Rattle.std.proofs.Common.{arith, ◌+◌, ◌∙◌, Bool, true, false, None, refl, subst}
 use Rattle.std.specs.List.{flat_map}
 use Rattle.std.proofs.lemmas.Bool.{false≢true}
 use Rattle.sn_table.specs.Kept.{Kept}
 use Rattle.sn_sets.proofs.Facts.{later_again, later_at_once}
 use Rattle.sn_client.specs.Calls.{device_disk}
-use Rattle.sn_client.specs.Runs.{acts_of, most_exchanges}
+use Rattle.sn_client.specs.Runs.{acts_of}
 use Rattle.sn_client.specs.States.{Bytes}
 use Rattle.sn_client.specs.Syncing.{AppliesOne, EndsOne, IsOpenSince, MayHaveSince}
 use Rattle.sn_client.specs.declared.called.Called.TheVariants as called
 use Rattle.sn_client.specs.declared.error.ClientError.TheVariants as refusal
-use Rattle.sn_client.proofs.KeepLemmas.{keeps_done, keeps_on}
+use Rattle.sn_client.proofs.KeepLemmas.{keeps_on}
 use Rattle.sn_client.proofs.Moments.{applies_as, ends_one_as, may_on, open_on, still_open}
 use Rattle.sn_client.proofs.SyncLemmas.{done_more, due_more, ends_by, ends_done, ends_used, kept_now, made_more, sets_out, stood}
 use Rattle.sn_client.proofs.device.Device.exchanges.Goals as goal
@@ -18,14 +18,15 @@ pub exchanges-init : goal.exchanges-init
 exchanges-init g c = record {
   runs = λ kept opens. (
     None,
-    sets_out (IsOpenSince c.args.self kept) kept c.args.words.now (g.L.Link.aimed c.args.link.now) (g.L.Link.asks c.args.link.now c.args.link.now) c.args.self
+    sets_out (IsOpenSince c.args.self kept) c.args.made kept c.args.words.now (g.L.Link.aimed c.args.link.now) (g.L.Link.asks c.args.link.now c.args.link.now) c.args.self
         (g.met.L.Link.asking.none c.args.link.now)
         (still_open c.args.self c.args.self kept refl g.met.D.Disk.only_now opens opens),
     tt,
   );
-  within = omega arith;
+  within = c.requires.few;
   sound = c.requires.sound;
-  holds = c.requires.holds;
+  owned = c.requires.owned;
+  settled = c.requires.settled;
   words = later_at_once c.args.words.now;
   least = refl;
   aimed = refl;
@@ -38,7 +39,7 @@ pub exchanges-preserved : goal.exchanges-preserved
 exchanges-preserved g c = record {
   runs = λ kept opens.
       let (last, made, due) = c.exchanges.invariant.runs kept opens in
-      let now : Kept = kept_now (IsOpenSince c.args.self kept) kept c.args.words.now (g.L.Link.aimed c.args.link.now) (g.L.Link.asks c.args.link.now c.exchanges.link) c.exchanges.words last c.exchanges.device c.exchanges.count made in
+      let now : Kept = kept_now (IsOpenSince c.args.self kept) c.args.made kept c.args.words.now (g.L.Link.aimed c.args.link.now) (g.L.Link.asks c.args.link.now c.exchanges.link) c.exchanges.words last c.exchanges.device c.exchanges.count made in
       let since : AppliesOne (IsOpenSince c.exchanges.device now) now (stood now c.exchanges.words last) (g.L.Link.aimed c.args.link.now) (g.L.Link.asks c.exchanges.link c.exchange.new.link) c.exchange.new.words c.in-Applied-default-true.next true =
       subst (λ (h : Bytes). AppliesOne (IsOpenSince c.exchanges.device now) now (stood now c.exchanges.words last) h (g.L.Link.asks c.exchanges.link c.exchange.new.link) c.exchange.new.words c.in-Applied-default-true.next true) c.exchanges.invariant.aimed
       (subst (λ (m : Bool). AppliesOne (IsOpenSince c.exchanges.device now) now (stood now c.exchanges.words last) (g.L.Link.aimed c.exchanges.link) (g.L.Link.asks c.exchanges.link c.exchange.new.link) c.exchange.new.words c.in-Applied-default-true.next m) c.in-Applied-default-true.field-1-test
@@ -47,11 +48,12 @@ exchanges-preserved g c = record {
       applies_as (IsOpenSince c.exchanges.device now) (IsOpenSince c.args.self kept) now
       (open_on c.args.self c.exchanges.device kept (flat_map acts_of made.rounds) made.stands)
       (stood now c.exchanges.words last) (g.L.Link.aimed c.args.link.now) (g.L.Link.asks c.exchanges.link c.exchange.new.link) c.exchange.new.words c.in-Applied-default-true.next true since in
-      let more = made_more (IsOpenSince c.args.self kept) kept c.args.words.now (g.L.Link.aimed c.args.link.now) (g.L.Link.asks c.args.link.now c.exchanges.link) (g.L.Link.asks c.exchanges.link c.exchange.new.link) (g.L.Link.asks c.args.link.now c.exchange.new.link) c.exchanges.words c.exchange.new.words last c.exchanges.device c.in-Applied-default-true.next true c.exchanges.count made (λ xs ys x y. g.met.L.Link.asking.more c.args.link.now c.exchanges.link c.exchange.new.link xs ys x y) one in
-      (one.after.last, more.0, due_more (IsOpenSince c.args.self kept) kept c.args.words.now (g.L.Link.aimed c.args.link.now) (g.L.Link.asks c.args.link.now c.exchanges.link) (g.L.Link.asks c.exchanges.link c.exchange.new.link) (g.L.Link.asks c.args.link.now c.exchange.new.link) c.exchanges.words c.exchange.new.words last c.exchanges.device c.in-Applied-default-true.next true c.exchanges.count made (λ xs ys x y. g.met.L.Link.asking.more c.args.link.now c.exchanges.link c.exchange.new.link xs ys x y) one refl);
+      let more = made_more (IsOpenSince c.args.self kept) c.args.made kept c.args.words.now (g.L.Link.aimed c.args.link.now) (g.L.Link.asks c.args.link.now c.exchanges.link) (g.L.Link.asks c.exchanges.link c.exchange.new.link) (g.L.Link.asks c.args.link.now c.exchange.new.link) c.exchanges.words c.exchange.new.words last c.exchanges.device c.in-Applied-default-true.next true c.exchanges.count made (λ xs ys x y. g.met.L.Link.asking.more c.args.link.now c.exchanges.link c.exchange.new.link xs ys x y) one in
+      (one.after.last, more.0, due_more (IsOpenSince c.args.self kept) c.args.made kept c.args.words.now (g.L.Link.aimed c.args.link.now) (g.L.Link.asks c.args.link.now c.exchanges.link) (g.L.Link.asks c.exchanges.link c.exchange.new.link) (g.L.Link.asks c.args.link.now c.exchange.new.link) c.exchanges.words c.exchange.new.words last c.exchanges.device c.in-Applied-default-true.next true c.exchanges.count made (λ xs ys x y. g.met.L.Link.asking.more c.args.link.now c.exchanges.link c.exchange.new.link xs ys x y) one refl);
   within = omega (arith, c.exchanges-test.true);
   sound = c.in-Applied-default-true.ensures.device.sound;
-  holds = c.in-Applied-default-true.ensures.holds;
+  owned = c.in-Applied-default-true.ensures.owned;
+  settled = c.in-Applied-default-true.ensures.settled c.exchanges.invariant.settled;
   words = later_again c.args.words.now c.exchanges.words c.exchange.new.words c.exchanges.invariant.words c.exchange.ensures.words;
   least = c.in-Applied-default-true.ensures.device.least ∙ c.exchanges.invariant.least;
   aimed = c.exchange.ensures.aimed ∙ c.exchanges.invariant.aimed;
@@ -61,10 +63,10 @@ exchanges-preserved g c = record {
   later = omega (arith, c.exchanges.invariant.later, c.in-Applied-default-true.ensures.device.later);
 }
 
-pub returns-in-Applied-default-false-clause-runs : goal.returns-in-Applied-default-false-clause-runs
-returns-in-Applied-default-false-clause-runs g c = λ kept opens.
+pub returns-in-Applied-default-false-clause-went : goal.returns-in-Applied-default-false-clause-went
+returns-in-Applied-default-false-clause-went g c = λ kept opens.
     let (last, made, due) = c.exchanges.invariant.runs kept opens in
-    let now : Kept = kept_now (IsOpenSince c.args.self kept) kept c.args.words.now (g.L.Link.aimed c.args.link.now) (g.L.Link.asks c.args.link.now c.exchanges.link) c.exchanges.words last c.exchanges.device c.exchanges.count made in
+    let now : Kept = kept_now (IsOpenSince c.args.self kept) c.args.made kept c.args.words.now (g.L.Link.aimed c.args.link.now) (g.L.Link.asks c.args.link.now c.exchanges.link) c.exchanges.words last c.exchanges.device c.exchanges.count made in
     let since : AppliesOne (IsOpenSince c.exchanges.device now) now (stood now c.exchanges.words last) (g.L.Link.aimed c.args.link.now) (g.L.Link.asks c.exchanges.link c.exchange.new.link) c.exchange.new.words c.in-Applied-default-false.next false =
     subst (λ (h : Bytes). AppliesOne (IsOpenSince c.exchanges.device now) now (stood now c.exchanges.words last) h (g.L.Link.asks c.exchanges.link c.exchange.new.link) c.exchange.new.words c.in-Applied-default-false.next false) c.exchanges.invariant.aimed
     (subst (λ (m : Bool). AppliesOne (IsOpenSince c.exchanges.device now) now (stood now c.exchanges.words last) (g.L.Link.aimed c.exchanges.link) (g.L.Link.asks c.exchanges.link c.exchange.new.link) c.exchange.new.words c.in-Applied-default-false.next m) c.in-Applied-default-false.field-1-test
@@ -73,25 +75,30 @@ returns-in-Applied-default-false-clause-runs g c = λ kept opens.
     applies_as (IsOpenSince c.exchanges.device now) (IsOpenSince c.args.self kept) now
     (open_on c.args.self c.exchanges.device kept (flat_map acts_of made.rounds) made.stands)
     (stood now c.exchanges.words last) (g.L.Link.aimed c.args.link.now) (g.L.Link.asks c.exchanges.link c.exchange.new.link) c.exchange.new.words c.in-Applied-default-false.next false since in
-    let more = made_more (IsOpenSince c.args.self kept) kept c.args.words.now (g.L.Link.aimed c.args.link.now) (g.L.Link.asks c.args.link.now c.exchanges.link) (g.L.Link.asks c.exchanges.link c.exchange.new.link) (g.L.Link.asks c.args.link.now c.exchange.new.link) c.exchanges.words c.exchange.new.words last c.exchanges.device c.in-Applied-default-false.next false c.exchanges.count made (λ xs ys x y. g.met.L.Link.asking.more c.args.link.now c.exchanges.link c.exchange.new.link xs ys x y) one in
-    let done = done_more (IsOpenSince c.args.self kept) kept c.args.words.now (g.L.Link.aimed c.args.link.now) (g.L.Link.asks c.args.link.now c.exchanges.link) (g.L.Link.asks c.exchanges.link c.exchange.new.link) (g.L.Link.asks c.args.link.now c.exchange.new.link) c.exchanges.words c.exchange.new.words last c.exchanges.device c.in-Applied-default-false.next false c.exchanges.count made (λ xs ys x y. g.met.L.Link.asking.more c.args.link.now c.exchanges.link c.exchange.new.link xs ys x y) one (λ is. false≢true is) in
-    ends_done (IsOpenSince c.args.self kept) (MayHaveSince c.args.self kept) kept c.args.words.now (g.L.Link.aimed c.args.link.now) (g.L.Link.asks c.args.link.now c.exchange.new.link) c.exchange.new.words one.after.last c.in-Applied-default-false.next (c.exchanges.count + 1) more.0
-    tt done (omega (arith, c.exchanges-test.true))
+    let more = made_more (IsOpenSince c.args.self kept) c.args.made kept c.args.words.now (g.L.Link.aimed c.args.link.now) (g.L.Link.asks c.args.link.now c.exchanges.link) (g.L.Link.asks c.exchanges.link c.exchange.new.link) (g.L.Link.asks c.args.link.now c.exchange.new.link) c.exchanges.words c.exchange.new.words last c.exchanges.device c.in-Applied-default-false.next false c.exchanges.count made (λ xs ys x y. g.met.L.Link.asking.more c.args.link.now c.exchanges.link c.exchange.new.link xs ys x y) one in
+    let done = done_more (IsOpenSince c.args.self kept) c.args.made kept c.args.words.now (g.L.Link.aimed c.args.link.now) (g.L.Link.asks c.args.link.now c.exchanges.link) (g.L.Link.asks c.exchanges.link c.exchange.new.link) (g.L.Link.asks c.args.link.now c.exchange.new.link) c.exchanges.words c.exchange.new.words last c.exchanges.device c.in-Applied-default-false.next false c.exchanges.count made (λ xs ys x y. g.met.L.Link.asking.more c.args.link.now c.exchanges.link c.exchange.new.link xs ys x y) one (λ is. false≢true is) in
+    ends_done (IsOpenSince c.args.self kept) c.args.made kept c.args.words.now (g.L.Link.aimed c.args.link.now) (g.L.Link.asks c.args.link.now c.exchange.new.link) c.exchange.new.words one.after.last c.in-Applied-default-false.next (c.exchanges.count + 1) more.0
+    done (omega (arith, c.exchanges-test.true))
 
 pub returns-in-Applied-default-false-clause-device : goal.returns-in-Applied-default-false-clause-device
 returns-in-Applied-default-false-clause-device g c =
-    keeps_done c.args.self c.in-Applied-default-false.next refusal.RoundsUsed tt
-    (keeps_on c.args.self c.exchanges.device (called.Refused c.in-Applied-default-false.next refusal.RoundsUsed) g.met.D.Disk.growing c.exchanges.invariant.least
-    c.exchanges.invariant.grows c.exchanges.invariant.later c.in-Applied-default-false.ensures.device)
+    keeps_on c.args.self c.exchanges.device (called.Refused c.in-Applied-default-false.next refusal.RoundsUsed) g.met.D.Disk.growing c.exchanges.invariant.least
+    c.exchanges.invariant.grows c.exchanges.invariant.later c.in-Applied-default-false.ensures.device
+
+pub returns-in-Applied-default-false-clause-owned : goal.returns-in-Applied-default-false-clause-owned
+returns-in-Applied-default-false-clause-owned g c = c.in-Applied-default-false.ensures.owned
+
+pub returns-in-Applied-default-false-clause-settled : goal.returns-in-Applied-default-false-clause-settled
+returns-in-Applied-default-false-clause-settled g c = c.in-Applied-default-false.ensures.settled c.exchanges.invariant.settled
 
 pub returns-in-Applied-default-false-clause-words : goal.returns-in-Applied-default-false-clause-words
 returns-in-Applied-default-false-clause-words g c =
     later_again c.args.words.now c.exchanges.words c.exchange.new.words c.exchanges.invariant.words c.exchange.ensures.words
 
-pub returns-in-Ended-clause-runs : goal.returns-in-Ended-clause-runs
-returns-in-Ended-clause-runs g c = λ kept opens.
+pub returns-in-Ended-clause-went : goal.returns-in-Ended-clause-went
+returns-in-Ended-clause-went g c = λ kept opens.
     let (last, made, due) = c.exchanges.invariant.runs kept opens in
-    let now : Kept = kept_now (IsOpenSince c.args.self kept) kept c.args.words.now (g.L.Link.aimed c.args.link.now) (g.L.Link.asks c.args.link.now c.exchanges.link) c.exchanges.words last c.exchanges.device c.exchanges.count made in
+    let now : Kept = kept_now (IsOpenSince c.args.self kept) c.args.made kept c.args.words.now (g.L.Link.aimed c.args.link.now) (g.L.Link.asks c.args.link.now c.exchanges.link) c.exchanges.words last c.exchanges.device c.exchanges.count made in
     let since : EndsOne (IsOpenSince c.exchanges.device now) (MayHaveSince c.exchanges.device now) now (stood now c.exchanges.words last) (g.L.Link.aimed c.args.link.now) (g.L.Link.asks c.exchanges.link c.exchange.new.link) c.exchange.new.words c.in-Ended.called =
     subst (λ (h : Bytes). EndsOne (IsOpenSince c.exchanges.device now) (MayHaveSince c.exchanges.device now) now (stood now c.exchanges.words last) h (g.L.Link.asks c.exchanges.link c.exchange.new.link) c.exchange.new.words c.in-Ended.called) c.exchanges.invariant.aimed
     (c.in-Ended.ensures.exchanged now last made.stands.opens due) in
@@ -99,7 +106,7 @@ returns-in-Ended-clause-runs g c = λ kept opens.
     ends_one_as (IsOpenSince c.exchanges.device now) (IsOpenSince c.args.self kept) (MayHaveSince c.exchanges.device now) (MayHaveSince c.args.self kept) now
     (open_on c.args.self c.exchanges.device kept (flat_map acts_of made.rounds) made.stands) (may_on c.args.self c.exchanges.device kept (flat_map acts_of made.rounds) made.stands)
     (stood now c.exchanges.words last) (g.L.Link.aimed c.args.link.now) (g.L.Link.asks c.exchanges.link c.exchange.new.link) c.exchange.new.words c.in-Ended.called since in
-    ends_by (IsOpenSince c.args.self kept) (MayHaveSince c.args.self kept) kept c.args.words.now (g.L.Link.aimed c.args.link.now) (g.L.Link.asks c.args.link.now c.exchanges.link) c.exchanges.words last c.exchanges.device c.exchanges.count made
+    ends_by (IsOpenSince c.args.self kept) (MayHaveSince c.args.self kept) c.args.made kept c.args.words.now (g.L.Link.aimed c.args.link.now) (g.L.Link.asks c.args.link.now c.exchanges.link) c.exchanges.words last c.exchanges.device c.exchanges.count made
     (g.L.Link.asks c.exchanges.link c.exchange.new.link) (g.L.Link.asks c.args.link.now c.exchange.new.link) c.exchange.new.words c.in-Ended.called (λ xs ys x y. g.met.L.Link.asking.more c.args.link.now c.exchanges.link c.exchange.new.link xs ys x y) c.exchanges-test.true one
 
 pub returns-in-Ended-clause-device : goal.returns-in-Ended-clause-device
@@ -111,8 +118,8 @@ pub returns-in-Ended-clause-words : goal.returns-in-Ended-clause-words
 returns-in-Ended-clause-words g c =
     later_again c.args.words.now c.exchanges.words c.exchange.new.words c.exchanges.invariant.words c.exchange.ensures.words
 
-pub returns-clause-runs : goal.returns-clause-runs
-returns-clause-runs g c = λ kept opens.
+pub returns-clause-went : goal.returns-clause-went
+returns-clause-went g c = λ kept opens.
     let (last, made, due) = c.exchanges.invariant.runs kept opens in
-    ends_used (IsOpenSince c.args.self kept) (MayHaveSince c.args.self kept) kept c.args.words.now (g.L.Link.aimed c.args.link.now) (g.L.Link.asks c.args.link.now c.exchanges.link) c.exchanges.words last c.exchanges.device c.exchanges.count made due
+    ends_used {T = Unit {0}} (IsOpenSince c.args.self kept) (MayHaveSince c.args.self kept) c.args.made kept c.args.words.now (g.L.Link.aimed c.args.link.now) (g.L.Link.asks c.args.link.now c.exchanges.link) c.exchanges.words last c.exchanges.device c.exchanges.count made due
     (omega (arith, c.exchanges-test.false, c.exchanges.invariant.within))

@@ -1,4 +1,4 @@
--- So many exchanges were made, and another is due.
+-- So many exchanges were made, with those from before, and another is due.
 use Rattle.std.specs.Prelude.{◌≡◌, ◌-◌, ◌≤◌, Option}
 use Rattle.sn_rows.specs.declared.device_rows.OwnerRow.{OwnerRow}
 use Rattle.sn_sets.specs.Seals.{IsLater}
@@ -6,19 +6,20 @@ use Rattle.sn_sync.specs.declared.answer.Answer.{Answer}
 use Rattle.sn_table.specs.Kept.{Kept}
 use Rattle.sn_client.specs.Calls.{IsOpen, device_disk, device_rows}
 use Rattle.sn_client.specs.Runs.{IsDue, most_exchanges}
-use Rattle.sn_client.specs.States.{HasSets, IsSound}
-use Rattle.sn_client.specs.Syncing.{IsOpenSince}
+use Rattle.sn_client.specs.States.{HasOwner, IsSound}
+use Rattle.sn_client.specs.Syncing.{HasNoneAsked, IsOpenSince}
 use Rattle.sn_client.proofs.SyncLemmas.{HasMade, kept_now}
 use Rattle.sn_client.proofs.device.Device.exchanges.Given as goal
 
 abbrev pub invariant-exchanges : goal.invariant-exchanges
 invariant-exchanges g l = record {
   runs : (kept : Kept) → IsOpen l.initial.device kept → (last : Option Answer)
-      × (made : HasMade (IsOpenSince l.initial.device kept) kept l.initial.words (g.L.Link.aimed l.initial.link) (g.L.Link.asks l.initial.link l.link) l.words last l.device l.count)
-      × IsDue (kept_now (IsOpenSince l.initial.device kept) kept l.initial.words (g.L.Link.aimed l.initial.link) (g.L.Link.asks l.initial.link l.link) l.words last l.device l.count made).rows last;
+      × (made : HasMade (IsOpenSince l.initial.device kept) l.initial.count kept l.initial.words (g.L.Link.aimed l.initial.link) (g.L.Link.asks l.initial.link l.link) l.words last l.device l.count)
+      × IsDue (kept_now (IsOpenSince l.initial.device kept) l.initial.count kept l.initial.words (g.L.Link.aimed l.initial.link) (g.L.Link.asks l.initial.link l.link) l.words last l.device l.count made).rows last;
   within : l.count ≤ most_exchanges;
   sound : IsSound (device_rows l.device);
-  holds : (owner : OwnerRow) × HasSets (device_rows l.device) owner l.sets;
+  owned : (owner : OwnerRow) × HasOwner (device_rows l.device) owner;
+  settled : HasNoneAsked (device_rows l.device);
   words : IsLater l.initial.words l.words;
   least : l.device.least_cost ≡ l.initial.device.least_cost;
   aimed : g.L.Link.aimed l.link ≡ g.L.Link.aimed l.initial.link;

@@ -1,0 +1,402 @@
+//! Changing the password of a device's account.
+
+ghost use Rattle.std.specs.Prelude.{◌≡◌, ◌⊎◌, ℕ, IfErr, IfNone, IfOk, IfSome, None, OnOk};
+ghost use Rattle.sn_client.specs.Changing.{IsFirstItem, IsFirstSent, NoneRuns};
+ghost use Rattle.sn_client.specs.Runs.{RefusesChange};
+ghost use Rattle.sn_client.specs.States.{HasLocal};
+ghost use Rattle.sn_client.specs.declared.error.ClientError.TheVariants as refusal;
+ghost use Rattle.sn_rekey.specs.Carrying.{IsOfOther};
+ghost use Rattle.sn_row_map.specs.RowMaps.{row_in};
+ghost use Rattle.sn_table.specs.Logs.{HasKinds};
+ghost use Rattle.sn_rows.specs.declared.device_rows.LocalItem.{LocalItem};
+
+use crate::asking::{MOST_EXCHANGES, hear_behind};
+use crate::called::Called;
+use crate::device::Device;
+use crate::error::{ClientError, of_commit};
+use crate::looking::held_sets;
+use crate::registering::{is_bad_cost, new_set};
+use crate::rekeying::asking;
+use crate::went::Went;
+use sn_disk::Disk;
+use sn_items::Words;
+use sn_net::Link;
+use sn_rekey::{RekeyError, Running, is_of_other};
+use sn_row_map::RowMap;
+use sn_rows::{RowKind, Value};
+use sn_sets::Sets;
+use sn_string::{KeySet, Text, Twin};
+use sn_sync::Answer;
+use sn_table::Committed;
+use std::alloc::{AllocError, Global};
+use uuid::Uuid;
+
+impl<D: Disk> Device<D> {
+    ghost use Rattle.std.specs.Prelude.{◌≤◌, ◌<◌};
+    ghost use Rattle.sn_disk.specs.Disk.{LeavesOnly};
+    ghost use Rattle.sn_io.specs.Causes.{Rose};
+    ghost use Rattle.sn_rows.specs.declared.device_rows.OwnerRow.{OwnerRow};
+    ghost use Rattle.sn_sets.specs.Seals.{IsLater};
+    ghost use Rattle.sn_sets.specs.declared.sets.Sets.{Sets};
+    ghost use Rattle.sn_sync.specs.Fits.{FitsAnswer};
+    ghost use Rattle.sn_sync.specs.declared.answer.Answer.TheVariants.{Refused as RefusedAnswer};
+    ghost use Rattle.sn_sync.specs.declared.answer.More.{More};
+    ghost use Rattle.sn_sync.specs.declared.request.Route.TheVariants as route;
+    ghost use Rattle.sn_table.specs.Kept.{Kept};
+    ghost use Rattle.sn_client.specs.Calls.{CallsOver, HasFront, IfBroken, IfRefused, IfStands, IsOpen, MayHave, called_disk, device_disk, device_rows, tried};
+    ghost use Rattle.sn_client.specs.Asked.{IsGranted};
+    ghost use Rattle.sn_client.specs.Changing.{HoldsAsked, MayAsk};
+    ghost use Rattle.sn_client.specs.Runs.{AnswersChange, AsksFor, AsksHost, ChangesTo, CommitsStep, Exchanges, IsBadCost, Then, begun, change_to, most_exchanges, passwd};
+    ghost use Rattle.sn_client.specs.States.{HasOwner, HasSets, IsSound};
+    ghost use Rattle.sn_client.specs.Steps.{asks};
+    ghost use Rattle.sn_client.specs.Syncing.{HasNoneAsked, IfOn, MadeAtMost, IsOpenSince, KeepsDevice, MayHaveSince, WentBy, called_past, gives_nothing};
+
+    /// Changes the account's password: brings the device and its server together, keeps a new set as asked for, asks for
+    /// it, adopts it, and brings them together again. The link's host is asked. A set that is asked for already, since
+    /// the answer to a change got lost, is resolved first. The time goes with the cost.
+    pub fn passwd<L: Link>(
+        self,
+        link: &mut L,
+        words: &mut Words,
+        password: &str,
+        cost: u32,
+    ) -> Called<Device<D>, D, ()>
+        requires sound { IsSound (device_rows self) }
+        ensures runs { (kept : Kept) → IsOpen self kept → CallsOver IsOpen (MayHave D.told D.may_leave) gives_nothing self.least_cost (passwd password.now cost) (L.asks link.old link.new) (L.aimed link.old) kept words.old words.new result }
+
+        // A crash at any moment leaves what a front of the call's commits leaves, or all of the one in which the disk failed.
+        ensures any_moment { D.told → (kept : Kept) → IsOpen self kept →
+            (calls : CallsOver IsOpen (MayHave D.told D.may_leave) gives_nothing self.least_cost (passwd password.now cost) (L.asks link.old link.new) (L.aimed link.old) kept words.old words.new result)
+            × LeavesOnly D.moment D.left_since (device_disk self) (called_disk device_disk result) (HasFront kept (tried calls.acts calls.halt)) }
+        ensures sound { IfStands result (λ device. IsSound (device_rows device)) }
+        ensures words { IsLater words.old words.new }
+        ensures least { IfStands result (λ device. device.least_cost ≡ self.least_cost) }
+        ensures fault { IfBroken result (λ disk. Rose (D.fault_count (device_disk self)) (D.fault_count disk)) }
+        ensures grows { D.grows (device_disk self) (called_disk device_disk result) }
+        ensures later { D.fault_count (device_disk self) ≤ D.fault_count (called_disk device_disk result) }
+        ensures aimed { L.aimed link.new ≡ L.aimed link.old }
+        ensures link_fault { IfRefused result (λ why. why ≡ refusal.LinkFault → Rose (L.fault_count link.old) (L.fault_count link.new)) }
+        ensures link_later { L.fault_count link.old ≤ L.fault_count link.new }
+    {
+        let sets = match held_sets(self.alloc, &self.table) {
+            Ok(sets) => sets,
+            Err(why) => return Called::Refused(self, why),
+        };
+        if is_bad_cost(self.least_cost, cost) {
+            return Called::Refused(self, ClientError::Cost { cost });
+        }
+        match self.change_to(link, words, &sets, password, cost) {
+            Went::On(device, _) => Called::Done(device, ()),
+            Went::Over(called) => called,
+        }
+    }
+
+    // The same with a cost that is taken.
+    fn change_to<L: Link>(
+        self,
+        link: &mut L,
+        words: &mut Words,
+        sets: &Sets,
+        password: &str,
+        cost: u32,
+    ) -> Went<Device<D>, D, ()>
+        requires sound { IsSound (device_rows self) }
+        requires holds { (owner : OwnerRow) × HasSets (device_rows self) owner sets.now }
+        requires cost { ¬ (IsBadCost self.least_cost cost) }
+        ensures went { (kept : Kept) (owner : OwnerRow) → IsOpen self kept → HasSets kept.rows owner sets.now →
+            WentBy (IsOpenSince self kept) (MayHaveSince self kept) (ChangesTo password.now cost owner sets.now) (begun kept.rows words.old) kept (L.aimed link.old) (L.asks link.old link.new) words.new result }
+        ensures device { KeepsDevice self (called_past result) }
+        ensures owned { IfOn result (λ device. (owner : OwnerRow) × HasOwner (device_rows device) owner) }
+        ensures settled { IfOn result (λ device. HasNoneAsked (device_rows device)) }
+        ensures few { MadeAtMost result }
+        ensures words { IsLater words.old words.new }
+        ensures aimed { L.aimed link.new ≡ L.aimed link.old }
+        ensures link_fault { IfRefused (called_past result) (λ why. why ≡ refusal.LinkFault → Rose (L.fault_count link.old) (L.fault_count link.new)) }
+        ensures link_later { L.fault_count link.old ≤ L.fault_count link.new }
+    {
+        match self.bring_together(link, words, sets) {
+            Went::On(device, made) => device.change(link, words, password, cost, made),
+            Went::Over(called) => Went::Over(called),
+        }
+    }
+
+    // Behind the first sync.
+    fn change<L: Link>(
+        self,
+        link: &mut L,
+        words: &mut Words,
+        password: &str,
+        cost: u32,
+        made: u64,
+    ) -> Went<Device<D>, D, ()>
+        requires sound { IsSound (device_rows self) }
+        requires few { made ≤ most_exchanges }
+        requires owned { (owner : OwnerRow) × HasOwner (device_rows self) owner }
+        requires settled { HasNoneAsked (device_rows self) }
+        requires cost { 1 ≤ cost }
+        ensures went { (kept : Kept) → IsOpen self kept →
+            WentBy (IsOpenSince self kept) (MayHaveSince self kept) (Then (AsksFor password.now cost) Exchanges) (record { made = made; rows = kept.rows; words = words.old }) kept (L.aimed link.old) (L.asks link.old link.new) words.new result }
+        ensures device { KeepsDevice self (called_past result) }
+        ensures owned { IfOn result (λ device. (owner : OwnerRow) × HasOwner (device_rows device) owner) }
+        ensures settled { IfOn result (λ device. HasNoneAsked (device_rows device)) }
+        ensures few { MadeAtMost result }
+        ensures words { IsLater words.old words.new }
+        ensures aimed { L.aimed link.new ≡ L.aimed link.old }
+        ensures link_fault { IfRefused (called_past result) (λ why. why ≡ refusal.LinkFault → Rose (L.fault_count link.old) (L.fault_count link.new)) }
+        ensures link_later { L.fault_count link.old ≤ L.fault_count link.new }
+    {
+        match self.ask_for(link, words, password, cost, made) {
+            Went::On(device, made) => device.exchanges(link, words, made),
+            Went::Over(called) => Went::Over(called),
+        }
+    }
+
+    // Asks for a new set, and adopts it where the change is made.
+    fn ask_for<L: Link>(
+        self,
+        link: &mut L,
+        words: &mut Words,
+        password: &str,
+        cost: u32,
+        made: u64,
+    ) -> Went<Device<D>, D, ()>
+        requires sound { IsSound (device_rows self) }
+        requires few { made ≤ most_exchanges }
+        requires owned { (owner : OwnerRow) × HasOwner (device_rows self) owner }
+        requires settled { HasNoneAsked (device_rows self) }
+        requires cost { 1 ≤ cost }
+        ensures went { (kept : Kept) → IsOpen self kept →
+            WentBy (IsOpenSince self kept) (MayHaveSince self kept) (AsksFor password.now cost) (record { made = made; rows = kept.rows; words = words.old }) kept (L.aimed link.old) (L.asks link.old link.new) words.new result }
+        ensures device { KeepsDevice self (called_past result) }
+        ensures owned { IfOn result (λ device. (owner : OwnerRow) × HasOwner (device_rows device) owner) }
+        ensures settled { IfOn result (λ device. HasNoneAsked (device_rows device)) }
+        ensures few { MadeAtMost result }
+        ensures words { IsLater words.old words.new }
+        ensures aimed { L.aimed link.new ≡ L.aimed link.old }
+        ensures link_fault { IfRefused (called_past result) (λ why. why ≡ refusal.LinkFault → Rose (L.fault_count link.old) (L.fault_count link.new)) }
+        ensures link_later { L.fault_count link.old ≤ L.fault_count link.new }
+    {
+        let sets = match held_sets(self.alloc, &self.table) {
+            Ok(sets) => sets,
+            Err(why) => return Went::Over(Called::Refused(self, why)),
+        };
+        if let Err(why) = may_begin(self.alloc, self.table.rows(), &sets) {
+            return Went::Over(Called::Refused(self, why));
+        }
+        if made >= MOST_EXCHANGES {
+            return Went::Over(Called::Refused(self, ClientError::RoundsUsed));
+        }
+        let nonce = words.nonce();
+        let identifier = sets.present.params.identifier.as_str();
+        let Ok(set) = new_set(self.alloc, &nonce, identifier, password, cost) else {
+            return Went::Over(Called::Refused(self, ClientError::Memory));
+        };
+        self.ask_for_set(link, words, &sets.present, &set, made)
+    }
+
+    // Keeps a set as asked for, and asks for it.
+    fn ask_for_set<L: Link>(
+        self,
+        link: &mut L,
+        words: &mut Words,
+        present: &KeySet,
+        set: &KeySet,
+        made: u64,
+    ) -> Went<Device<D>, D, ()>
+        requires sound { IsSound (device_rows self) }
+        requires few { made < most_exchanges }
+        requires may { (owner : OwnerRow) × (sets : Sets) × HasSets (device_rows self) owner sets × MayAsk (device_rows self) sets × (sets.present ≡ present.now) × (set.now.params.identifier ≡ owner.identifier) }
+        ensures went { (kept : Kept) (owner : OwnerRow) → IsOpen self kept → HasOwner kept.rows owner →
+            WentBy (IsOpenSince self kept) (MayHaveSince self kept) (Then (CommitsStep (asks set.now)) (AsksHost (change_to owner present.now set.now) (AnswersChange owner present.now set.now))) (record { made = made; rows = kept.rows; words = words.old }) kept (L.aimed link.old) (L.asks link.old link.new) words.new result }
+        ensures device { KeepsDevice self (called_past result) }
+        ensures owned { IfOn result (λ device. (owner : OwnerRow) × HasOwner (device_rows device) owner) }
+        ensures settled { IfOn result (λ device. HasNoneAsked (device_rows device)) }
+        ensures few { MadeAtMost result }
+        ensures words { IsLater words.old words.new }
+        ensures aimed { L.aimed link.new ≡ L.aimed link.old }
+        ensures link_fault { IfRefused (called_past result) (λ why. why ≡ refusal.LinkFault → Rose (L.fault_count link.old) (L.fault_count link.new)) }
+        ensures link_later { L.fault_count link.old ≤ L.fault_count link.new }
+    {
+        let Ok(changes) = asking(self.alloc, set) else {
+            return Went::Over(Called::Refused(self, ClientError::Memory));
+        };
+        match self.commit(changes) {
+            Committed::Done(device) => device.send_change(link, words, present, set, made),
+            Committed::Refused(device, error) => {
+                Went::Over(Called::Refused(device, of_commit(error)))
+            }
+            Committed::Broken(disk) => Went::Over(Called::Broken(disk)),
+        }
+    }
+
+    // Asks for the set that is kept as asked for.
+    fn send_change<L: Link>(
+        self,
+        link: &mut L,
+        words: &mut Words,
+        present: &KeySet,
+        set: &KeySet,
+        made: u64,
+    ) -> Went<Device<D>, D, ()>
+        requires sound { IsSound (device_rows self) }
+        requires few { made ≤ most_exchanges }
+        requires holds { (owner : OwnerRow) × HoldsAsked (device_rows self) owner present.now set.now }
+        ensures went { (kept : Kept) (owner : OwnerRow) → IsOpen self kept → HasOwner kept.rows owner →
+            WentBy (IsOpenSince self kept) (MayHaveSince self kept) (AsksHost (change_to owner present.now set.now) (AnswersChange owner present.now set.now)) (record { made = made; rows = kept.rows; words = words.old }) kept (L.aimed link.old) (L.asks link.old link.new) words.new result }
+        ensures device { KeepsDevice self (called_past result) }
+        ensures owned { IfOn result (λ device. (owner : OwnerRow) × HasOwner (device_rows device) owner) }
+        ensures settled { IfOn result (λ device. HasNoneAsked (device_rows device)) }
+        ensures few { MadeAtMost result }
+        ensures words { IsLater words.old words.new }
+        ensures aimed { L.aimed link.new ≡ L.aimed link.old }
+        ensures link_fault { IfRefused (called_past result) (λ why. why ≡ refusal.LinkFault → Rose (L.fault_count link.old) (L.fault_count link.new)) }
+        ensures link_later { L.fault_count link.old ≤ L.fault_count link.new }
+    {
+        let Ok(request) = self.change_request(present, set) else {
+            return Went::Over(Called::Refused(self, ClientError::Memory));
+        };
+        match hear_behind(self.alloc, link, made, &request) {
+            Ok(answer) => self.take_change(link, words, present, set, made + 1, answer),
+            Err(why) => Went::Over(Called::Refused(self, why)),
+        }
+    }
+
+    // What the answer to the change makes of it.
+    fn take_change<L: Link>(
+        self,
+        link: &mut L,
+        words: &mut Words,
+        present: &KeySet,
+        set: &KeySet,
+        made: u64,
+        answer: Answer,
+    ) -> Went<Device<D>, D, ()>
+        requires sound { IsSound (device_rows self) }
+        requires few { made ≤ most_exchanges }
+        requires holds { (owner : OwnerRow) × HoldsAsked (device_rows self) owner present.now set.now }
+        requires fits { IsGranted answer → FitsAnswer route.ChangePw 200 answer }
+        ensures went { (kept : Kept) (owner : OwnerRow) → IsOpen self kept → HasOwner kept.rows owner →
+            WentBy (IsOpenSince self kept) (MayHaveSince self kept) (AnswersChange owner present.now set.now answer) (record { made = made; rows = kept.rows; words = words.old }) kept (L.aimed link.old) (L.asks link.old link.new) words.new result }
+        ensures device { KeepsDevice self (called_past result) }
+        ensures owned { IfOn result (λ device. (owner : OwnerRow) × HasOwner (device_rows device) owner) }
+        ensures settled { IfOn result (λ device. HasNoneAsked (device_rows device)) }
+        ensures few { MadeAtMost result }
+        ensures words { IsLater words.old words.new }
+        ensures aimed { L.aimed link.new ≡ L.aimed link.old }
+        ensures link_fault { IfRefused (called_past result) (λ why. why ≡ refusal.LinkFault → Rose (L.fault_count link.old) (L.fault_count link.new)) }
+        ensures link_later { L.fault_count link.old ≤ L.fault_count link.new }
+    {
+        match answer {
+            Answer::Account { token, .. } => self.adopt(words, set, token, made),
+            Answer::Refused { status, tag, .. } => {
+                self.after_refusal(link, words, present, set, made, status, tag)
+            }
+            _ => unreachable!(),
+        }
+    }
+
+    // What becomes of a change that is refused.
+    fn after_refusal<L: Link>(
+        self,
+        link: &mut L,
+        words: &mut Words,
+        present: &KeySet,
+        set: &KeySet,
+        made: u64,
+        status: u16,
+        tag: Text,
+    ) -> Went<Device<D>, D, ()>
+        requires sound { IsSound (device_rows self) }
+        requires few { made ≤ most_exchanges }
+        requires holds { (owner : OwnerRow) × HoldsAsked (device_rows self) owner present.now set.now }
+        ensures went { (kept : Kept) (owner : OwnerRow) (more : More) → IsOpen self kept → HasOwner kept.rows owner →
+            WentBy (IsOpenSince self kept) (MayHaveSince self kept) (AnswersChange owner present.now set.now (RefusedAnswer status tag more)) (record { made = made; rows = kept.rows; words = words.old }) kept (L.aimed link.old) (L.asks link.old link.new) words.new result }
+        ensures device { KeepsDevice self (called_past result) }
+        ensures owned { IfOn result (λ device. (owner : OwnerRow) × HasOwner (device_rows device) owner) }
+        ensures settled { IfOn result (λ device. HasNoneAsked (device_rows device)) }
+        ensures few { MadeAtMost result }
+        ensures words { IsLater words.old words.new }
+        ensures aimed { L.aimed link.new ≡ L.aimed link.old }
+        ensures link_fault { IfRefused (called_past result) (λ why. why ≡ refusal.LinkFault → Rose (L.fault_count link.old) (L.fault_count link.new)) }
+        ensures link_later { L.fault_count link.old ≤ L.fault_count link.new }
+    {
+        if status == 401 {
+            return self.resolve(link, words, present, set, made);
+        }
+        self.drop_asked(ClientError::Refused { status, tag })
+    }
+}
+
+// Whether a change may begin on these rows.
+fn may_begin(alloc: Global, rows: &RowMap, sets: &Sets) -> Result<(), ClientError>
+    requires kinds { HasKinds rows.now }
+    ensures ok { OnOk result (NoneRuns (row_in rows.now) sets.now × ((number : ℕ) (local : LocalItem) → HasLocal (row_in rows.now) number local → local.posted ≡ None)) }
+    ensures err { IfErr result (λ why. (why ≡ refusal.Memory) ⊎ RefusesChange (row_in rows.now) sets.now why) }
+{
+    if let Some(older) = &sets.older {
+        let nonce = older.params.pw_nonce.twin(alloc)?;
+        return Err(running(Running::Older { nonce }));
+    }
+    if let Some(uuid) = first_of_other(alloc, rows, &sets.present)? {
+        return Err(running(Running::Item { uuid }));
+    }
+    match first_sent(rows) {
+        Some(uuid) => Err(ClientError::Rekey {
+            error: RekeyError::Unsent { uuid },
+        }),
+        None => Ok(()),
+    }
+}
+
+// The refusal while a change runs.
+fn running(by: Running) -> ClientError
+    ensures { result ≡ refusal.Rekey (RekeyError.ChangeRunning by) }
+{
+    ClientError::Rekey {
+        error: RekeyError::ChangeRunning { by },
+    }
+}
+
+// The first item of which a version is sealed under another set than the present one.
+fn first_of_other(
+    alloc: Global,
+    rows: &RowMap,
+    present: &KeySet,
+) -> Result<Option<Uuid>, AllocError>
+    requires kinds { HasKinds rows.now }
+    ensures some { IfOk result (λ found. IfSome found (IsFirstItem (row_in rows.now) (IsOfOther present.now))) }
+    ensures none { IfOk result (λ found. IfNone found ((number : ℕ) (local : LocalItem) → HasLocal (row_in rows.now) number local → ¬ (IsOfOther present.now local))) }
+{
+    let mut found = rows.first(RowKind::Local);
+    'items: while let Some((key, value)) = found {
+        let Value::Local(item) = value else {
+            unreachable!();
+        };
+        let item = item.get();
+        if is_of_other(alloc, item, present)? {
+            return Ok(Some(item.uuid));
+        }
+        found = rows.next_after(key);
+    }
+    Ok(None)
+}
+
+// The first item that was sent and isn't answered.
+fn first_sent(rows: &RowMap) -> Option<Uuid>
+    requires kinds { HasKinds rows.now }
+    ensures some { IfSome result (IsFirstSent (row_in rows.now)) }
+    ensures none { IfNone result ((number : ℕ) (local : LocalItem) → HasLocal (row_in rows.now) number local → local.posted ≡ None) }
+{
+    let mut found = rows.first(RowKind::Local);
+    'items: while let Some((key, value)) = found {
+        let Value::Local(item) = value else {
+            unreachable!();
+        };
+        let item = item.get();
+        if item.posted.is_some() {
+            return Some(item.uuid);
+        }
+        found = rows.next_after(key);
+    }
+    None
+}
