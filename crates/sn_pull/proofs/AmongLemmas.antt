@@ -10,7 +10,8 @@ use Rattle.sn_account.specs.Sessions.{IsSession}
 use Rattle.sn_account.specs.Sound.{IsSound as IsSoundServer}
 use Rattle.sn_account.specs.Syncs.{above_of, is_first}
 use Rattle.sn_client.specs.Asking.{Reply, said}
-use Rattle.sn_client.specs.Runs.{Act, AreRounds, EndsExchange, EndsSync, Exchanges, Halt, IsRound, Round, Sends, Standing, acts_of, answered, asked, commits, most_exchanges, nothing, posting, refused, rows_done}
+use Rattle.sn_client.specs.Runs.{Act, AreRounds, EndsExchange, Halt, IsRound, Round, Sends, Standing, acts_of, answered, asked, commits, most_exchanges, nothing, posting, refused, rows_done}
+use Rattle.sn_client.proofs.Facts.{EndsAlone, ExchangesAlone}
 use Rattle.sn_client.specs.States.{IsSound}
 use Rattle.sn_client.specs.Steps.{AppliesAnswer, AppliesTo, applies}
 use Rattle.sn_client.specs.declared.error.ClientError.TheVariants as refusal
@@ -224,7 +225,7 @@ module _ (first : Rows) (n : ℕ) (before : OwnerRow) (laws : Laws first before)
       asked_ends all.1 at acts halt all.2 end numbers posted r ready reply (all_others server at.rows all.0 all.1 a all.3) same all.4 all.5 all.6 acts_are sends
       (inr (batch, inr (reply, acts_is, ends)))
 
-  ends_here : (server : Rows) (at : Standing) (count : ℕ) (acts : List Act) (halt : Halt) (end : Rows) → Met server at → EndsSync count at acts halt
+  ends_here : (server : Rows) (at : Standing) (count : ℕ) (acts : List Act) (halt : Halt) (end : Rows) → Met server at → EndsAlone count at acts halt
       → AreServedAmong before.token n server acts end → EndsHere end at count acts halt
   ends_here server at count acts halt end m (inl (done, none, is)) served =
       let same : end ≡ server = subst (λ (xs : List Act). AreServedAmong before.token n server xs end) none served in
@@ -257,7 +258,7 @@ module _ (server after rows : Rows) (n : ℕ) (owner : OwnerRow) (sets : Sets) (
     last = tt;
   }
 
-  among_end : Exchanges rows words acts halt → EndsPull after rows n owner sets words acts halt
+  among_end : ExchangesAlone rows words acts halt → EndsPull after rows n owner sets words acts halt
   among_end x =
       let went = rounds_went rows n owner laws words server begin x.rounds x.at x.later after met_first x.went
       (subst (λ (xs : List Act). AreServedAmong owner.token n server xs after) x.acts_are served) in

@@ -11,7 +11,8 @@ use Rattle.sn_account.specs.Pages.{Found}
 use Rattle.sn_account.specs.Sound.{IsSound as IsSoundServer}
 use Rattle.sn_account.specs.Syncs.{above_of, is_first}
 use Rattle.sn_client.specs.Asking.{Fails, Reply, lost, said}
-use Rattle.sn_client.specs.Runs.{Act, AreRounds, EndsBehind, EndsExchange, EndsSync, Exchanges, Halt, IsAllDone, IsCheckPlace, IsDone, IsRound, IsUnapplied, Round, Run, Standing, StopsAt, acts_of, answered, asked, broken, commits, items_of, most_exchanges, nothing, posting, refused, rows_done, sync}
+use Rattle.sn_client.specs.Runs.{Act, AreRounds, EndsBehind, EndsExchange, Halt, IsAllDone, IsCheckPlace, IsDone, IsRound, IsUnapplied, Round, Run, Standing, StopsAt, acts_of, answered, asked, broken, commits, items_of, most_exchanges, nothing, posting, refused, rows_done, sync}
+use Rattle.sn_client.proofs.Facts.{EndsAlone, ExchangesAlone, synced_alone}
 use Rattle.sn_client.specs.States.{Bytes, HasLocal, HasOwner, HasSets, IsInSlot, IsSound, owner_columns, token_of}
 use Rattle.sn_client.specs.Steps.{AppliesAnswer, AppliesTo, What, applies, start}
 use Rattle.sn_client.specs.Taking.{Progress, RunsOut, RunsOutAt, Told, is_retrieved, last_number}
@@ -317,7 +318,7 @@ module _ (server first : Rows) (n : ℕ) (before : OwnerRow) (k : Known server f
         let page = served_page server first n before k at.rows goes.stands r reply all.0 ask.request_is all.1 in
         (all.2 ∙ page.0, subst (λ (xs : List Act). Stops xs halt) (sym acts_are) (behind_stops ready r reply halt ask.ready_is ask.request_is page.1 ends))
 
-    ends_here : (count : ℕ) (acts : List Act) (halt : Halt) (end : Rows) → EndsSync count at acts halt → AreServed server acts end
+    ends_here : (count : ℕ) (acts : List Act) (halt : Halt) (end : Rows) → EndsAlone count at acts halt → AreServed server acts end
         → (end ≡ server) × EndsHere count acts halt
     ends_here count acts halt end (inl (done, none, is)) served = (
       subst (λ (xs : List Act). AreServed server xs end) none served,
@@ -431,10 +432,6 @@ pub behind_first : (server rows : Rows) (n : ℕ) (owner : OwnerRow) (sets : Set
 behind_first server rows n owner sets words sound device may =
     record { stands = stands_first server rows n owner sets sound device may; words_are = refl; last = tt }
 
-no_set : (o : Option KeySet) → o ≡ None → IsSome o → ⊥
-no_set None e some = cc
-no_set (Some set) e some = cc
-
 none_in : (rows : Rows) (identifier : Bytes) (slot : Slot) (o : Option KeySet) → rows (key.Set slot) ≡ None → IsInSlot rows identifier slot o → o ≡ None
 none_in rows identifier slot None e is = refl
 none_in rows identifier slot (Some set) e is = absurd (let has = is.1 in cc)
@@ -446,24 +443,21 @@ set_none rows slot identifier other o mine own none is = none_in rows other slot
 -- its exchanges, unless memory was wanting for them
 pub exchanges_of : (least : ℕ) (server rows : Rows) (n : ℕ) (owner : OwnerRow) (sets : Sets) (words : ChaCha) (acts : List Act) (halt : Halt)
     → MayPull server rows n owner sets → Run least sync rows words acts halt
-    → ((acts ≡ []) × (halt ≡ refused refusal.Memory)) ⊎ Exchanges rows words acts halt
+    → ((acts ≡ []) × (halt ≡ refused refusal.Memory)) ⊎ ExchangesAlone rows words acts halt
 exchanges_of least server rows n owner sets words acts halt may (inl wants) = inl wants
 exchanges_of least server rows n owner sets words acts halt may (inr (inl (none, refuses))) = absurd (let owned = may.holds.owned in cc)
-exchanges_of least server rows n owner sets words acts halt may (inr (inr (other, held, holds, inl (changing, resolves)))) = absurd (⊎_elim
-    (λ older. no_set held.older
-    (set_none rows Older owner.identifier other.identifier held.older sets.older may.holds.before may.no_older holds.before) older)
-    (λ wanted. no_set held.asked
-    (set_none rows Asked owner.identifier other.identifier held.asked sets.asked may.holds.wanted may.no_asked holds.wanted) wanted) changing)
-exchanges_of least server rows n owner sets words acts halt may (inr (inr (other, held, holds, inr (settled, x)))) = inr x
+exchanges_of least server rows n owner sets words acts halt may (inr (inr (other, held, holds, syncs))) =
+    inr (synced_alone rows words other held acts halt
+    (set_none rows Asked owner.identifier other.identifier held.asked sets.asked may.holds.wanted may.no_asked holds.wanted) syncs)
 
 module _ (server after rows : Rows) (n : ℕ) (owner : OwnerRow) (sets : Sets) (words : ChaCha) (acts : List Act) (halt : Halt)
     (k : Known server rows n owner) (device : IsSound rows) (may : MayPull server rows n owner sets) (served : AreServed server acts after) where
-  pub all_went : (x : Exchanges rows words acts halt)
+  pub all_went : (x : ExchangesAlone rows words acts halt)
       → AllWent server rows n owner k words (record { rows = rows; words = words; last = None }) x.rounds x.at x.later after
   all_went x = rounds_went server rows n owner k words (record { rows = rows; words = words; last = None }) x.rounds x.at x.later after
       (behind_first server rows n owner sets words k.sound device may) x.went (subst (λ (xs : List Act). AreServed server xs after) x.acts_are served)
 
-  exchanges_end : Exchanges rows words acts halt → (after ≡ server) × EndsPull server rows n owner sets words acts halt
+  exchanges_end : ExchangesAlone rows words acts halt → (after ≡ server) × EndsPull server rows n owner sets words acts halt
   exchanges_end x =
       let went = all_went x in
       let ends = ends_here server rows n owner k words x.at went.goes (length x.rounds) x.later halt after x.ends went.served in

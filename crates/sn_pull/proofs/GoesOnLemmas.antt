@@ -6,7 +6,8 @@ use Rattle.std.proofs.lemmas.List.Concat.{flat_map-cons}
 use Rattle.rand_chacha.specs.ChaCha.{ChaCha}
 use Rattle.sn_account.specs.Laws.{HasOneAccount}
 use Rattle.sn_client.specs.Asking.{Reply, said}
-use Rattle.sn_client.specs.Runs.{Act, AreRounds, EndsBehind, EndsExchange, EndsSync, Exchanges, Halt, Round, Standing, acts_of, asked, broken, commits, posting, refused, rows_done}
+use Rattle.sn_client.specs.Runs.{Act, AreRounds, EndsBehind, EndsExchange, Halt, Round, Standing, acts_of, asked, broken, commits, posting, refused, rows_done}
+use Rattle.sn_client.proofs.Facts.{EndsAlone, ExchangesAlone}
 use Rattle.sn_client.specs.States.{IsSound, token_of}
 use Rattle.sn_client.specs.Steps.{AppliesAnswer, AppliesTo, What, applies}
 use Rattle.sn_client.specs.declared.error.ClientError.TheVariants as refusal
@@ -93,7 +94,7 @@ module _ (server first : Rows) (n : ℕ) (before : OwnerRow) (k : Known server f
     exchange_still numbers posted r ready acts halt ask (inr (batch, inr (reply, is, ends))) =
         inr (r, reply, is ∙ ap (λ (ns : List ℕ). posting ns posted ++ asked r reply ∷ []) ask.no_numbers)
 
-    ends_still : (count : ℕ) (acts : List Act) (halt : Halt) → EndsSync count at acts halt → IsStill acts
+    ends_still : (count : ℕ) (acts : List Act) (halt : Halt) → EndsAlone count at acts halt → IsStill acts
     ends_still count acts halt (inl (done, none, is)) = inl none
     ends_still count acts halt (inr (inl (most, due, (none, is)))) = inl none
     ends_still count acts halt (inr (inr (inl (less, e)))) =
@@ -139,7 +140,7 @@ module _ (server first : Rows) (n : ℕ) (before : OwnerRow) (k : Known server f
         let page = served_page server first n before k at.rows goes.stands r reply all.0 ask.request_is all.1 in
         behind_broken ready r reply halt what changes ask.ready_is ask.request_is page.1 ends e
 
-    ends_broken : (count : ℕ) (acts : List Act) (halt : Halt) (end : Rows) (what : What) (changes : List Change) → EndsSync count at acts halt
+    ends_broken : (count : ℕ) (acts : List Act) (halt : Halt) (end : Rows) (what : What) (changes : List Change) → EndsAlone count at acts halt
         → AreServed server acts end → halt ≡ broken what changes → At (rows_after at.rows changes)
     ends_broken count acts halt end what changes (inl (done, none, is)) served e = absurd (let wrong = sym is ∙ e in cc)
     ends_broken count acts halt end what changes (inr (inl (most, due, (none, is)))) served e =
@@ -155,7 +156,7 @@ module _ (server first : Rows) (n : ℕ) (before : OwnerRow) (k : Known server f
 
 module _ (server after rows : Rows) (n : ℕ) (owner : OwnerRow) (sets : Sets) (words : ChaCha) (acts : List Act) (halt : Halt)
     (k : Known server rows n owner) (device : IsSound rows) (may : MayPull server rows n owner sets) (served : AreServed server acts after)
-    (x : Exchanges rows words acts halt) where
+    (x : ExchangesAlone rows words acts halt) where
   abbrev begin : Standing
   begin = record { rows = rows; words = words; last = None }
 

@@ -71,7 +71,7 @@ pub record MayPull (server rows : Rows) (n : ℕ) (owner : OwnerRow) (sets : Set
   pub holds : HasSets rows owner sets
   -- its session token is the account's present one: else it is refused
   pub session : IsSession server owner.token n
-  -- no change of password is under way: an older set would have items sealed again, and a set that is asked for stops the sync
+  -- no change of password is under way: an older set would have items sealed again, and a set that is asked for is resolved first
   pub no_older : sets.older ≡ None
   pub no_asked : sets.asked ≡ None
   -- no draft, and nothing that is to be sealed again on the server: else there is something to send

@@ -6,7 +6,7 @@ use Rattle.sn_account.specs.Lookups.{IsNamed}
 use Rattle.sn_account.specs.Rule.{Rule}
 use Rattle.sn_account.specs.Rules.{IsPresent, Registers, TellsParams}
 use Rattle.sn_client.specs.Runs.{Act, AsksAccount, AsksParams, Halt, IsOrMayBe, KeepsAccount, Run, RunsRegister, SignsInAgain, SignsInBy, SignsInUnder, SignsInWith, nothing, register, sign_in}
-use Rattle.sn_client.specs.States.{Bytes, HasOwner}
+use Rattle.sn_client.specs.States.{Bytes, HasOwner, HasSets}
 use Rattle.sn_client.specs.Steps.{What, begins, renews}
 use Rattle.sn_client.specs.declared.error.ClientError.TheVariants as refusal
 use Rattle.sn_client.specs.declared.error.Place.TheVariants as place
@@ -38,6 +38,7 @@ use Rattle.sn_sync.specs.declared.request.Request.TheVariants as request
 use Rattle.sn_world.proofs.AskLemmas.{Behind, answered_stands, asks_goes, holds_made, made_of, made_world, served_world, serves_so}
 use Rattle.sn_world.proofs.CallLemmas.{Goes, Stands, once_goes, refuses_goes}
 use Rattle.sn_world.proofs.DeviceRows.{one_owner}
+use Rattle.sn_world.proofs.PresentSets.{told_is_present}
 use Rattle.sn_world.proofs.ShowsLemmas.{holder_from}
 use Rattle.sn_world.proofs.Tokens.{apart_of, named_identifier, one_account, there_is}
 use Rattle.sn_world.specs.Calls.{AreServed, Fate, GoesCall, IsOnlyOf, RegistersGo, SignInsGo}
@@ -175,21 +176,24 @@ module _ (laws : AccountLaws) (secret : Bytes) (differ : TokensDiffer secret) (n
         asks_goes laws.keeps laws.says secret differ name None v t server rows k signing tt (KeepsAccount rows words what) acts fates halt
         (signed_on what halt may) asks over
 
-    again_goes : (sets : Sets) (owner : OwnerRow) (acts : List Act) (fates : List Fate) (halt : Halt) → HasOwner rows owner → owner.identifier ≡ identifier
+    again_goes : (sets : Sets) (owner : OwnerRow) (acts : List Act) (fates : List Fate) (halt : Halt) → HasSets rows owner sets → owner.identifier ≡ identifier
+        → ((n : ℕ) → IsNamed server identifier n → IsPresent server n set.params)
         → SignsInAgain rows words identifier sets set acts halt → AreServed server acts fates → Goes secret name None v t server rows acts fates halt
-    again_goes sets owner acts fates halt has is (inl (same, differs, refuses)) over =
+    again_goes sets owner acts fates halt holds is told (inl (same, differs, refuses)) over =
         refuses_goes laws.keeps laws.says secret differ name None v t server rows acts fates halt refusal.WrongPassword k refuses over
-    again_goes sets owner acts fates halt has is (inr (inl (same, asks))) over =
+    again_goes sets owner acts fates halt holds is told (inr (inl (same, asks))) over =
         let here : Stands secret name v t v.server rows = record { holds = k.holds; server_is = refl; device_is = k.device_is } in
-        let own = owned_by secret v t name rows owner identifier here has is in
+        let own = owned_by secret v t name rows owner identifier here holds.owned is in
         asks_account (λ uuid token. renews token) acts fates halt
         (λ now changes token account uuid rule changed. laws.renews secret v t identifier set.pw now changes token account uuid name own.device k.holds
         (subst (λ (x : Rows). Rule x signing now changes (answer.Account token account uuid)) (sym k.server_is) rule) own.named own.own)
         asks over
-    again_goes sets owner acts fates halt has is (inr (inr (other, inl (older, refuses)))) over =
+    again_goes sets owner acts fates halt holds is told (inr (inr (other, inl (older, refuses)))) over =
         refuses_goes laws.keeps laws.says secret differ name None v t server rows acts fates halt refusal.WrongPassword k refuses over
-    again_goes sets owner acts fates halt has is (inr (inr (other, inr (not, joins)))) over =
-        refuses_goes laws.keeps laws.says secret differ name None v t server rows acts fates halt (refusal.Refused 401 (codes "bad-auth")) k joins over
+    again_goes sets owner acts fates halt holds is told (inr (inr (other, inr (not, asks)))) over =
+        absurd (other (told_is_present secret v t name k.holds owner sets
+        (subst (λ (r : Rows). HasSets r owner sets) (sym k.device_is) holds) identifier set.params is
+        (subst (λ (x : Rows). (n : ℕ) → IsNamed x identifier n → IsPresent x n set.params) (sym k.server_is) told)))
 
     pub with_goes : (acts : List Act) (fates : List Fate) (halt : Halt) → IsOrMayBe rows identifier
         → ((n : ℕ) → IsNamed server identifier n → IsPresent server n set.params) → IsOnlySet t set
@@ -201,7 +205,7 @@ module _ (laws : AccountLaws) (secret : Bytes) (differ : TokensDiffer secret) (n
         (subst (λ (x : Rows). (n : ℕ) → IsNamed x identifier n → IsPresent x n set.params) (sym k.server_is) told) only)
         asks over
     with_goes acts fates halt may told only (inr (owner, sets, holds, again)) over =
-        again_goes sets owner acts fates halt holds.owned (may owner holds.owned) again over
+        again_goes sets owner acts fates halt holds (may owner holds.owned) told again over
 
   -- with the parameters that are answered
   module _ (v : World) (t : Ideal) (server rows : Rows) (words : ChaCha) (identifier password : Bytes) (k : Stands secret name v t server rows)

@@ -1,7 +1,7 @@
 -- Steps of the world one after another; and the calls that ask a server for nothing.
 use Rattle.std.proofs.Common.{◌≡◌, ℕ, List, [], ◌∷◌, ◌++◌, length, Option, None, true, false, refl, sym, ap, ◌∙◌, subst, inl, inr, append_assoc}
 use Rattle.rand_chacha.specs.ChaCha.{ChaCha}
-use Rattle.sn_client.specs.Runs.{Act, Call, CommitsOnce, DeletesItem, Given, GivesText, Halt, ListsItems, PutsItem, Refuses, Run, RunsCall, StopsAt, WithAccount, WithContent, WithItem, a_text, a_uuid, answered, broken, commits as committed, content, delete, edit, lines, list, nothing, put, refused, register, rows_done, sign_in, sync}
+use Rattle.sn_client.specs.Runs.{Act, Call, CommitsOnce, DeletesItem, Given, GivesText, Halt, ListsItems, PutsItem, Refuses, Run, RunsCall, StopsAt, WithAccount, WithContent, WithItem, a_text, a_uuid, answered, broken, commits as committed, content, delete, edit, lines, list, nothing, passwd, put, refused, register, rows_done, sign_in, sync}
 use Rattle.sn_client.specs.States.{Bytes}
 use Rattle.sn_client.specs.Steps.{Step, What, deletes, edits, puts}
 use Rattle.sn_client.specs.declared.error.ClientError.{ClientError}
@@ -231,6 +231,7 @@ module _ (keeps : Keeps) (says : SaysSome) (secret : Bytes) (differ : TokensDiff
     goes least (register identifier password cost) quiet runs = absurd quiet
     goes least (sign_in identifier password) quiet runs = absurd quiet
     goes least sync quiet runs = absurd quiet
+    goes least (passwd password cost) quiet runs = absurd quiet
     goes least (put kind text) quiet runs =
         with_account (λ owner sets. WithContent text (PutsItem (w.devices name) words owner kind text))
         (λ owner sets p. with_content text (PutsItem (w.devices name) words owner kind text) (puts_item owner kind text) p) runs
@@ -258,6 +259,7 @@ begins_none (delete uuid) quiet = refl
 begins_none list quiet = refl
 begins_none (content uuid) quiet = refl
 begins_none sync quiet = refl
+begins_none (passwd password cost) quiet = absurd quiet
 
 pub leads_keep : Keeps → LeadsKeep
 leads_keep keeps secret w s name steps server device differ h x = trace_from keeps secret differ steps x.moves w x.next s h x.goes

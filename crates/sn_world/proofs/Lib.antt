@@ -28,6 +28,7 @@ pub mod Making
 pub mod OneSets
 pub mod OwnStrings
 pub mod Posted
+pub mod PresentSets
 pub mod PulledAll
 pub mod Pulling
 pub mod Pulls

@@ -3,7 +3,7 @@ use Rattle.std.proofs.Common.{◌≡◌, ◌≢◌, ℕ, List, [], ◌∷◌, �
 use Rattle.std.specs.Prelude.{if◌then◌else◌}
 use Rattle.std.specs.Str.{bytes_eq}
 use Rattle.rand_chacha.specs.ChaCha.{ChaCha}
-use Rattle.sn_client.specs.Runs.{Act, Call, Halt, answered, asked, broken, commits as committed, content, delete, edit, list, put, refused, register, rows_done, sign_in, sync}
+use Rattle.sn_client.specs.Runs.{Act, Call, Halt, answered, asked, broken, commits as committed, content, delete, edit, list, passwd, put, refused, register, rows_done, sign_in, sync}
 use Rattle.sn_laws.proofs.Facts.{clash, same_text, text_same}
 use Rattle.sn_laws.specs.Each.{Each}
 use Rattle.sn_laws.specs.Lookups.{Bytes, empty}
@@ -128,6 +128,7 @@ goes_call laws secret w s name least (content uuid) words acts fates halt differ
     laws.quiet secret w s name least (content uuid) words acts fates halt differ h tt x.runs x.over
 goes_call laws secret w s name least sync words acts fates halt differ h x =
     laws.syncs secret w s name least words acts fates halt differ h x.runs x.over
+goes_call laws secret w s name least (passwd password cost) words acts fates halt differ h x = absurd x.may
 
 ends_so : (secret : Bytes) (w : World) (s : Ideal) (name : Bytes) (steps : List Happens) (server device : Rows) (halt : Halt) (stands : Bool)
     → LeadsTo secret w s name steps server device halt → Leads secret w s name (with_end name halt stands steps) server (rows_ended halt stands device)

@@ -1,13 +1,13 @@
 -- A whole sync is steps of the world, whichever of its requests and answers are lost.
 use Rattle.std.proofs.Common.{◌≡◌, ℕ, List, [], ◌∷◌, ◌++◌, length, Option, None, true, false, refl, sym, ap, ◌∙◌, subst, inl, inr, append_assoc}
-use Rattle.std.specs.Prelude.{codes}
 use Rattle.std.specs.List.{flat_map}
 use Rattle.std.proofs.lemmas.List.{append-nil}
 use Rattle.rand_chacha.specs.ChaCha.{ChaCha}
 use Rattle.sn_account.specs.Rule.{Rule}
 use Rattle.sn_account.specs.Tells.{AreApart, uuids}
 use Rattle.sn_client.specs.Asking.{Reply, said}
-use Rattle.sn_client.specs.Runs.{Act, AreRounds, EndsBehind, EndsExchange, EndsSync, Exchanges, Halt, IsRound, Round, Run, Sends, Standing, SyncsItems, acts_of, asked, commits as committed, items_of, posting, nothing, rows_done, sync}
+use Rattle.sn_client.specs.Runs.{Act, AreRounds, EndsBehind, EndsExchange, Halt, IsRound, Round, Run, Sends, Standing, acts_of, asked, commits as committed, items_of, posting, nothing, rows_done, sync}
+use Rattle.sn_client.proofs.Facts.{EndsAlone, ExchangesAlone, synced_alone}
 use Rattle.sn_client.specs.Sending.{PostsAll}
 use Rattle.sn_client.specs.States.{Bytes}
 use Rattle.sn_client.specs.Steps.{Step, applies, posts}
@@ -16,14 +16,13 @@ use Rattle.sn_laws.specs.Runs.{end_from}
 use Rattle.sn_laws.specs.declared.ideal.Ideal.{Ideal}
 use Rattle.sn_rows.specs.Table.{Rows, rows_after}
 use Rattle.sn_rows.specs.declared.change.Change.{Change}
-use Rattle.sn_rows.specs.declared.device_rows.OwnerRow.{OwnerRow}
-use Rattle.sn_sets.specs.declared.sets.Sets.{Sets}
 use Rattle.sn_string.specs.declared.params.KeySet.{KeySet}
 use Rattle.sn_sync.specs.Fits.{FitsRequest}
 use Rattle.sn_sync.specs.declared.answer.Answer.{Answer}
 use Rattle.sn_sync.specs.declared.request.Request.{Request}
 use Rattle.sn_world.proofs.AskLemmas.{ask_leads, is_answered}
-use Rattle.sn_world.proofs.CallLemmas.{Goes, Stands, answers_goes, broken_leads, commit_leads, leads_on, leads_to_on, refused_here, refuses_goes, stands_then, stops_goes, with_account}
+use Rattle.sn_world.proofs.CallLemmas.{Goes, Stands, answers_goes, broken_leads, commit_leads, leads_on, leads_to_on, refused_here, refuses_goes, stands_then, stops_goes}
+use Rattle.sn_world.proofs.PresentSets.{unasked}
 use Rattle.sn_world.proofs.RoundLemmas.{RoundLaws, goes_on, round_goes, sent_of}
 use Rattle.sn_world.specs.Calls.{AreServed, Fate, IsServed, Leads, LeadsTo, SyncsGo, call_steps, rows_behind, rows_served, served}
 use Rattle.sn_world.specs.Committing.{AreDifferent}
@@ -197,7 +196,7 @@ module _ (laws : RoundLaws) (keeps : Keeps) (says : SaysSome) (secret : Bytes) (
         beyond (subst (λ (y : Rows). EndsBehind y words r reply halt) ready_is ends)))
 
   end_goes : (v : World) (t : Ideal) (server : Rows) (count : ℕ) (at : Standing) (acts : List Act) (fates : List Fate) (halt : Halt)
-      → Stands secret name v t server at.rows → EndsSync count at acts halt → AreServed server acts fates
+      → Stands secret name v t server at.rows → EndsAlone count at acts halt → AreServed server acts fates
       → Goes secret name None v t server at.rows acts fates halt
   end_goes v t server count at acts fates halt k (inl (done, none, is)) over =
       answers_goes keeps says secret differ name None v t server at.rows acts fates halt nothing at.words k none is over
@@ -257,7 +256,7 @@ module _ (laws : RoundLaws) (keeps : Keeps) (says : SaysSome) (secret : Bytes) (
     abbrev here : Type 0
     here = Goes secret name None w s w.server (w.devices name) acts fates halt
 
-    exchanges_go : Exchanges (w.devices name) words acts halt → here
+    exchanges_go : ExchangesAlone (w.devices name) words acts halt → here
     exchanges_go x =
         let first : Standing = record { rows = w.devices name; words = words; last = None } in
         let all : Later (w.devices name) (flat_map acts_of x.rounds ++ x.later) halt =
@@ -266,15 +265,11 @@ module _ (laws : RoundLaws) (keeps : Keeps) (says : SaysSome) (secret : Bytes) (
         subst (λ (xs : List Act). Goes secret name None w s w.server (w.devices name) xs fates halt) (sym x.acts_are)
         (all w s w.server fates (record { holds = h; server_is = refl; device_is = refl }) (subst (λ (xs : List Act). AreServed w.server xs fates) x.acts_are over))
 
-    syncs_items : (owner : OwnerRow) (sets : Sets) → SyncsItems (w.devices name) words owner sets acts halt → here
-    syncs_items owner sets (inl (changing, refuses)) =
-        refused_here keeps says secret differ name w s h words acts fates halt over (refusal.Refused 401 (codes "bad-auth")) refuses
-    syncs_items owner sets (inr (settled, exchanges)) = exchanges_go exchanges
-
     sync_goes : (least : ℕ) → Run least sync (w.devices name) words acts halt → here
     sync_goes least (inl wants) = refused_here keeps says secret differ name w s h words acts fates halt over refusal.Memory wants
-    sync_goes least (inr runs) =
-        with_account keeps says secret differ name w s h words acts fates halt over (SyncsItems (w.devices name) words) syncs_items runs
+    sync_goes least (inr (inl (none, refuses))) = refused_here keeps says secret differ name w s h words acts fates halt over refusal.NoAccount refuses
+    sync_goes least (inr (inr (owner, sets, holds, syncs))) =
+        exchanges_go (synced_alone (w.devices name) words owner sets acts halt (unasked secret w s name h owner sets holds) syncs)
 
 pub syncs_go : RoundLaws → Keeps → SaysSome → SyncsGo
 syncs_go laws keeps says secret w s name least words acts fates halt differ h runs over = record {

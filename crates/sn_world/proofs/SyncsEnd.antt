@@ -5,8 +5,10 @@ use Rattle.std.specs.List.{flat_map}
 use Rattle.std.proofs.lemmas.List.{append-nil}
 use Rattle.rand_chacha.specs.ChaCha.{ChaCha}
 use Rattle.sn_client.specs.Asking.{Reply, said}
-use Rattle.sn_client.specs.Runs.{Act, AreRounds, EndsBehind, EndsExchange, EndsSync, Exchanges, Given, IsDone, IsRound, Round, Run, StopsAt, Standing, acts_of, answered, asked, commits as committed, posting, refused, rows_done, sync}
+use Rattle.sn_client.specs.Runs.{Act, AreRounds, EndsBehind, EndsExchange, Given, IsDone, IsRound, Round, Run, StopsAt, Standing, acts_of, answered, asked, commits as committed, posting, refused, rows_done, sync}
+use Rattle.sn_client.proofs.Facts.{EndsAlone, ExchangesAlone, synced_alone}
 use Rattle.sn_client.specs.Sending.{NoneWaits}
+use Rattle.sn_client.specs.States.{HasSets}
 use Rattle.sn_client.specs.Steps.{What, applies}
 use Rattle.sn_client.specs.declared.error.ClientError.{ClientError}
 use Rattle.sn_laws.proofs.Facts.{end_from-append, one_there}
@@ -20,7 +22,9 @@ use Rattle.sn_laws.specs.declared.moves.Move.{Move}
 use Rattle.sn_rows.specs.Table.{Rows}
 use Rattle.sn_rows.specs.declared.body.RowBody.{RowBody}
 use Rattle.sn_rows.specs.declared.change.Change.{Change}
+use Rattle.sn_rows.specs.declared.device_rows.OwnerRow.{OwnerRow}
 use Rattle.sn_rows.specs.declared.key.Key.TheVariants as key
+use Rattle.sn_sets.specs.declared.sets.Sets.{Sets}
 use Rattle.sn_shows.specs.Devices.{ShowsDeviceAs, ShowsDraft, ShowsDrafted, ShowsHolder}
 use Rattle.sn_shows.specs.Laws.{HasAccount}
 use Rattle.sn_string.specs.declared.params.KeySet.{KeySet}
@@ -29,6 +33,7 @@ use Rattle.sn_sync.specs.declared.answer.Answer.TheVariants as answer
 use Rattle.sn_sync.specs.declared.answer.Conflict.{Conflict}
 use Rattle.sn_sync.specs.declared.item.Item.{Item}
 use Rattle.sn_sync.specs.declared.request.Request.{Request}
+use Rattle.sn_world.proofs.PresentSets.{unasked}
 use Rattle.sn_world.proofs.SyncCalls.{rows_over}
 use Rattle.sn_world.proofs.Traced.{trace_from}
 use Rattle.sn_world.specs.Calls.{AreServed, Fate, Leads, SyncsGo, call_steps, fate_steps, rows_behind, rows_served}
@@ -144,7 +149,7 @@ exchange_not given left words numbers posted r ready acts (inl (some, none, stop
 exchange_not given left words numbers posted r ready acts (inr (batch, inl (is, ends))) = absurd (cc)
 exchange_not given left words numbers posted r ready acts (inr (batch, inr (reply, is, ends))) = behind_not given left ready words r reply ends
 
-all_done : (given : Given) (left : ChaCha) (count : ℕ) (at : Standing) (acts : List Act) → EndsSync count at acts (answered given left)
+all_done : (given : Given) (left : ChaCha) (count : ℕ) (at : Standing) (acts : List Act) → EndsAlone count at acts (answered given left)
     → IsDone at.rows at.last × (acts ≡ [])
 all_done given left count at acts (inl (done, none, is)) = (done, none)
 all_done given left count at acts (inr (inl (all, due, (none, is)))) = absurd (unrefused given left _ is)
@@ -152,12 +157,13 @@ all_done given left count at acts (inr (inr (inl (few, ends)))) =
     absurd (exchange_not given left at.words ends.numbers ends.posted ends.request ends.ready acts ends.ends_so)
 all_done given left count at acts (inr (inr (inr (none, is)))) = absurd (unrefused given left _ is)
 
-exchanges_of : (least : ℕ) (rows : Rows) (words left : ChaCha) (acts : List Act) (given : Given) → Run least sync rows words acts (answered given left)
-    → Exchanges rows words acts (answered given left)
-exchanges_of least rows words left acts given (inl (none, is)) = absurd (unrefused given left _ is)
-exchanges_of least rows words left acts given (inr (inl (no_account, (none, is)))) = absurd (unrefused given left _ is)
-exchanges_of least rows words left acts given (inr (inr (owner, sets, has, inl (changing, (none, is))))) = absurd (unrefused given left _ is)
-exchanges_of least rows words left acts given (inr (inr (owner, sets, has, inr (settled, exchanges)))) = exchanges
+exchanges_of : (least : ℕ) (rows : Rows) (words left : ChaCha) (acts : List Act) (given : Given)
+    → ((owner : OwnerRow) (sets : Sets) → HasSets rows owner sets → sets.asked ≡ None) → Run least sync rows words acts (answered given left)
+    → ExchangesAlone rows words acts (answered given left)
+exchanges_of least rows words left acts given unasked_so (inl (none, is)) = absurd (unrefused given left _ is)
+exchanges_of least rows words left acts given unasked_so (inr (inl (no_account, (none, is)))) = absurd (unrefused given left _ is)
+exchanges_of least rows words left acts given unasked_so (inr (inr (owner, sets, has, syncs))) =
+    synced_alone rows words owner sets acts (answered given left) (unasked_so owner sets has) syncs
 
 -- its last answer has no cursor, and nothing waits
 record IsWhole (rows : Rows) (last : Option Answer) : Type 0 where
@@ -205,7 +211,7 @@ module _ (synced : SyncedRows) (secret : Bytes) (w : World) (s : Ideal) (h : Hol
       let there = all.has in
       let none : w.devices name key.Owner ≡ None = nothing.none key.Owner in
       absurd (cc)
-  by_device (Some d) is (a, account, holder, unasked) =
+  by_device (Some d) is (a, account, holder, _) =
       let has : HasAccount s name d a = record { device = is; account = account } in
       let undrafted = no_draft (w.devices name) s name d a holder none_waits in
       record {
@@ -224,7 +230,7 @@ module _ (synced : SyncedRows) (secret : Bytes) (w : World) (s : Ideal) (h : Hol
 
 module _ (whole : AppliedWhole) (synced : SyncedRows) (keeps : Keeps) (secret : Bytes) (differ : TokensDiffer secret) (w : World) (s : Ideal) (h : Holds secret w s)
     (name : Bytes) (words left : ChaCha) (acts : List Act) (fates : List Fate) (given : Given) (over : AreServed w.server acts fates)
-    (x : Exchanges (w.devices name) words acts (answered given left))
+    (x : ExchangesAlone (w.devices name) words acts (answered given left))
     (leads : Leads secret w s name (call_steps name None acts fates) (rows_served w.server fates) (rows_done (w.devices name) acts)) where
   done : IsDone x.at.rows x.at.last × (x.later ≡ [])
   done = all_done given left _ x.at x.later x.ends
@@ -270,5 +276,5 @@ syncs_end whole synced keeps go secret w s name least words left acts fates give
     record {
       leads = leads;
       synced = synced_there whole synced keeps secret differ w s h name words left acts fates given over
-          (exchanges_of least (w.devices name) words left acts given runs) leads;
+          (exchanges_of least (w.devices name) words left acts given (unasked secret w s name h) runs) leads;
     }

@@ -2,7 +2,7 @@
 use Rattle.std.specs.Prelude.{◌≡◌, ◌⊎◌, ℕ, List, [], ◌∷◌, ◌++◌, Bool, true, false, Option, Some, None}
 use Rattle.sn_account.specs.Rule.{Rule}
 use Rattle.sn_client.specs.Asking.{Reply, lost, said, unheard, unread}
-use Rattle.sn_client.specs.Runs.{Act, Call, Halt, Run, answered, asked, broken, commits as committed, content, delete, edit, list, put, refused, register, rows_done, sign_in, sync}
+use Rattle.sn_client.specs.Runs.{Act, Call, Halt, Run, answered, asked, broken, commits as committed, content, delete, edit, list, passwd, put, refused, register, rows_done, sign_in, sync}
 use Rattle.sn_keys.specs.Keys.{AreKeysOf}
 use Rattle.sn_laws.specs.Lookups.{Bytes}
 use Rattle.sn_laws.specs.declared.ideal.Ideal.{Ideal}
@@ -110,6 +110,7 @@ BeginsBy (delete uuid) begins = begins ≡ None
 BeginsBy list begins = begins ≡ None
 BeginsBy (content uuid) begins = begins ≡ None
 BeginsBy sync begins = begins ≡ None
+BeginsBy (passwd password cost) begins = begins ≡ None
 
 -- the call's acts, with these fates of its requests, are steps that leave the rows which the acts and the fates leave
 pub record GoesCall (secret : Bytes) (w : World) (s : Ideal) (name : Bytes) (call : Call) (acts : List Act) (fates : List Fate) (halt : Halt) : Type 0 where
@@ -142,6 +143,7 @@ AsksNothing (delete uuid) = Unit {0}
 AsksNothing list = Unit {0}
 AsksNothing (content uuid) = Unit {0}
 AsksNothing sync = ⊥
+AsksNothing (passwd password cost) = ⊥
 
 -- whatever such a call does
 abbrev pub CallsGo : Type 0

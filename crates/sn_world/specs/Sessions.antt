@@ -5,7 +5,7 @@ use Rattle.std.specs.Str.{bytes_eq}
 use Rattle.rand_chacha.specs.ChaCha.{ChaCha}
 use Rattle.sn_account.specs.Lookups.{HasStore}
 use Rattle.sn_client.specs.Asking.{unheard}
-use Rattle.sn_client.specs.Runs.{Act, Call, Halt, Run, answered, broken, content, delete, edit, list, put, refused, register, rows_done, sign_in, sync}
+use Rattle.sn_client.specs.Runs.{Act, Call, Halt, Run, answered, broken, content, delete, edit, list, passwd, put, refused, register, rows_done, sign_in, sync}
 use Rattle.sn_laws.specs.Lookups.{Bytes, empty}
 use Rattle.sn_laws.specs.Runs.{Legal, end, end_from}
 use Rattle.sn_laws.specs.declared.ideal.Ideal.{Ideal}
@@ -35,7 +35,7 @@ pub data Line : Type 0 where
   -- a request that this device made is delivered late or again, and nobody hears the answer
   again : Bytes → Request → Fate → Line
 
--- a sign-in needs that no second password was found
+-- a sign-in needs that no second password was found; no password is changed yet
 abbrev pub MayAsk : Ideal → Call → Type 0
 MayAsk s (register identifier password cost) = Unit {0}
 MayAsk s (sign_in identifier password) = IsOnlyOf s identifier password
@@ -45,6 +45,7 @@ MayAsk s (delete uuid) = Unit {0}
 MayAsk s list = Unit {0}
 MayAsk s (content uuid) = Unit {0}
 MayAsk s sync = Unit {0}
+MayAsk s (passwd password cost) = ⊥
 
 -- a whole call of the device's rows as they stand, over the server's as they stand
 pub record IsCalled (w : World) (s : Ideal) (name : Bytes) (least : ℕ) (call : Call) (words : ChaCha) (acts : List Act) (fates : List Fate) (halt : Halt) : Type 0 where
