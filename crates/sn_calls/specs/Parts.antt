@@ -1,6 +1,6 @@
 -- A call by its parts: what it has the device do, the server that it asks, and whether words are drawn for it.
 use Rattle.std.specs.Prelude.{◌≡◌, ℕ, List, Bool, true, false, Option, Some, None, string_bytes, ⊤}
-use Rattle.sn_client.specs.Runs.{Call, Given, a_text, a_uuid, content, delete, edit, lines, list, nothing, put, register, sign_in, sync}
+use Rattle.sn_client.specs.Runs.{Call, Given, a_text, a_uuid, content, delete, edit, lines, list, nothing, passwd, put, register, sign_in, sync}
 use Rattle.sn_client.specs.States.{Bytes}
 use Rattle.sn_client.specs.declared.error.ClientError.TheVariants as refusal
 use Rattle.sn_client.specs.declared.error.DeviceError.{DeviceError}
@@ -8,7 +8,7 @@ use Rattle.sn_client.specs.declared.error.DeviceError.TheVariants as load
 use Rattle.sn_rows.specs.Bounds.{HasLength}
 use Rattle.sn_string.specs.Bounds.{IsIdentifier}
 use Rattle.sn_calls.specs.declared.device_call.DeviceCall.{DeviceCall}
-use Rattle.sn_calls.specs.declared.device_call.DeviceCall.TheVariants.{Register, SignIn, Put, Edit, Delete, List as ListItems, Content, Sync}
+use Rattle.sn_calls.specs.declared.device_call.DeviceCall.TheVariants.{Register, SignIn, Put, Edit, Delete, List as ListItems, Content, Sync, ChangePassword}
 use Rattle.sn_calls.specs.declared.ends.Answered.{Answered}
 use Rattle.sn_calls.specs.declared.ends.Answered.TheVariants as answer
 use Rattle.sn_calls.specs.declared.ends.CallEnd.{CallEnd}
@@ -24,6 +24,7 @@ call_of (Delete uuid) = delete uuid
 call_of ListItems = list
 call_of (Content uuid) = content uuid
 call_of (Sync server) = sync
+call_of (ChangePassword server password cost) = passwd password.now cost
 
 -- the host that it asks, if it asks one
 abbrev pub server_of : DeviceCall → Option Bytes
@@ -35,6 +36,7 @@ server_of (Delete uuid) = None
 server_of ListItems = None
 server_of (Content uuid) = None
 server_of (Sync server) = Some server.now
+server_of (ChangePassword server password cost) = Some server.now
 
 -- whether words are drawn for it: uuids, nonces and initialization vectors come of them
 abbrev pub draws : Call → Bool
@@ -46,6 +48,7 @@ draws (delete uuid) = false
 draws list = false
 draws (content uuid) = false
 draws sync = true
+draws (passwd password cost) = true
 
 -- an identifier has 1 to 254 bytes, an item's type 1 to 255
 abbrev pub HasBounds : Call → Type 0
@@ -57,6 +60,7 @@ HasBounds (delete uuid) = ⊤
 HasBounds list = ⊤
 HasBounds (content uuid) = ⊤
 HasBounds sync = ⊤
+HasBounds (passwd password cost) = ⊤
 
 -- what a call gives that is answered
 abbrev pub given_of : Answered → Given

@@ -46,6 +46,12 @@ pub enum DeviceCall<'a> {
     Sync {
         server: &'a str,
     },
+    /// Changes the account's password. The time goes with the cost.
+    ChangePassword {
+        server: &'a str,
+        password: &'a str,
+        cost: u32,
+    },
 }
 
 impl<'a> DeviceCall<'a> {
@@ -57,7 +63,8 @@ impl<'a> DeviceCall<'a> {
         match *self {
             DeviceCall::Register { server, .. }
             | DeviceCall::SignIn { server, .. }
-            | DeviceCall::Sync { server } => Some(server),
+            | DeviceCall::Sync { server }
+            | DeviceCall::ChangePassword { server, .. } => Some(server),
             DeviceCall::Put { .. }
             | DeviceCall::Edit { .. }
             | DeviceCall::Delete { .. }

@@ -76,6 +76,10 @@ pub(crate) fn make<D: Disk, L: Link, R: Seeds>(
             let mut words = Words::from_seed(seeds.draw());
             ended(device.sync(link, &mut words))
         }
+        DeviceCall::ChangePassword { password, cost, .. } => {
+            let mut words = Words::from_seed(seeds.draw());
+            ended(device.passwd(link, &mut words, password, cost))
+        }
     }
 }
 

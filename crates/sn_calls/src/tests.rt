@@ -16,6 +16,9 @@ use uuid::Uuid;
 const REGISTERED: &[u8] =
     b"HTTP/1.1 200 OK\r\nContent-Length: 87\r\n\r\n{\"token\":\"t\",\"user\":{\"email\":\"ann@home\",\"uuid\":\"00000000-0000-8000-8000-000000000001\"}}";
 
+const SYNCED: &[u8] =
+    b"HTTP/1.1 200 OK\r\nContent-Length: 91\r\n\r\n{\"conflicts\":[],\"cursor_token\":null,\"retrieved_items\":[],\"saved_items\":[],\"sync_token\":\"t\"}";
+
 const REGISTER: DeviceCall<'static> = DeviceCall::Register {
     server: "localhost:1",
     identifier: "ann@home",
@@ -25,6 +28,12 @@ const REGISTER: DeviceCall<'static> = DeviceCall::Register {
 
 const SYNC: DeviceCall<'static> = DeviceCall::Sync {
     server: "localhost:1",
+};
+
+const CHANGE: DeviceCall<'static> = DeviceCall::ChangePassword {
+    server: "localhost:1",
+    password: "another secret",
+    cost: 2,
 };
 
 const PUT: DeviceCall<'static> = DeviceCall::Put {
@@ -186,6 +195,33 @@ fn synced(alloc: Global, answers: &[&[u8]], failing: &[u64]) -> Result<&'static 
     let mut link = link_of(alloc, answers, failing)?;
     let end = made(alloc, &mut shelf, &mut link, &SYNC)?;
     Ok(told(&end).0)
+}
+
+// What a change of password comes to over a link that gives these answers.
+fn changed(alloc: Global, answers: &[&[u8]]) -> Result<&'static str, Fail> {
+    let mut shelf = registered(alloc)?;
+    let mut link = link_of(alloc, answers, &[])?;
+    let end = made(alloc, &mut shelf, &mut link, &CHANGE)?;
+    Ok(told(&end).0)
+}
+
+// It syncs, asks for the new set, and syncs again.
+#[test]
+fn a_change_of_password(rt: HostRuntime) -> Result<(), Fail> {
+    assert_eq!(rt;
+        changed(rt.alloc(), &[SYNCED, REGISTERED, SYNCED])?,
+        "answered"
+    );
+    Ok(())
+}
+
+#[test]
+fn a_change_whose_answer_is_lost(rt: HostRuntime) -> Result<(), Fail> {
+    assert_eq!(rt;
+        changed(rt.alloc(), &[SYNCED])?,
+        "link fault of an exchange"
+    );
+    Ok(())
 }
 
 #[test]

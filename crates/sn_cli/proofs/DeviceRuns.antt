@@ -36,6 +36,7 @@ takes_input (task.delete uuid) takes = absurd takes
 takes_input task.list takes = absurd takes
 takes_input (task.content uuid) takes = absurd takes
 takes_input (task.sync server) takes = absurd takes
+takes_input (task.change_password server cost) takes = tt
 
 -- the words give an identifier within its bounds
 pub has_bounds : (words : List (List ℕ)) (t : Task) → GivesTask words t → HasTaskBounds t
@@ -47,6 +48,7 @@ has_bounds words (task.delete uuid) gives = tt
 has_bounds words task.list gives = tt
 has_bounds words (task.content uuid) gives = tt
 has_bounds words (task.sync server) gives = tt
+has_bounds words (task.change_password server cost) gives = tt
 
 no_link_fault : (refusal : ClientRefusal) → client_error refusal ≢ error.LinkFault
 no_link_fault client.NoAccount is = cc
@@ -61,6 +63,7 @@ no_link_fault (client.OtherAccount identifier) is = cc
 no_link_fault (client.HasAccount identifier) is = cc
 no_link_fault (client.Cost cost) is = cc
 no_link_fault (client.NumbersUsed next) is = cc
+no_link_fault (client.Rekey why) is = cc
 no_link_fault (client.TooLarge size) is = cc
 
 no_server_fault : (number : ℕ) (tag : List ℕ) → error.Refused number tag ≢ error.LinkFault
@@ -224,6 +227,7 @@ password_kept (task.delete uuid) text takes = absurd takes
 password_kept task.list text takes = absurd takes
 password_kept (task.content uuid) text takes = absurd takes
 password_kept (task.sync server) text takes = absurd takes
+password_kept (task.change_password server cost) text takes = refl
 
 -- which is the whole
 pub password_read : (t : Task) (i j : Option (List ℕ)) (text : List ℕ) → TakesPassword t → ReadsFor t i j text → ReadsText i j text
@@ -235,6 +239,7 @@ password_read (task.delete uuid) i j text takes read = absurd takes
 password_read task.list i j text takes read = absurd takes
 password_read (task.content uuid) i j text takes read = absurd takes
 password_read (task.sync server) i j text takes read = absurd takes
+password_read (task.change_password server cost) i j text takes read = read
 
 -- an input without a password ends the run
 pub no_password : (ends : List ℕ → Call → Option (List ℕ) → CallEnd → Type 0) (untouched : Type 0) (line : DeviceLine) (i j o p : Option (List ℕ))
@@ -314,6 +319,7 @@ taken_read (task.delete uuid) i j text takes read = absurd takes
 taken_read task.list i j text takes read = absurd takes
 taken_read (task.content uuid) i j text takes read = absurd takes
 taken_read (task.sync server) i j text takes read = absurd takes
+taken_read (task.change_password server cost) i j text takes read = read
 
 -- a text that is read for a task is what is kept, where it isn't a note's
 pub content_taken : (t : Task) (i j : Option (List ℕ)) (result : Result (String Global) Status) → TakesInput t → ((text : List ℕ) → kept_of t text ≡ text)

@@ -40,6 +40,7 @@ client_error (client.OtherAccount identifier) = error.OtherAccount identifier
 client_error (client.HasAccount identifier) = error.HasAccount identifier
 client_error (client.Cost cost) = error.Cost cost
 client_error (client.NumbersUsed next) = error.NumbersUsed next
+client_error (client.Rekey why) = error.Rekey why
 client_error (client.TooLarge size) = error.TooLarge size
 
 -- what is wrong with a store, as the end of a call

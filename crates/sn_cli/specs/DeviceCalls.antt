@@ -18,6 +18,7 @@ ReadsFor (task.delete uuid) before after text = after ≡ before
 ReadsFor task.list before after text = after ≡ before
 ReadsFor (task.content uuid) before after text = after ≡ before
 ReadsFor (task.sync server) before after text = after ≡ before
+ReadsFor (task.change_password server cost) before after text = ReadsText before after text
 
 -- what a password is taken of: all before the first line feed
 abbrev pub first_line : List ℕ → List ℕ
@@ -37,6 +38,7 @@ TakesPassword (task.delete uuid) = ⊥
 TakesPassword task.list = ⊥
 TakesPassword (task.content uuid) = ⊥
 TakesPassword (task.sync server) = ⊥
+TakesPassword (task.change_password server cost) = ⊤
 
 -- the content of a new item: the input, or the note of which it is the text
 abbrev pub content_under : Option (List ℕ) → List ℕ → List ℕ
@@ -53,6 +55,7 @@ kept_of (task.delete uuid) text = text
 kept_of task.list text = text
 kept_of (task.content uuid) text = text
 kept_of (task.sync server) text = text
+kept_of (task.change_password server cost) text = text
 
 -- the device's call
 abbrev pub call_for : Task → List ℕ → Call
@@ -64,6 +67,7 @@ call_for (task.delete uuid) text = call.delete uuid
 call_for task.list text = call.list
 call_for (task.content uuid) text = call.content uuid
 call_for (task.sync server) text = call.sync
+call_for (task.change_password server cost) text = call.passwd (first_line text) cost
 
 -- the server that it asks
 abbrev pub server_for : Task → Option (List ℕ)
@@ -75,3 +79,4 @@ server_for (task.delete uuid) = None
 server_for task.list = None
 server_for (task.content uuid) = None
 server_for (task.sync server) = Some server
+server_for (task.change_password server cost) = Some server

@@ -82,6 +82,7 @@ fn content_for<I: Source>(
         DeviceCommand::List => Ok(String::new(alloc)),
         DeviceCommand::Content { .. } => Ok(String::new(alloc)),
         DeviceCommand::Sync { .. } => Ok(String::new(alloc)),
+        DeviceCommand::ChangePassword { .. } => input_text(alloc, input),
     }
 }
 
@@ -147,6 +148,11 @@ fn call_for<'a>(command: &DeviceCommand<'a>, content: &'a str) -> Result<DeviceC
         DeviceCommand::List => Ok(DeviceCall::List),
         DeviceCommand::Content { uuid } => Ok(DeviceCall::Content { uuid: *uuid }),
         DeviceCommand::Sync { server } => Ok(DeviceCall::Sync { server }),
+        DeviceCommand::ChangePassword { server, cost } => Ok(DeviceCall::ChangePassword {
+            server,
+            password: password_of(content)?,
+            cost: *cost,
+        }),
     }
 }
 

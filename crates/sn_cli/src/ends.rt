@@ -27,6 +27,7 @@ pub fn refused_status(error: ClientError) -> Status
         ClientError::HasAccount { identifier } => refused(ClientRefusal::HasAccount { identifier }),
         ClientError::Cost { cost } => refused(ClientRefusal::Cost { cost }),
         ClientError::NumbersUsed { next } => refused(ClientRefusal::NumbersUsed { next }),
+        ClientError::Rekey { error } => refused(ClientRefusal::Rekey { error }),
         ClientError::TooLarge { size } => refused(ClientRefusal::TooLarge { size }),
         ClientError::LinkFault => Status::LinkFault,
         ClientError::Memory => Status::Memory,

@@ -1,6 +1,6 @@
 -- Words are one line of a device.
 use Rattle.std.proofs.Common.{◌≡◌, ◌||◌, Bool, true, false, eqb, ℕ, List, get_or, refl, sym, ap, ◌∙◌, arith}
-use Rattle.sn_command.specs.DeviceLines.{DeviceLine, GivesTask, GivesDeviceCost, GivesIdentifier, GivesServer, GivesUuid, IsDeviceLine, Task, content, delete, edit, list, named_for, put, register, sign_in, sync}
+use Rattle.sn_command.specs.DeviceLines.{DeviceLine, GivesTask, GivesDeviceCost, GivesIdentifier, GivesServer, GivesUuid, IsDeviceLine, Task, change_password, content, delete, edit, list, named_for, put, register, sign_in, sync}
 use Rattle.sn_command.specs.Named.{Names}
 use Rattle.sn_string.specs.Uuids.{uuid_text}
 use Rattle.sn_command.proofs.OneLine.{one_command, one_cost, one_uuid, one_value, some_or_none}
@@ -33,6 +33,7 @@ one_task words (register server identifier cost) (delete uuid_2) same first seco
 one_task words (register server identifier cost) list same first second = absurd (let e : 114 ≡ 108 = ap (λ (name : List ℕ). get_or name 0 0) same in omega (arith, e))
 one_task words (register server identifier cost) (content uuid_2) same first second = absurd (let e : 114 ≡ 108 = ap (λ (name : List ℕ). get_or name 0 0) same in omega (arith, e))
 one_task words (register server identifier cost) (sync server_2) same first second = absurd (let e : 114 ≡ 115 = ap (λ (name : List ℕ). get_or name 0 0) same in omega (arith, e))
+one_task words (register server identifier cost) (change_password server_2 cost_2) same first second = absurd (let e : 114 ≡ 112 = ap (λ (name : List ℕ). get_or name 0 0) same in omega (arith, e))
 one_task words (sign_in server identifier) (register server_2 identifier_2 cost_2) same first second = absurd (let e : 115 ≡ 114 = ap (λ (name : List ℕ). get_or name 0 0) same in omega (arith, e))
 one_task words (sign_in server identifier) (sign_in server_2 identifier_2) same first second =
     let server_same : server ≡ server_2 = one_server words server server_2 first.server_given second.server_given in
@@ -44,6 +45,7 @@ one_task words (sign_in server identifier) (delete uuid_2) same first second = a
 one_task words (sign_in server identifier) list same first second = absurd (let e : 115 ≡ 108 = ap (λ (name : List ℕ). get_or name 0 0) same in omega (arith, e))
 one_task words (sign_in server identifier) (content uuid_2) same first second = absurd (let e : 115 ≡ 108 = ap (λ (name : List ℕ). get_or name 0 0) same in omega (arith, e))
 one_task words (sign_in server identifier) (sync server_2) same first second = absurd (let e : 105 ≡ 121 = ap (λ (name : List ℕ). get_or name 1 0) same in omega (arith, e))
+one_task words (sign_in server identifier) (change_password server_2 cost_2) same first second = absurd (let e : 115 ≡ 112 = ap (λ (name : List ℕ). get_or name 0 0) same in omega (arith, e))
 one_task words (put title) (register server_2 identifier_2 cost_2) same first second = absurd (let e : 112 ≡ 114 = ap (λ (name : List ℕ). get_or name 0 0) same in omega (arith, e))
 one_task words (put title) (sign_in server_2 identifier_2) same first second = absurd (let e : 112 ≡ 115 = ap (λ (name : List ℕ). get_or name 0 0) same in omega (arith, e))
 one_task words (put title) (put title_2) same first second = ap put (sym first ∙ second)
@@ -52,6 +54,7 @@ one_task words (put title) (delete uuid_2) same first second = absurd (let e : 1
 one_task words (put title) list same first second = absurd (let e : 112 ≡ 108 = ap (λ (name : List ℕ). get_or name 0 0) same in omega (arith, e))
 one_task words (put title) (content uuid_2) same first second = absurd (let e : 112 ≡ 108 = ap (λ (name : List ℕ). get_or name 0 0) same in omega (arith, e))
 one_task words (put title) (sync server_2) same first second = absurd (let e : 112 ≡ 115 = ap (λ (name : List ℕ). get_or name 0 0) same in omega (arith, e))
+one_task words (put title) (change_password server_2 cost_2) same first second = absurd (let e : 117 ≡ 97 = ap (λ (name : List ℕ). get_or name 1 0) same in omega (arith, e))
 one_task words (edit uuid) (register server_2 identifier_2 cost_2) same first second = absurd (let e : 101 ≡ 114 = ap (λ (name : List ℕ). get_or name 0 0) same in omega (arith, e))
 one_task words (edit uuid) (sign_in server_2 identifier_2) same first second = absurd (let e : 101 ≡ 115 = ap (λ (name : List ℕ). get_or name 0 0) same in omega (arith, e))
 one_task words (edit uuid) (put title_2) same first second = absurd (let e : 101 ≡ 112 = ap (λ (name : List ℕ). get_or name 0 0) same in omega (arith, e))
@@ -60,6 +63,7 @@ one_task words (edit uuid) (delete uuid_2) same first second = absurd (let e : 1
 one_task words (edit uuid) list same first second = absurd (let e : 101 ≡ 108 = ap (λ (name : List ℕ). get_or name 0 0) same in omega (arith, e))
 one_task words (edit uuid) (content uuid_2) same first second = absurd (let e : 101 ≡ 108 = ap (λ (name : List ℕ). get_or name 0 0) same in omega (arith, e))
 one_task words (edit uuid) (sync server_2) same first second = absurd (let e : 101 ≡ 115 = ap (λ (name : List ℕ). get_or name 0 0) same in omega (arith, e))
+one_task words (edit uuid) (change_password server_2 cost_2) same first second = absurd (let e : 101 ≡ 112 = ap (λ (name : List ℕ). get_or name 0 0) same in omega (arith, e))
 one_task words (delete uuid) (register server_2 identifier_2 cost_2) same first second = absurd (let e : 100 ≡ 114 = ap (λ (name : List ℕ). get_or name 0 0) same in omega (arith, e))
 one_task words (delete uuid) (sign_in server_2 identifier_2) same first second = absurd (let e : 100 ≡ 115 = ap (λ (name : List ℕ). get_or name 0 0) same in omega (arith, e))
 one_task words (delete uuid) (put title_2) same first second = absurd (let e : 100 ≡ 112 = ap (λ (name : List ℕ). get_or name 0 0) same in omega (arith, e))
@@ -68,6 +72,7 @@ one_task words (delete uuid) (delete uuid_2) same first second = ap delete (one_
 one_task words (delete uuid) list same first second = absurd (let e : 100 ≡ 108 = ap (λ (name : List ℕ). get_or name 0 0) same in omega (arith, e))
 one_task words (delete uuid) (content uuid_2) same first second = absurd (let e : 100 ≡ 108 = ap (λ (name : List ℕ). get_or name 0 0) same in omega (arith, e))
 one_task words (delete uuid) (sync server_2) same first second = absurd (let e : 100 ≡ 115 = ap (λ (name : List ℕ). get_or name 0 0) same in omega (arith, e))
+one_task words (delete uuid) (change_password server_2 cost_2) same first second = absurd (let e : 100 ≡ 112 = ap (λ (name : List ℕ). get_or name 0 0) same in omega (arith, e))
 one_task words list (register server_2 identifier_2 cost_2) same first second = absurd (let e : 108 ≡ 114 = ap (λ (name : List ℕ). get_or name 0 0) same in omega (arith, e))
 one_task words list (sign_in server_2 identifier_2) same first second = absurd (let e : 108 ≡ 115 = ap (λ (name : List ℕ). get_or name 0 0) same in omega (arith, e))
 one_task words list (put title_2) same first second = absurd (let e : 108 ≡ 112 = ap (λ (name : List ℕ). get_or name 0 0) same in omega (arith, e))
@@ -76,6 +81,7 @@ one_task words list (delete uuid_2) same first second = absurd (let e : 108 ≡ 
 one_task words list list same first second = refl
 one_task words list (content uuid_2) same first second = absurd (some_or_none (uuid_text uuid_2) _ second.given first)
 one_task words list (sync server_2) same first second = absurd (let e : 108 ≡ 115 = ap (λ (name : List ℕ). get_or name 0 0) same in omega (arith, e))
+one_task words list (change_password server_2 cost_2) same first second = absurd (let e : 108 ≡ 112 = ap (λ (name : List ℕ). get_or name 0 0) same in omega (arith, e))
 one_task words (content uuid) (register server_2 identifier_2 cost_2) same first second = absurd (let e : 108 ≡ 114 = ap (λ (name : List ℕ). get_or name 0 0) same in omega (arith, e))
 one_task words (content uuid) (sign_in server_2 identifier_2) same first second = absurd (let e : 108 ≡ 115 = ap (λ (name : List ℕ). get_or name 0 0) same in omega (arith, e))
 one_task words (content uuid) (put title_2) same first second = absurd (let e : 108 ≡ 112 = ap (λ (name : List ℕ). get_or name 0 0) same in omega (arith, e))
@@ -84,6 +90,7 @@ one_task words (content uuid) (delete uuid_2) same first second = absurd (let e 
 one_task words (content uuid) list same first second = absurd (some_or_none (uuid_text uuid) _ first.given second)
 one_task words (content uuid) (content uuid_2) same first second = ap content (one_given_uuid words uuid uuid_2 first second)
 one_task words (content uuid) (sync server_2) same first second = absurd (let e : 108 ≡ 115 = ap (λ (name : List ℕ). get_or name 0 0) same in omega (arith, e))
+one_task words (content uuid) (change_password server_2 cost_2) same first second = absurd (let e : 108 ≡ 112 = ap (λ (name : List ℕ). get_or name 0 0) same in omega (arith, e))
 one_task words (sync server) (register server_2 identifier_2 cost_2) same first second = absurd (let e : 115 ≡ 114 = ap (λ (name : List ℕ). get_or name 0 0) same in omega (arith, e))
 one_task words (sync server) (sign_in server_2 identifier_2) same first second = absurd (let e : 121 ≡ 105 = ap (λ (name : List ℕ). get_or name 1 0) same in omega (arith, e))
 one_task words (sync server) (put title_2) same first second = absurd (let e : 115 ≡ 112 = ap (λ (name : List ℕ). get_or name 0 0) same in omega (arith, e))
@@ -92,6 +99,19 @@ one_task words (sync server) (delete uuid_2) same first second = absurd (let e :
 one_task words (sync server) list same first second = absurd (let e : 115 ≡ 108 = ap (λ (name : List ℕ). get_or name 0 0) same in omega (arith, e))
 one_task words (sync server) (content uuid_2) same first second = absurd (let e : 115 ≡ 108 = ap (λ (name : List ℕ). get_or name 0 0) same in omega (arith, e))
 one_task words (sync server) (sync server_2) same first second = ap sync (one_server words server server_2 first second)
+one_task words (sync server) (change_password server_2 cost_2) same first second = absurd (let e : 115 ≡ 112 = ap (λ (name : List ℕ). get_or name 0 0) same in omega (arith, e))
+one_task words (change_password server cost) (register server_2 identifier_2 cost_2) same first second = absurd (let e : 112 ≡ 114 = ap (λ (name : List ℕ). get_or name 0 0) same in omega (arith, e))
+one_task words (change_password server cost) (sign_in server_2 identifier_2) same first second = absurd (let e : 112 ≡ 115 = ap (λ (name : List ℕ). get_or name 0 0) same in omega (arith, e))
+one_task words (change_password server cost) (put title_2) same first second = absurd (let e : 97 ≡ 117 = ap (λ (name : List ℕ). get_or name 1 0) same in omega (arith, e))
+one_task words (change_password server cost) (edit uuid_2) same first second = absurd (let e : 112 ≡ 101 = ap (λ (name : List ℕ). get_or name 0 0) same in omega (arith, e))
+one_task words (change_password server cost) (delete uuid_2) same first second = absurd (let e : 112 ≡ 100 = ap (λ (name : List ℕ). get_or name 0 0) same in omega (arith, e))
+one_task words (change_password server cost) list same first second = absurd (let e : 112 ≡ 108 = ap (λ (name : List ℕ). get_or name 0 0) same in omega (arith, e))
+one_task words (change_password server cost) (content uuid_2) same first second = absurd (let e : 112 ≡ 108 = ap (λ (name : List ℕ). get_or name 0 0) same in omega (arith, e))
+one_task words (change_password server cost) (sync server_2) same first second = absurd (let e : 112 ≡ 115 = ap (λ (name : List ℕ). get_or name 0 0) same in omega (arith, e))
+one_task words (change_password server cost) (change_password server_2 cost_2) same first second =
+    let server_same : server ≡ server_2 = one_server words server server_2 first.server_given second.server_given in
+    let cost_same : cost ≡ cost_2 = one_device_cost words cost cost_2 first.cost_given second.cost_given in
+    λ i. change_password (server_same i) (cost_same i)
 
 pub one_device : (words : List (List ℕ)) (a b : DeviceLine) → IsDeviceLine words a → IsDeviceLine words b → a ≡ b
 one_device words a b first second =
@@ -115,6 +135,7 @@ third_of (delete uuid) = refl
 third_of list = refl
 third_of (content uuid) = refl
 third_of (sync server) = refl
+third_of (change_password server cost) = refl
 
 -- words that name another command are no line of a device
 pub other_command : (words : List (List ℕ)) (name : List ℕ) (line : DeviceLine) → is_third (get_or name 2 0) ≡ false → Names words name

@@ -2,7 +2,7 @@
 use denote.Ref.{Bor}
 use Rattle.std.specs.Prelude.{ℕ, List, Option, option_map, ⊤}
 use Rattle.sn_command.specs.CommandLine.{SealLine, OpenLine, ServeLine, IsSealLine, IsOpenLine, IsShowLine, IsReplayLine, IsServeLine, IsUsage}
-use Rattle.sn_command.specs.DeviceLines.{DeviceLine, IsDeviceLine, Task, register, sign_in, put, edit, delete, list, content, sync}
+use Rattle.sn_command.specs.DeviceLines.{DeviceLine, IsDeviceLine, Task, register, sign_in, put, edit, delete, list, content, sync, change_password}
 use Rattle.sn_command.specs.Syntax.{AsksForHelp, AsksForVersion}
 use Rattle.sn_command.specs.declared.command_line.ItemOptions.{ItemOptions}
 use Rattle.sn_command.specs.declared.command_line.ParamsOptions.{ParamsOptions}
@@ -43,6 +43,7 @@ task_of (device.Delete uuid) = delete uuid
 task_of device.List = list
 task_of (device.Content uuid) = content uuid
 task_of (device.Sync server) = sync server.now
+task_of (device.ChangePassword server cost) = change_password server.now cost
 
 abbrev pub device_line : DeviceOptions → DeviceLine
 device_line options = record { store = options.store.now; task = task_of options.command }

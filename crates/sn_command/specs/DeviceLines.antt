@@ -19,6 +19,8 @@ pub data Task : Type 0 where
   list : Task
   content : List ℕ → Task
   sync : List ℕ → Task
+  -- at a server, at a cost
+  change_password : List ℕ → ℕ → Task
 
 pub record DeviceLine : Type 0 where
   pub store : List ℕ
@@ -34,6 +36,7 @@ named_for (delete uuid) = codes "del"
 named_for list = codes "list"
 named_for (content uuid) = codes "list"
 named_for (sync server) = codes "sync"
+named_for (change_password server cost) = codes "passwd"
 
 -- the words give a server, in its form
 pub record GivesServer (words : List (List ℕ)) (server : List ℕ) : Type 0 where
@@ -50,7 +53,7 @@ pub record GivesUuid (words : List (List ℕ)) (uuid : List ℕ) : Type 0 where
   pub form : IsUuidText (uuid_text uuid) uuid
   pub given : value_of words (codes "uuid") ≡ Some (uuid_text uuid)
 
--- the cost of a registration, or nothing for the least
+-- the cost of new keys, or nothing for the least
 pub record GivesDeviceCost (words : List (List ℕ)) (cost : ℕ) : Type 0 where
   pub least : USUAL_COST ≤ cost
   pub most : cost ≤ 10000000
@@ -65,6 +68,10 @@ pub record GivesSignIn (words : List (List ℕ)) (server identifier : List ℕ) 
   pub server_given : GivesServer words server
   pub identifier_given : GivesIdentifier words identifier
 
+pub record GivesChange (words : List (List ℕ)) (server : List ℕ) (cost : ℕ) : Type 0 where
+  pub server_given : GivesServer words server
+  pub cost_given : GivesDeviceCost words cost
+
 -- the words give what this task needs
 abbrev pub GivesTask : List (List ℕ) → Task → Type 0
 GivesTask words (register server identifier cost) = GivesRegister words server identifier cost
@@ -75,6 +82,7 @@ GivesTask words (delete uuid) = GivesUuid words uuid
 GivesTask words list = value_of words (codes "uuid") ≡ None
 GivesTask words (content uuid) = GivesUuid words uuid
 GivesTask words (sync server) = GivesServer words server
+GivesTask words (change_password server cost) = GivesChange words server cost
 
 -- the words are a line of a device's command that says this
 pub record IsDeviceLine (words : List (List ℕ)) (line : DeviceLine) : Type 0 where
@@ -96,6 +104,7 @@ TakesInput (delete uuid) = ⊥
 TakesInput list = ⊥
 TakesInput (content uuid) = ⊥
 TakesInput (sync server) = ⊥
+TakesInput (change_password server cost) = ⊤
 
 -- an identifier within its bounds
 abbrev pub HasTaskBounds : Task → Type 0
@@ -107,3 +116,4 @@ HasTaskBounds (delete uuid) = ⊤
 HasTaskBounds list = ⊤
 HasTaskBounds (content uuid) = ⊤
 HasTaskBounds (sync server) = ⊤
+HasTaskBounds (change_password server cost) = ⊤

@@ -42,6 +42,10 @@ sign_in_shape = command_shape (codes "signin") (option_rule (codes "store") true
 unfoldable pub sync_shape : Shape
 sync_shape = command_shape (codes "sync") (option_rule (codes "store") true ∷ option_rule (codes "server") true ∷ [])
 
+unfoldable pub change_password_shape : Shape
+change_password_shape = command_shape (codes "passwd") (option_rule (codes "store") true ∷ option_rule (codes "server") true
+    ∷ option_rule (codes "cost") false ∷ [])
+
 unfoldable pub put_shape : Shape
 put_shape = command_shape (codes "put") (option_rule (codes "store") true ∷ option_rule (codes "title") false ∷ [])
 
@@ -60,9 +64,10 @@ sn_top = on_top
     (λ s. record s { no_binary_name = true; subcommand_required = true; disable_help_subcommand = true; has_version = true })
     (new_app (codes "sn"))
 
--- with the commands that ask a server for an account, and for its items
+-- with the commands that ask a server
 unfoldable pub with_accounts : App → App
-with_accounts app = with_subcommand (with_subcommand (with_subcommand app register_shape) sign_in_shape) sync_shape
+with_accounts app = with_subcommand
+    (with_subcommand (with_subcommand (with_subcommand app register_shape) sign_in_shape) sync_shape) change_password_shape
 
 -- with all commands of a device
 unfoldable pub with_devices : App → App

@@ -52,6 +52,10 @@ pub enum DeviceCommand<'a> {
     Sync {
         server: &'a str,
     },
+    ChangePassword {
+        server: &'a str,
+        cost: u32,
+    },
 }
 
 /// A device's command that the words give.
@@ -82,6 +86,7 @@ fn device_command<'a>(given: &Given<'a>) -> Option<DeviceCommand<'a>>
         "del" => delete_command(given),
         "list" => list_command(given),
         "sync" => sync_command(given),
+        "passwd" => change_password_command(given),
         _ => None,
     }
 }
@@ -150,6 +155,16 @@ fn sync_command<'a>(given: &Given<'a>) -> Option<DeviceCommand<'a>>
 {
     let server = server_option(given)?;
     Some(DeviceCommand::Sync { server })
+}
+
+fn change_password_command<'a>(given: &Given<'a>) -> Option<DeviceCommand<'a>>
+    requires { given.now.command.now ≡ codes "passwd" }
+    ensures some { IfSome result (λ command. (words : List (List ℕ)) → IsGivenBy words given.now → (named_for (task_of command) ≡ given.now.command.now) × GivesTask words (task_of command)) }
+    ensures none { IfNone result ((words : List (List ℕ)) (task : Task) → IsGivenBy words given.now → named_for task ≡ given.now.command.now → ¬ (GivesTask words task)) }
+{
+    let server = server_option(given)?;
+    let cost = device_cost_option(given)?;
+    Some(DeviceCommand::ChangePassword { server, cost })
 }
 
 fn server_option<'a>(given: &Given<'a>) -> Option<&'a str>

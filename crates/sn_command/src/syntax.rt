@@ -3,13 +3,13 @@ ghost use Rattle.std.specs.Prelude.{◌≡◌, IfOk, false};
 ghost use Rattle.clap.specs.Simple.{app_of, shape_of, with_rule, with_subcommand};
 ghost use Rattle.clap.specs.Walk.{rule_of};
 ghost use Rattle.clap.specs.declared.builder.command.Command.TheViews.{out-Command as fields_of};
-ghost use Rattle.sn_command.specs.Syntax.{sn_app, sn_top, seal_shape, open_shape, show_shape, replay_shape, serve_shape, register_shape, sign_in_shape, put_shape, edit_shape, delete_shape, list_shape, sync_shape, with_accounts, with_devices, with_others, option_rule};
+ghost use Rattle.sn_command.specs.Syntax.{sn_app, sn_top, seal_shape, open_shape, show_shape, replay_shape, serve_shape, register_shape, sign_in_shape, put_shape, edit_shape, delete_shape, list_shape, sync_shape, change_password_shape, with_accounts, with_devices, with_others, option_rule};
 
 use clap::{Arg, Command};
 use std::alloc::{AllocError, Global};
 
 const ABOUT: &str =
-    "Keeps notes encrypted (encryption protocol 003) on devices and on a server: a device registers or signs in, puts, edits, deletes and lists notes, and syncs with the server, which serves a store of accounts. Besides, it seals, opens and shows single strings, and replays scripts of several devices and a server.";
+    "Keeps notes encrypted (encryption protocol 003) on devices and on a server: a device registers or signs in, puts, edits, deletes and lists notes, changes the account's password, and syncs with the server, which serves a store of accounts. Besides, it seals, opens and shows single strings, and replays scripts of several devices and a server.";
 
 const AFTER: &str =
     "Passwords and contents come on standard input and never stand on the command line. Status 0 is success, 2 a faulty command line, 3 a refusal, 4 a failed disk, 5 a failed port or link, 6 and 7 a failed read or write, 8 want of memory, 9 a file that is no store or a damaged one, 10 the server's refusal, 11 an answer that may not be used; each but 0 has one line on standard error.";
@@ -49,6 +49,9 @@ const LIST: &str =
 
 const SYNC: &str =
     "Sends what was put, edited and deleted to the server, and takes what is new there. Writes `ok`. For example: sn sync --store laptop.store --server 127.0.0.1:8080";
+
+const CHANGE_PASSWORD: &str =
+    "Changes the password of this store's account. The new one is the first line of standard input. It syncs, gives the account new keys, and seals the key of each item anew under them. Writes `ok`. Where it is cut off, the next sync finishes it. Each other device signs in with the new password. For example: sn passwd --store laptop.store --server 127.0.0.1:8080 < new-password";
 
 const STORE: &str = "The store's file; one that isn't there is made";
 
@@ -108,7 +111,8 @@ fn with_account_commands<'a>(alloc: Global, command: Command<'a>) -> Result<Comm
 {
     let command = with_command(command, register(alloc)?)?;
     let command = with_command(command, sign_in(alloc)?)?;
-    with_command(command, sync(alloc)?)
+    let command = with_command(command, sync(alloc)?)?;
+    with_command(command, change_password(alloc)?)
 }
 
 // The name is also that in the usage lines of the commands, since no word names the program.
@@ -247,6 +251,17 @@ fn sync<'a>(alloc: Global) -> Result<Command<'a>, AllocError>
     let command = Command::new(alloc, "sync").about(SYNC);
     let command = with_option(alloc, command, "store", "PATH", STORE, true)?;
     with_option(alloc, command, "server", "HOST:PORT", SERVER, true)
+}
+
+#[tactic(auto, unfolding(crate::specs::Syntax::change_password_shape))]
+fn change_password<'a>(alloc: Global) -> Result<Command<'a>, AllocError>
+    ensures shape { IfOk result (λ command. shape_of command ≡ change_password_shape) }
+    ensures local { IfOk result (λ command. (fields_of command).has_globals ≡ false) }
+{
+    let command = Command::new(alloc, "passwd").about(CHANGE_PASSWORD);
+    let command = with_option(alloc, command, "store", "PATH", STORE, true)?;
+    let command = with_option(alloc, command, "server", "HOST:PORT", SERVER, true)?;
+    with_option(alloc, command, "cost", "N", DEVICE_COST, false)
 }
 
 fn with_command<'a>(command: Command<'a>, sub: Command<'a>) -> Result<Command<'a>, AllocError>

@@ -2,12 +2,27 @@
 use Rattle.std.specs.Prelude.{ℕ, List, ◌++◌, codes}
 use Rattle.std.specs.Fmt.{decimal}
 use Rattle.sn_status.specs.declared.refusal.ClientRefusal.{ClientRefusal}
-use Rattle.sn_status.specs.declared.refusal.ClientRefusal.TheVariants.{NoAccount, NoItem, Closed, TooLong, NotObject, RoundsUsed, NoFreshUuid, WrongPassword, OtherAccount, HasAccount, Cost, NumbersUsed, TooLarge}
+use Rattle.sn_status.specs.declared.refusal.ClientRefusal.TheVariants.{NoAccount, NoItem, Closed, TooLong, NotObject, RoundsUsed, NoFreshUuid, WrongPassword, OtherAccount, HasAccount, Cost, NumbersUsed, Rekey, TooLarge}
 use Rattle.sn_client.specs.declared.error.Place.{Place}
 use Rattle.sn_client.specs.declared.error.Place.TheVariants.{Head, Json, Member, Saved, Conflict, Retrieved, Cursor}
+use Rattle.sn_rekey.specs.declared.error.RekeyError.{RekeyError}
+use Rattle.sn_rekey.specs.declared.error.RekeyError.TheVariants.{ChangeRunning, Unsent}
+use Rattle.sn_rekey.specs.declared.error.Running.{Running}
+use Rattle.sn_rekey.specs.declared.error.Running.TheVariants.{Older, Item}
 use Rattle.sn_string.specs.Uuids.{uuid_text}
 
--- a refusal: its number among a device's, its name and the values that it keeps; a batch too large is the journal's
+-- by what a change of password is seen to be under way: the nonce of an older set, or an item's uuid
+abbrev pub running_text : Running → List ℕ
+running_text (Older nonce) = nonce
+running_text (Item uuid) = uuid_text uuid
+
+-- why no change of password may begin: the refusal's number among those of such a change, its name and the value that it keeps
+abbrev pub rekey_text : RekeyError → List ℕ
+rekey_text (ChangeRunning running) = codes "rekey.1 ChangeRunning " ++ running_text running
+rekey_text (Unsent uuid) = codes "rekey.2 Unsent " ++ uuid_text uuid
+
+-- a refusal: its number among a device's, its name and the values that it keeps; one of a change of password has its own
+-- number, and a batch too large the journal's
 abbrev pub client_text : ClientRefusal → List ℕ
 client_text NoAccount = codes "client.1 NoAccount"
 client_text (NoItem uuid) = codes "client.2 NoItem " ++ uuid_text uuid
@@ -21,6 +36,7 @@ client_text (OtherAccount identifier) = codes "client.12 OtherAccount " ++ ident
 client_text (HasAccount identifier) = codes "client.13 HasAccount " ++ identifier
 client_text (Cost cost) = codes "client.14 Cost " ++ decimal cost
 client_text (NumbersUsed next) = codes "client.15 NumbersUsed " ++ decimal next
+client_text (Rekey error) = rekey_text error
 client_text (TooLarge size) = codes "journal.3 TooLarge " ++ decimal size
 
 -- where bytes that came as an answer are out of form, or fail a check

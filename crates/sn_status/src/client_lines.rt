@@ -1,9 +1,10 @@
 // The texts of a device's refusals, and of places in an answer.
 ghost use Rattle.std.specs.Prelude.{◌≡◌, IfOk, string_bytes};
-ghost use Rattle.sn_status.specs.ClientLines.{client_text, place_text};
+ghost use Rattle.sn_status.specs.ClientLines.{client_text, place_text, rekey_text};
 
 use crate::refusal::ClientRefusal;
 use sn_client::Place;
+use sn_rekey::{RekeyError, Running};
 use sn_string::uuid_text;
 use std::alloc::{AllocError, Global};
 
@@ -39,7 +40,35 @@ pub fn client_line(alloc: Global, refusal: &ClientRefusal) -> Result<String, All
         }
         ClientRefusal::Cost { cost } => format!(in alloc; "client.14 Cost {cost}"),
         ClientRefusal::NumbersUsed { next } => format!(in alloc; "client.15 NumbersUsed {next}"),
+        ClientRefusal::Rekey { error } => rekey_line(alloc, error),
         ClientRefusal::TooLarge { size } => format!(in alloc; "journal.3 TooLarge {size}"),
+    }
+}
+
+fn rekey_line(alloc: Global, error: &RekeyError) -> Result<String, AllocError>
+    ensures { IfOk result (λ line. string_bytes line ≡ rekey_text error.now) }
+{
+    match error {
+        RekeyError::ChangeRunning { by } => running_line(alloc, by),
+        RekeyError::Unsent { uuid } => {
+            let uuid = uuid_text(alloc, *uuid)?;
+            format!(in alloc; "rekey.2 Unsent {uuid}")
+        }
+    }
+}
+
+fn running_line(alloc: Global, running: &Running) -> Result<String, AllocError>
+    ensures { IfOk result (λ line. string_bytes line ≡ rekey_text (RekeyError.ChangeRunning running.now)) }
+{
+    match running {
+        Running::Older { nonce } => {
+            let nonce = nonce.as_str();
+            format!(in alloc; "rekey.1 ChangeRunning {nonce}")
+        }
+        Running::Item { uuid } => {
+            let uuid = uuid_text(alloc, *uuid)?;
+            format!(in alloc; "rekey.1 ChangeRunning {uuid}")
+        }
     }
 }
 

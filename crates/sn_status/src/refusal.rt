@@ -3,6 +3,7 @@ ghost use Rattle.std.specs.Prelude.{◌≡◌, MatchOption};
 ghost use Rattle.sn_status.specs.Errors.{IsWant, form_error, item_error};
 
 use sn_items::ItemError;
+use sn_rekey::RekeyError;
 use sn_string::{StringError, Text};
 use uuid::Uuid;
 
@@ -82,6 +83,8 @@ pub enum ClientRefusal {
     HasAccount { identifier: Text },
     Cost { cost: u32 },
     NumbersUsed { next: u64 },
+    /// No change of password may begin.
+    Rekey { error: RekeyError },
     /// A batch is longer than one of the journal may be.
     TooLarge { size: u64 },
 }

@@ -30,6 +30,14 @@ returns-in-Sync-clause-makes g c = λ kept is.
     c.in-Sync.server.now c.draw-in-Sync.result c.from_seed-words-in-Sync.result c.sync.new.words c.sync.result refl refl c.draw-in-Sync.ensures c.from_seed-words-in-Sync.ensures c.requires.aimed
     (c.sync.ensures.runs kept is) c.sync.ensures.aimed c.ended-in-Sync.ensures.disk c.ended-in-Sync.ensures.end
 
+pub returns-in-ChangePassword-clause-makes : goal.returns-in-ChangePassword-clause-makes
+returns-in-ChangePassword-clause-makes g c = λ kept is.
+    makes_over g.D.Disk g.L.Link.asks g.L.Link.aimed g.R.Seeds.given c.args.device.least_cost c.args.link.now c.passwd.new.link c.args.seeds.now c.draw-in-ChangePassword.new.self
+    (λ given. answer.Nothing) kept c.ended-in-ChangePassword.result.0 c.ended-in-ChangePassword.result.1 c.args.call.now
+    (asked.ChangePassword c.in-ChangePassword.server c.in-ChangePassword.password c.in-ChangePassword.cost) c.in-ChangePassword.is
+    c.in-ChangePassword.server.now c.draw-in-ChangePassword.result c.from_seed-words-in-ChangePassword.result c.passwd.new.words c.passwd.result refl refl c.draw-in-ChangePassword.ensures c.from_seed-words-in-ChangePassword.ensures c.requires.aimed
+    (c.passwd.ensures.runs kept is) c.passwd.ensures.aimed c.ended-in-ChangePassword.ensures.disk c.ended-in-ChangePassword.ensures.end
+
 pub returns-in-Put-clause-makes : goal.returns-in-Put-clause-makes
 returns-in-Put-clause-makes g c = λ kept is.
     makes_drawn g.D.Disk g.L.Link.asks g.L.Link.aimed g.R.Seeds.given c.args.device.least_cost c.args.link.now c.args.link.now c.args.seeds.now c.draw-in-Put.new.self

@@ -36,6 +36,10 @@ signed_in : (identifier content password text : List ℕ) → password ≡ first
     → call.sign_in identifier password ≡ call.sign_in identifier (first_line text)
 signed_in identifier content password text is same = ap (λ (p : List ℕ). call.sign_in identifier p) (same_line content password text is same)
 
+changed : (content password text : List ℕ) (cost : ℕ) → password ≡ first_line content → content ≡ text
+    → call.passwd password cost ≡ call.passwd (first_line text) cost
+changed content password text cost is same = ap (λ (p : List ℕ). call.passwd p cost) (same_line content password text is same)
+
 -- a content that is put asks no server
 put_so : (command : DeviceCommand) (title : Option (Bor (List ℕ))) (content : List ℕ) → command ≡ device.Put title → (text : List ℕ)
     → content ≡ kept_of (task_of command) text
@@ -104,3 +108,16 @@ pub returns-in-Sync-clause-ok : goal.returns-in-Sync-clause-ok
 returns-in-Sync-clause-ok c =
     spelled c.args.command.now (device.Sync c.in-Sync.server) c.args.content.now (asked.Sync c.in-Sync.server) c.in-Sync.is
     (λ text same. (refl, refl, λ takes. absurd takes))
+
+pub returns-in_ok-password_of-in-ChangePassword-clause-ok : goal.returns-in_ok-password_of-in-ChangePassword-clause-ok
+returns-in_ok-password_of-in-ChangePassword-clause-ok c =
+    let server = c.in-ChangePassword.server in
+    let password = c.in_ok-password_of-in-ChangePassword.field-0 in
+    let found = c.in_ok-password_of-in-ChangePassword.ensures.ok in
+    spelled c.args.command.now (device.ChangePassword server c.in-ChangePassword.cost) c.args.content.now
+    (asked.ChangePassword server password c.in-ChangePassword.cost) c.in-ChangePassword.is
+    (λ text same. (
+      changed c.args.content.now password.now text c.in-ChangePassword.cost found.0 same,
+      refl,
+      λ takes. is_password c.args.content.now password.now text found.0 same found.1,
+    ))

@@ -45,6 +45,14 @@ returns-in-SignIn-clause-ok g c = taken c.args.command.now _ _ _ c.input_text-in
 pub returns-in-SignIn-clause-err : goal.returns-in-SignIn-clause-err
 returns-in-SignIn-clause-err g c = refused c.args.command.now _ _ _ c.input_text-in-SignIn.result c.in-SignIn.is tt c.input_text-in-SignIn.ensures.err
 
+pub returns-in-ChangePassword-clause-ok : goal.returns-in-ChangePassword-clause-ok
+returns-in-ChangePassword-clause-ok g c =
+    taken c.args.command.now _ _ _ c.input_text-in-ChangePassword.result c.in-ChangePassword.is tt (λ text. refl) c.input_text-in-ChangePassword.ensures.ok
+
+pub returns-in-ChangePassword-clause-err : goal.returns-in-ChangePassword-clause-err
+returns-in-ChangePassword-clause-err g c =
+    refused c.args.command.now _ _ _ c.input_text-in-ChangePassword.result c.in-ChangePassword.is tt c.input_text-in-ChangePassword.ensures.err
+
 pub returns-in-Edit-clause-ok : goal.returns-in-Edit-clause-ok
 returns-in-Edit-clause-ok g c = taken c.args.command.now _ _ _ c.input_text-in-Edit.result c.in-Edit.is tt (λ text. refl) c.input_text-in-Edit.ensures.ok
 
