@@ -7,6 +7,7 @@ mod limits;
 mod losses;
 mod meetings;
 mod pages;
+mod passwords;
 mod scene;
 mod soundness;
 mod told;

@@ -155,6 +155,17 @@ impl Client {
         let device = self.taken()?;
         self.behind(device.sync(link, words))
     }
+
+    pub(crate) fn passwd<L: Link>(
+        &mut self,
+        link: &mut L,
+        words: &mut Words,
+        password: &str,
+        cost: u32,
+    ) -> Result<String, Fail> {
+        let device = self.taken()?;
+        self.behind(device.passwd(link, words, password, cost))
+    }
 }
 
 impl Client {

@@ -11,16 +11,22 @@ static BOTH_SYNC: [Step; 3] = [
     (Ben, Syncs, ""),
 ];
 
-// One device has an account and puts so many notes, and then both sync.
-fn put_and_sync(rt: &impl Abort, scene: &mut Scene, notes: u64) -> Result<(), Fail> {
+/// One device has an account and puts so many notes, and then these steps are done.
+pub(crate) fn put_and_play(
+    rt: &impl Abort,
+    scene: &mut Scene,
+    notes: u64,
+    steps: &[Step],
+) -> Result<(), Fail> {
     scene.tell(rt, "an account", Ann, Registers("alice", "p1", 1), "")?;
     for _ in 0..notes {
         scene.tell(rt, "a note", Ann, Puts("{}"), "")?;
     }
-    scene.play(rt, "both sync", &BOTH_SYNC)
+    scene.play(rt, "behind the notes", steps)
 }
 
-fn both_show(rt: &impl Abort, scene: &mut Scene, all: &str) -> Result<(), Fail> {
+/// Both devices show this.
+pub(crate) fn both_show(rt: &impl Abort, scene: &mut Scene, all: &str) -> Result<(), Fail> {
     scene.tell(rt, "ann has all", Ann, Shows, all)?;
     scene.tell(rt, "ben has all", Ben, Shows, all)
 }
@@ -31,6 +37,6 @@ fn many_notes(rt: HostRuntime) -> Result<(), Fail> {
     let alloc = rt.alloc();
     let all = "Clean {}\n".repeat(alloc, 151)?;
     let mut scene = Scene::new(alloc, [2; 32])?;
-    put_and_sync(&rt, &mut scene, 151)?;
+    put_and_play(&rt, &mut scene, 151, &BOTH_SYNC)?;
     both_show(&rt, &mut scene, &all)
 }

@@ -24,6 +24,8 @@ pub(crate) enum Does {
     SignsIn(&'static str, &'static str),
     /// Puts a note.
     Puts(&'static str),
+    /// Puts a note, and the item stays the one before.
+    PutsBeside(&'static str),
     /// Puts a tag.
     PutsTag(&'static str),
     /// Puts the longest note.
@@ -36,6 +38,10 @@ pub(crate) enum Does {
     Syncs,
     /// Syncs, and what has this number is lost: of the requests from here on, number n has 2 n, and its answer 2 n + 1.
     SyncsAtLossOf(u64),
+    /// Changes the password to this one, at cost 1.
+    Changes(&'static str),
+    /// Changes the password to this one, and what has this number is lost.
+    ChangesAtLossOf(&'static str, u64),
     /// Shows the mark and the content of each item.
     Shows,
     /// Shows its list.
@@ -160,6 +166,10 @@ fn done(
         }
         Does::SignsIn(identifier, password) => client.sign_in(link, words, identifier, password),
         Does::Puts(text) => client.put(words, "Note", text, item),
+        Does::PutsBeside(text) => {
+            let mut beside = *item;
+            client.put(words, "Note", text, &mut beside)
+        }
         Does::PutsTag(text) => client.put(words, "Tag", text, item),
         Does::PutsLongest => client.put(words, "Note", &longest(alloc)?, item),
         Does::PutsLonger => client.put(words, "Note", &longer(alloc)?, item),
@@ -170,6 +180,11 @@ fn done(
         Does::SyncsAtLossOf(lost) => {
             link.lose([lost].to_vec(alloc)?);
             client.sync(link, words)
+        }
+        Does::Changes(password) => client.passwd(link, words, password, 1),
+        Does::ChangesAtLossOf(password, lost) => {
+            link.lose([lost].to_vec(alloc)?);
+            client.passwd(link, words, password, 1)
         }
         Does::Shows => client.shown(),
         Does::Lists => client.listed(),

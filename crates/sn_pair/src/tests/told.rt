@@ -4,6 +4,7 @@ ghost use Rattle.sn_client.specs.States.{IsSound};
 
 use sn_client::{ClientError, Device, Listed, Place};
 use sn_disk::MemDisk;
+use sn_rekey::{RekeyError, Running};
 use std::alloc::{AllocError, Global};
 use std::fmt::{self, Display, Formatter, Write};
 use std::test::Fail;
@@ -32,7 +33,27 @@ impl Display for Refusal<'_> {
             }
             ClientError::Cost { cost } => write!(f, "cost {cost}"),
             ClientError::LinkFault => f.write_str("link"),
+            ClientError::Closed { .. } => f.write_str("closed"),
+            ClientError::Rekey { error } => write!(f, "{}", Rekey(error)),
             _ => f.write_str("another refusal"),
+        }
+    }
+}
+
+// Why no change of password may begin.
+#[derive(Drop)]
+struct Rekey<'a>(&'a RekeyError);
+
+impl Display for Rekey<'_> {
+    fn fmt<W: Write>(&self, f: &mut Formatter<W>) -> fmt::Result {
+        match self.0 {
+            RekeyError::ChangeRunning {
+                by: Running::Older { .. },
+            } => f.write_str("change running, an older set"),
+            RekeyError::ChangeRunning {
+                by: Running::Item { uuid },
+            } => write!(f, "change running {uuid}"),
+            RekeyError::Unsent { uuid } => write!(f, "unsent {uuid}"),
         }
     }
 }
