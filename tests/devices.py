@@ -1,9 +1,11 @@
 """Devices of the built program, each over a store of its own, and what its store and a server's hold: read from their
 bytes, and opened by the independent implementation. So a check can tell what the program says from what it keeps."""
 
+import base64
 import collections
 import contextlib
 import functools
+import json
 import os
 import tempfile
 import uuid as uuids
@@ -38,7 +40,7 @@ class Device:
 
     def words(self, command, *options):
         words = [command, "--store", self.store]
-        if command in ("register", "signin", "sync"):
+        if command in ("register", "signin", "sync", "passwd"):
             words += ["--server", self.server]
         return words + list(options)
 
@@ -63,6 +65,9 @@ class Device:
 
     def sign_in(self, identifier, password):
         self.ok("signin", "--identifier", identifier, given=password.encode() + b"\n")
+
+    def passwd(self, password, *options):
+        self.ok("passwd", *options, given=password.encode() + b"\n")
 
     def put(self, content, title=None):
         """The new item's uuid."""
@@ -96,6 +101,15 @@ class Device:
     def rows(self):
         return read(self.store, b"D")
 
+    def sets(self):
+        """The present set, the older and the asked one, or None: each its cost, its nonce and its three keys."""
+        rows = self.rows()
+        return [rows.get((18, (which,))) for which in range(3)]
+
+    def session(self):
+        """The token of the session."""
+        return self.rows()[17, ()][2]
+
     def items(self):
         """By uuid the items, in local order, opened under the set that the store holds."""
         rows = self.rows()
@@ -119,6 +133,12 @@ def read(store, owner):
         return journal.rows(file.read(), owner)
 
 
+def moments(store, owner):
+    """The rows after each batch of a store, in turn."""
+    with open(store, "rb") as file:
+        yield from journal.moments(file.read(), owner)
+
+
 def opened(body, uuid, keys):
     if body == "none":
         return None
@@ -130,6 +150,12 @@ def content_of(content, enc, uuid, keys):
     """The text of an item's two strings: one opens to the item's key, under which the other opens."""
     key, _ = independent.open_string(enc, uuid, keys)
     return independent.open_string(content, uuid, bytes.fromhex(key.decode()))[0].decode()
+
+
+def carried(string):
+    """The cost and the nonce of the set that a string names."""
+    params = json.loads(base64.b64decode(string.rpartition(":")[2], validate=True))
+    return params["pw_cost"], params["pw_nonce"]
 
 
 @functools.lru_cache(maxsize=None)
@@ -152,6 +178,12 @@ def versions(store, identifier, password):
             _, type_, _, stamp, deleted, content, enc = row
             found[uuid] = Version(type_, stamp, None if deleted else content_of(content, enc, uuid, b"".join(keys)))
     return found
+
+
+def params_of(rows, identifier):
+    """The cost and the nonce of each set of an account, in order, by a server's rows."""
+    (number,) = (key[0] for (kind, key), row in rows.items() if kind == 2 and row[0] == identifier)
+    return [rows[3, (number, generation)] for generation in range(1, rows[2, (number,)][1] + 1)]
 
 
 def text(data):

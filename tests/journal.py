@@ -148,8 +148,8 @@ def changes(payload, owner):
     return found
 
 
-def rows(file, owner):
-    """What the batches of a file leave."""
+def moments(file, owner):
+    """What each batch of a file leaves, in turn; it is changed by the next."""
     table = {}
     for payload in payloads(file, owner):
         for kind, name, *put in changes(payload, owner):
@@ -157,4 +157,12 @@ def rows(file, owner):
                 table[kind, name] = put[0]
             else:
                 table.pop((kind, name), None)
+        yield table
+
+
+def rows(file, owner):
+    """What the batches of a file leave."""
+    table = {}
+    for table in moments(file, owner):
+        pass
     return table

@@ -1,5 +1,5 @@
 """Servers that aren't `sn serve`: one that says what a check tells it to, one that keeps the server's rules by the model of
-`rule.py`, and a proxy that loses messages. Each serves one connection after another, in a thread, as the program's does.
+`rule.py`, and proxies that lose messages. Each serves one connection after another, in a thread, as the program's does.
 """
 
 import json
@@ -57,6 +57,13 @@ def read_message(connection):
             return data
         data += piece
     return data
+
+
+def deliver(port, data):
+    """A request to the server at this port, and its answer."""
+    with socket.create_connection(("127.0.0.1", port), timeout=60) as connection:
+        connection.sendall(data)
+        return read_message(connection)
 
 
 def reset(connection):
@@ -149,15 +156,10 @@ class Losing(Listening):
         self.loses, self.delivered, self.late = True, [], 0
         self.lost = dict.fromkeys(self.WAYS, 0)
 
-    def deliver(self, data):
-        with socket.create_connection(("127.0.0.1", self.server), timeout=60) as connection:
-            connection.sendall(data)
-            return read_message(connection)
-
     def deliver_late(self):
         """What was sent is delivered once more, and the answer is thrown away."""
         if self.delivered and self.drawn.random() < 0.2:
-            self.deliver(self.drawn.choice(self.delivered))
+            deliver(self.server, self.drawn.choice(self.delivered))
             self.late += 1
 
     def take(self, connection):
@@ -172,7 +174,7 @@ class Losing(Listening):
             reset(connection)
             return
         self.delivered.append(data)
-        given = self.deliver(data)
+        given = deliver(self.server, data)
         if way == "no answer":
             reset(connection)
         elif way == "a part":
@@ -181,6 +183,34 @@ class Losing(Listening):
             connection.sendall(given)
         if self.loses:
             self.deliver_late()
+
+
+class Dropping(Listening):
+    """A proxy before a server that keeps the paths of the requests, and the number of their bytes. It loses one of them, or its
+    answer."""
+
+    def __init__(self, port):
+        self.server = port
+        self.lose(None, 0)
+
+    def lose(self, what, number):
+        """From now on it loses the "request" of this number, or its "answer"; requests are counted from 1."""
+        self.what, self.number = what, number
+        self.paths, self.size = [], 0
+
+    def take(self, connection):
+        connection.settimeout(60)
+        data = read_message(connection)
+        if not data:
+            return
+        self.paths.append(Asked(data).target.partition("?")[0])
+        self.size += len(data)
+        lost = self.what if len(self.paths) == self.number else None
+        given = None if lost == "request" else deliver(self.server, data)
+        if lost is None:
+            connection.sendall(given)
+        else:
+            reset(connection)
 
 
 def stored(item, stamp=5, **members):

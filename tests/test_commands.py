@@ -147,6 +147,7 @@ class Help(unittest.TestCase):
         "del": "store uuid",
         "list": "store uuid",
         "sync": "store server",
+        "passwd": "store server cost",
     }
 
     def answer(self, words):

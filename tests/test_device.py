@@ -6,12 +6,10 @@ import fcntl
 import functools
 import json
 import os
-import re
 import socket
 import stat
 import subprocess
 import unittest
-import uuid as uuids
 
 import devices
 import independent
@@ -22,9 +20,9 @@ from devices import DELETED, Device
 
 PASSWORD = "correct horse battery staple"
 UUID = "00000000-0000-4000-8000-000000000001"
-OTHER = "00000000-0000-4000-8000-000000000002"
-NEEDS_SERVER = ("register", "signin", "sync")
-READS = ("register", "signin", "put", "edit")
+NEEDS_SERVER = ("register", "signin", "sync", "passwd")
+READS = ("register", "signin", "passwd", "put", "edit")
+NAMES_ACCOUNT = ("register", "signin")
 
 
 def note(title, text):
@@ -260,6 +258,7 @@ class Usage(Case):
         "del": {"store": "x", "uuid": UUID},
         "list": {"store": "x"},
         "sync": {"store": "x", "server": "127.0.0.1:1"},
+        "passwd": {"store": "x", "server": "127.0.0.1:1"},
     }
     BAD = {
         "server": ["", "a", "a:", ":1", "a:0", "a:65536", "a:01", "a:+1", "a:-1", "a: 1", "a_b:1", "a b:1", "\u00e9:1", "a" * 254 + ":1", "[::1]:1", "a:1:2", "http://a:1"],
@@ -286,7 +285,7 @@ class Usage(Case):
             for more in (["x"], ["--password", "x"], ["--password=x"], ["--nonce=x"], ["--store"], ["--frob"]):
                 self.faulty(self.words(command, options) + more)
             for name in sorted({"title", "uuid", "cost", "identifier", "server"} - set(options)):
-                if (command, name) not in (("put", "title"), ("list", "uuid"), ("register", "cost")):
+                if (command, name) not in (("put", "title"), ("list", "uuid"), ("register", "cost"), ("passwd", "cost")):
                     value = {"uuid": UUID, "cost": "110000", "server": "127.0.0.1:1"}.get(name, "x")
                     self.faulty(self.words(command, options) + ["--%s=%s" % (name, value)])
         self.assertEqual(os.listdir(self.place), [])
@@ -299,7 +298,8 @@ class Usage(Case):
         for value in self.BAD["uuid"]:
             self.faulty(self.words("list", {**self.OPTIONS["list"], "uuid": value}))
         for cost in ("", "0", "109999", "10000001", "0110000", "+110000", "-1", "110000.0", "1e6", "4294967296"):
-            self.faulty(self.words("register", {**self.OPTIONS["register"], "cost": cost}))
+            for command in ("register", "passwd"):
+                self.faulty(self.words(command, {**self.OPTIONS[command], "cost": cost}))
         self.assertEqual(os.listdir(self.place), [])
 
     def test_values_at_their_bounds(self):
@@ -308,19 +308,21 @@ class Usage(Case):
             for server in ("a:1", "0.A-z:65535", "a" * 253 + ":1"):
                 for identifier in ("a", "\u00e9" * 127):
                     options = {**self.OPTIONS[command], "server": server, "store": "no/folder"}
-                    if command != "sync":
+                    if command in NAMES_ACCOUNT:
                         options["identifier"] = identifier
                     self.refused(program.run(self.words(command, options), b"x\n"), 4, "disk fault")
         for cost in ("110000", "10000000"):
-            options = {**self.OPTIONS["register"], "cost": cost, "store": "no/folder"}
-            self.refused(program.run(self.words("register", options), b"x\n"), 4, "disk fault")
+            for command in ("register", "passwd"):
+                options = {**self.OPTIONS[command], "cost": cost, "store": "no/folder"}
+                self.refused(program.run(self.words(command, options), b"x\n"), 4, "disk fault")
 
 
 class Inputs(Case):
     def test_refusals_of_the_input_come_before_the_store(self):
         for command in READS:
             words = [command, "--store", self.path("x")]
-            words += ["--server", "a:1", "--identifier", "alice"] if command in NEEDS_SERVER else []
+            words += ["--server", "a:1"] if command in NEEDS_SERVER else []
+            words += ["--identifier", "alice"] if command in NAMES_ACCOUNT else []
             words += ["--uuid", UUID] if command == "edit" else []
             self.refused(program.run(words, b"a" * 16777217), 3, "cli.1 InputLong")
             self.refused(program.run(words, b"{}\n\xff"), 3, "cli.2 InputUtf8 3")
@@ -336,7 +338,7 @@ class Inputs(Case):
     def test_an_input_that_cannot_be_read(self):
         device = self.device()
         for command in READS:
-            options = {"edit": ["--uuid", UUID], "put": []}.get(command, ["--identifier", "alice"])
+            options = {"edit": ["--uuid", UUID], "put": [], "passwd": []}.get(command, ["--identifier", "alice"])
             directory = os.open("/", os.O_RDONLY)
             try:
                 done = subprocess.run([program.SN, *device.words(command, *options)], stdin=directory, capture_output=True)
@@ -368,7 +370,7 @@ class Refused(Case):
         return device
 
     def test_no_account(self):
-        for command in ("put", "edit", "del", "list", "content", "sync"):
+        for command in ("put", "edit", "del", "list", "content", "sync", "passwd"):
             device = Device(self.path(command), closed_port())
             options = ["--uuid", UUID] if command in ("edit", "del", "content") else []
             found = device.run("list" if command == "content" else command, *options, given=b"[]")
@@ -597,6 +599,7 @@ class Stores(Case):
         yield device.run("list")
         yield device.run("put", given=b"{}")
         yield device.run("sync")
+        yield device.run("passwd", given=b"p\n")
         yield device.run("del", "--uuid", UUID)
         yield device.run("register", "--identifier", "alice", given=b"p\n")
 
@@ -692,188 +695,6 @@ class ServerRefuses(Case):
                 uuid = device.put("{}")
                 self.refused(device.run("sync"), 10, line)
                 self.assertEqual(device.list(), ['%s draft 2 "Note"' % uuid])
-
-
-def says(**members):
-    return lambda item: scripted.answer(200, scripted.sync_body(**{name: value(item) for name, value in members.items()}))
-
-
-def body(value):
-    return lambda item: scripted.answer(200, value)
-
-
-def without(name):
-    return body({member: value for member, value in scripted.sync_body().items() if member != name})
-
-
-def conflict(item, **members):
-    return {"type": "sync_conflict", "server_item": scripted.stored(item, **members)}
-
-
-def another(item, name="uuid", value=OTHER):
-    """The item with another uuid, and strings that name it, or with something else that is another."""
-    if name == "uuid":
-        return {**item, "uuid": OTHER, "content": item["content"].replace(item["uuid"], OTHER), "enc_item_key": item["enc_item_key"].replace(item["uuid"], OTHER)}
-    return {**item, name: value}
-
-
-def other_string(item):
-    """The content's string with another digit in its vector, still in form."""
-    parts = item["content"].split(":")
-    parts[3] = "0" * 32
-    return {**item, "content": ":".join(parts)}
-
-
-ONE = scripted.answer(200, scripted.sync_body())
-
-
-class Lying(Case):
-    """A server that answers what it may not, and where the device says so. The draft stays as it was sent."""
-
-    TABLE = (
-        ("nothing", lambda item: b"", "head"),
-        ("no HTTP", lambda item: b"hello\r\n\r\n", "head"),
-        ("less than its length", lambda item: ONE[:-1], "head"),
-        ("more than its length", lambda item: ONE + b" ", "head"),
-        ("two lengths", lambda item: ONE.replace(b"Connection: close", b"Content-Length: 1"), "head"),
-        ("no length", lambda item: ONE.replace(b"Content-Length", b"Content-Width"), "head"),
-        ("a head too long", lambda item: ONE.replace(b"\r\n\r\n", b"\r\nX: " + b"x" * 16384 + b"\r\n\r\n"), "head"),
-        ("65 fields", lambda item: ONE.replace(b"\r\n\r\n", b"\r\nX: x" * 63 + b"\r\n\r\n"), "head"),
-        ("a length too great", lambda item: re.sub(rb"Length: \d+", b"Length: 33554433", ONE), "head"),
-        ("a list", body([]), "json"),
-        ("no JSON", body(b"{"), "json"),
-        ("no UTF-8", body(b'{"a":"\xff"}'), "json"),
-        ("nested too deep", body(b'{"a":' * 128 + b"1" + b"}" * 128), "json"),
-        ("no members", body({}), "member conflicts"),
-        ("no cursor", without("cursor_token"), "member cursor_token"),
-        ("no retrieved items", without("retrieved_items"), "member retrieved_items"),
-        ("no saved items", without("saved_items"), "member saved_items"),
-        ("no token", without("sync_token"), "member sync_token"),
-        ("conflicts that are no list", body({**scripted.sync_body(), "conflicts": {}}), "member conflicts"),
-        ("a conflict of another kind", body(scripted.sync_body(conflicts=[{"type": "x"}])), "member type"),
-        ("a stamp out of form", says(saved=lambda item: [{**scripted.stored(item), "updated_at": "now"}]), "member updated_at"),
-        ("a uuid out of form", says(saved=lambda item: [scripted.stored({**item, "uuid": "x"})]), "member uuid"),
-        ("a type of no bytes", says(saved=lambda item: [scripted.stored({**item, "content_type": ""})]), "member content_type"),
-        ("another uuid saved", says(saved=lambda item: [scripted.stored(another(item))]), "saved 0"),
-        ("another string saved", says(saved=lambda item: [scripted.stored(other_string(item))]), "saved 0"),
-        ("saved as deleted", says(saved=lambda item: [scripted.gone(item["uuid"], 5)]), "saved 0"),
-        ("saved twice", says(saved=lambda item: [scripted.stored(item)] * 2), "saved 1"),
-        ("saved and in a conflict", says(saved=lambda item: [scripted.stored(item)], conflicts=lambda item: [conflict(item)]), "conflict 0"),
-        ("a conflict of another uuid", says(conflicts=lambda item: [conflict(another(item))]), "conflict 0"),
-        ("a conflict twice", says(conflicts=lambda item: [conflict(other_string(item))] * 2), "conflict 1"),
-        ("a conflict's string out of form", says(conflicts=lambda item: [conflict({**item, "content": "x"})]), "conflict 0"),
-        ("saved, and then the conflict", says(saved=lambda item: [scripted.stored(another(item))], conflicts=lambda item: [conflict(another(item))]), "saved 0"),
-        ("stamps that stand", says(retrieved=lambda item: [scripted.gone(UUID, 5), scripted.gone(OTHER, 5)]), "retrieved 1"),
-        ("stamps that fall", says(retrieved=lambda item: [scripted.gone(UUID, 5), scripted.gone(OTHER, 4)]), "retrieved 1"),
-        ("a string out of form", says(retrieved=lambda item: [scripted.stored({**item, "content": "x"})]), "retrieved 0"),
-        ("a string of another item", says(retrieved=lambda item: [scripted.stored({**item, "uuid": OTHER})]), "retrieved 0"),
-        ("151 items", says(retrieved=lambda item: [scripted.gone(str(uuids.UUID(int=n)), n) for n in range(1, 152)]), "retrieved 150"),
-        ("a cursor and no item", says(cursor=lambda item: "Mjox"), "cursor"),
-        ("an item, and then the cursor", says(retrieved=lambda item: [scripted.stored({**item, "content": "x"})], cursor=lambda item: "Mjox"), "retrieved 0"),
-        ("a refusal without an error", lambda item: scripted.answer(500, {}), "member error"),
-        ("a refusal without a tag", lambda item: scripted.answer(500, {"error": {"tag": 1}}), "member error"),
-        ("a refusal that is no JSON", lambda item: scripted.answer(500, b"<html>"), "json"),
-    )
-
-    def setUp(self):
-        super().setUp()
-        device = self.device(name="draft")
-        self.uuid = device.put('{"t":"a"}')
-        self.draft = held(device)
-
-    def test_each(self):
-        for name, lie, place in self.TABLE:
-            with self.subTest(name):
-                self.lied(lie, place)
-
-    def lied(self, lie, place):
-        said = []
-
-        def answers(asked):
-            (item,) = asked.json()["items"]
-            said.append(asked)
-            return lie(item) if len(said) == 1 else scripted.answer(200, scripted.sync_body([scripted.stored(item)]))
-
-        with scripted.Scripted(answers) as server:
-            device = self.device(server.port, holds=self.draft)
-            self.refused(device.run("sync"), 11, "answer " + place)
-            self.assertEqual(device.list(), ['%s draft 9 "Note"' % self.uuid])
-            row = device.items()[self.uuid]
-            self.assertEqual((row.base, row.now, row.posted), (None, '{"t":"a"}', '{"t":"a"}'))
-            device.sync()
-            # The same was sent again.
-            self.assertEqual(said[0].data, said[1].data)
-            self.assertEqual(device.list(), ['%s clean 9 "Note"' % self.uuid])
-
-    def test_conflicts_that_are_taken(self):
-        """A content that the server doesn't take stays a draft, and goes again; a uuid that another has is changed."""
-        for kind in ("content_error", "uuid_conflict"):
-            said = []
-
-            def answers(asked):
-                (item,) = asked.json()["items"]
-                said.append(item)
-                if len(said) == 1:
-                    return scripted.answer(200, scripted.sync_body(conflicts=[{"type": kind, "unsaved_item": item}]))
-                return scripted.answer(200, scripted.sync_body([scripted.stored(item)]))
-
-            with scripted.Scripted(answers) as server:
-                device = self.device(server.port, holds=self.draft)
-                device.sync()
-                self.assertEqual(said[0]["uuid"] == said[1]["uuid"], kind == "content_error")
-                self.assertEqual(device.list(), ['%s clean 9 "Note"' % said[1]["uuid"]])
-
-    def test_answers_to_accounts(self):
-        params = scripted.answer(200, scripted.params_body())
-        for command, answers, place in (
-            ("register", [scripted.answer(200, {})], "member token"),
-            ("register", [scripted.answer(200, {"token": "a b", "user": {}})], "member token"),
-            ("register", [scripted.answer(200, {"token": "t", "user": {"email": "alice"}})], "member uuid"),
-            ("register", [scripted.answer(200, {"token": "t", "user": []})], "member user"),
-            ("register", [b""], "head"),
-            ("signin", [scripted.answer(200, scripted.params_body(identifier="bob"))], "member identifier"),
-            ("signin", [scripted.answer(200, {**scripted.params_body(), "version": "004"})], "member version"),
-            ("signin", [scripted.answer(200, {**scripted.params_body(), "pw_cost": "110000"})], "member pw_cost"),
-            ("signin", [params, scripted.answer(200, [])], "json"),
-            ("signin", [params, scripted.answer(200, {"token": "", "user": {}})], "member token"),
-        ):
-            with self.subTest(command=command, place=place):
-                left = list(answers)
-                with scripted.Scripted(lambda asked: left.pop(0)) as server:
-                    device = Device(self.path("%s-%d" % (command, server.port)), server.port)
-                    self.refused(device.run(command, "--identifier", "alice", given=b"p\n"), 11, "answer " + place)
-                    self.assertEqual((device.rows(), left), ({}, []))
-
-
-class Rounds(Case):
-    """A server that never comes to an end."""
-
-    MOST = 10000
-
-    def pages(self, last):
-        """Each page has one deleted item and a cursor, but the one of this number."""
-        count = 0
-
-        def says(asked):
-            nonlocal count
-            count += 1
-            cursor = None if count == last else "cursor-%d" % count
-            return scripted.answer(200, scripted.sync_body(retrieved=[scripted.gone(UUID, count)], cursor=cursor))
-
-        return scripted.Scripted(says, keeps=False)
-
-    def test_pages_without_end(self):
-        with self.pages(None) as server:
-            device = self.device(server.port)
-            self.refused(device.run("sync"), 3, "client.8 RoundsUsed")
-            self.assertEqual(server.count, self.MOST)
-            self.assertEqual(device.rows()[17, ()][3:5], ("Mjox", "cursor-%d" % self.MOST))
-
-    def test_as_many_as_may_be(self):
-        with self.pages(self.MOST) as server:
-            device = self.device(server.port)
-            device.sync()
-            self.assertEqual(server.count, self.MOST)
 
 
 if __name__ == "__main__":

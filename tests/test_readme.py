@@ -107,7 +107,7 @@ class TwoDevices(unittest.TestCase):
         changed = note % b"milk, bread, salt"
         length = len(note % b"milk, bread")
         lines = [b"listening %s\n" % port, b"ok\n", uuid, b"ok\n", b"ok\n", b"ok\n", rb'\1 clean %d "Note"\n' % length, b"ok\n", b"ok\n", b"ok\n"]
-        return b"".join(lines) + re.escape(changed) + b"in none of these files\n"
+        return b"".join(lines) + re.escape(changed) + b"ok\nok\nok\nin none of these files\n"
 
     def told(self, err):
         """What isn't said of the server's end by the shell."""

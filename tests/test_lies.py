@@ -1,0 +1,197 @@
+"""Servers that answer what they may not, over loopback: where a device says so, and that it keeps what it had."""
+
+import re
+import unittest
+import uuid as uuids
+
+import scripted
+from devices import Device
+from test_device import UUID, Case, held
+
+OTHER = "00000000-0000-4000-8000-000000000002"
+
+
+def says(**members):
+    return lambda item: scripted.answer(200, scripted.sync_body(**{name: value(item) for name, value in members.items()}))
+
+
+def body(value):
+    return lambda item: scripted.answer(200, value)
+
+
+def without(name):
+    return body({member: value for member, value in scripted.sync_body().items() if member != name})
+
+
+def conflict(item, **members):
+    return {"type": "sync_conflict", "server_item": scripted.stored(item, **members)}
+
+
+def another(item, name="uuid", value=OTHER):
+    """The item with another uuid, and strings that name it, or with something else that is another."""
+    if name == "uuid":
+        return {**item, "uuid": OTHER, "content": item["content"].replace(item["uuid"], OTHER), "enc_item_key": item["enc_item_key"].replace(item["uuid"], OTHER)}
+    return {**item, name: value}
+
+
+def other_string(item):
+    """The content's string with another digit in its vector, still in form."""
+    parts = item["content"].split(":")
+    parts[3] = "0" * 32
+    return {**item, "content": ":".join(parts)}
+
+
+ONE = scripted.answer(200, scripted.sync_body())
+
+
+class Lying(Case):
+    """A server that answers what it may not, and where the device says so. The draft stays as it was sent."""
+
+    TABLE = (
+        ("nothing", lambda item: b"", "head"),
+        ("no HTTP", lambda item: b"hello\r\n\r\n", "head"),
+        ("less than its length", lambda item: ONE[:-1], "head"),
+        ("more than its length", lambda item: ONE + b" ", "head"),
+        ("two lengths", lambda item: ONE.replace(b"Connection: close", b"Content-Length: 1"), "head"),
+        ("no length", lambda item: ONE.replace(b"Content-Length", b"Content-Width"), "head"),
+        ("a head too long", lambda item: ONE.replace(b"\r\n\r\n", b"\r\nX: " + b"x" * 16384 + b"\r\n\r\n"), "head"),
+        ("65 fields", lambda item: ONE.replace(b"\r\n\r\n", b"\r\nX: x" * 63 + b"\r\n\r\n"), "head"),
+        ("a length too great", lambda item: re.sub(rb"Length: \d+", b"Length: 33554433", ONE), "head"),
+        ("a list", body([]), "json"),
+        ("no JSON", body(b"{"), "json"),
+        ("no UTF-8", body(b'{"a":"\xff"}'), "json"),
+        ("nested too deep", body(b'{"a":' * 128 + b"1" + b"}" * 128), "json"),
+        ("no members", body({}), "member conflicts"),
+        ("no cursor", without("cursor_token"), "member cursor_token"),
+        ("no retrieved items", without("retrieved_items"), "member retrieved_items"),
+        ("no saved items", without("saved_items"), "member saved_items"),
+        ("no token", without("sync_token"), "member sync_token"),
+        ("conflicts that are no list", body({**scripted.sync_body(), "conflicts": {}}), "member conflicts"),
+        ("a conflict of another kind", body(scripted.sync_body(conflicts=[{"type": "x"}])), "member type"),
+        ("a stamp out of form", says(saved=lambda item: [{**scripted.stored(item), "updated_at": "now"}]), "member updated_at"),
+        ("a uuid out of form", says(saved=lambda item: [scripted.stored({**item, "uuid": "x"})]), "member uuid"),
+        ("a type of no bytes", says(saved=lambda item: [scripted.stored({**item, "content_type": ""})]), "member content_type"),
+        ("another uuid saved", says(saved=lambda item: [scripted.stored(another(item))]), "saved 0"),
+        ("another string saved", says(saved=lambda item: [scripted.stored(other_string(item))]), "saved 0"),
+        ("saved as deleted", says(saved=lambda item: [scripted.gone(item["uuid"], 5)]), "saved 0"),
+        ("saved twice", says(saved=lambda item: [scripted.stored(item)] * 2), "saved 1"),
+        ("saved and in a conflict", says(saved=lambda item: [scripted.stored(item)], conflicts=lambda item: [conflict(item)]), "conflict 0"),
+        ("a conflict of another uuid", says(conflicts=lambda item: [conflict(another(item))]), "conflict 0"),
+        ("a conflict twice", says(conflicts=lambda item: [conflict(other_string(item))] * 2), "conflict 1"),
+        ("a conflict's string out of form", says(conflicts=lambda item: [conflict({**item, "content": "x"})]), "conflict 0"),
+        ("saved, and then the conflict", says(saved=lambda item: [scripted.stored(another(item))], conflicts=lambda item: [conflict(another(item))]), "saved 0"),
+        ("stamps that stand", says(retrieved=lambda item: [scripted.gone(UUID, 5), scripted.gone(OTHER, 5)]), "retrieved 1"),
+        ("stamps that fall", says(retrieved=lambda item: [scripted.gone(UUID, 5), scripted.gone(OTHER, 4)]), "retrieved 1"),
+        ("a string out of form", says(retrieved=lambda item: [scripted.stored({**item, "content": "x"})]), "retrieved 0"),
+        ("a string of another item", says(retrieved=lambda item: [scripted.stored({**item, "uuid": OTHER})]), "retrieved 0"),
+        ("151 items", says(retrieved=lambda item: [scripted.gone(str(uuids.UUID(int=n)), n) for n in range(1, 152)]), "retrieved 150"),
+        ("a cursor and no item", says(cursor=lambda item: "Mjox"), "cursor"),
+        ("an item, and then the cursor", says(retrieved=lambda item: [scripted.stored({**item, "content": "x"})], cursor=lambda item: "Mjox"), "retrieved 0"),
+        ("a refusal without an error", lambda item: scripted.answer(500, {}), "member error"),
+        ("a refusal without a tag", lambda item: scripted.answer(500, {"error": {"tag": 1}}), "member error"),
+        ("a refusal that is no JSON", lambda item: scripted.answer(500, b"<html>"), "json"),
+    )
+
+    def setUp(self):
+        super().setUp()
+        device = self.device(name="draft")
+        self.uuid = device.put('{"t":"a"}')
+        self.draft = held(device)
+
+    def test_each(self):
+        for name, lie, place in self.TABLE:
+            with self.subTest(name):
+                self.lied(lie, place)
+
+    def lied(self, lie, place):
+        said = []
+
+        def answers(asked):
+            (item,) = asked.json()["items"]
+            said.append(asked)
+            return lie(item) if len(said) == 1 else scripted.answer(200, scripted.sync_body([scripted.stored(item)]))
+
+        with scripted.Scripted(answers) as server:
+            device = self.device(server.port, holds=self.draft)
+            self.refused(device.run("sync"), 11, "answer " + place)
+            self.assertEqual(device.list(), ['%s draft 9 "Note"' % self.uuid])
+            row = device.items()[self.uuid]
+            self.assertEqual((row.base, row.now, row.posted), (None, '{"t":"a"}', '{"t":"a"}'))
+            device.sync()
+            # The same was sent again.
+            self.assertEqual(said[0].data, said[1].data)
+            self.assertEqual(device.list(), ['%s clean 9 "Note"' % self.uuid])
+
+    def test_conflicts_that_are_taken(self):
+        """A content that the server doesn't take stays a draft, and goes again; a uuid that another has is changed."""
+        for kind in ("content_error", "uuid_conflict"):
+            said = []
+
+            def answers(asked):
+                (item,) = asked.json()["items"]
+                said.append(item)
+                if len(said) == 1:
+                    return scripted.answer(200, scripted.sync_body(conflicts=[{"type": kind, "unsaved_item": item}]))
+                return scripted.answer(200, scripted.sync_body([scripted.stored(item)]))
+
+            with scripted.Scripted(answers) as server:
+                device = self.device(server.port, holds=self.draft)
+                device.sync()
+                self.assertEqual(said[0]["uuid"] == said[1]["uuid"], kind == "content_error")
+                self.assertEqual(device.list(), ['%s clean 9 "Note"' % said[1]["uuid"]])
+
+    def test_answers_to_accounts(self):
+        params = scripted.answer(200, scripted.params_body())
+        for command, answers, place in (
+            ("register", [scripted.answer(200, {})], "member token"),
+            ("register", [scripted.answer(200, {"token": "a b", "user": {}})], "member token"),
+            ("register", [scripted.answer(200, {"token": "t", "user": {"email": "alice"}})], "member uuid"),
+            ("register", [scripted.answer(200, {"token": "t", "user": []})], "member user"),
+            ("register", [b""], "head"),
+            ("signin", [scripted.answer(200, scripted.params_body(identifier="bob"))], "member identifier"),
+            ("signin", [scripted.answer(200, {**scripted.params_body(), "version": "004"})], "member version"),
+            ("signin", [scripted.answer(200, {**scripted.params_body(), "pw_cost": "110000"})], "member pw_cost"),
+            ("signin", [params, scripted.answer(200, [])], "json"),
+            ("signin", [params, scripted.answer(200, {"token": "", "user": {}})], "member token"),
+        ):
+            with self.subTest(command=command, place=place):
+                left = list(answers)
+                with scripted.Scripted(lambda asked: left.pop(0)) as server:
+                    device = Device(self.path("%s-%d" % (command, server.port)), server.port)
+                    self.refused(device.run(command, "--identifier", "alice", given=b"p\n"), 11, "answer " + place)
+                    self.assertEqual((device.rows(), left), ({}, []))
+
+
+class Rounds(Case):
+    """A server that never comes to an end."""
+
+    MOST = 10000
+
+    def pages(self, last):
+        """Each page has one deleted item and a cursor, but the one of this number."""
+        count = 0
+
+        def says(asked):
+            nonlocal count
+            count += 1
+            cursor = None if count == last else "cursor-%d" % count
+            return scripted.answer(200, scripted.sync_body(retrieved=[scripted.gone(UUID, count)], cursor=cursor))
+
+        return scripted.Scripted(says, keeps=False)
+
+    def test_pages_without_end(self):
+        with self.pages(None) as server:
+            device = self.device(server.port)
+            self.refused(device.run("sync"), 3, "client.8 RoundsUsed")
+            self.assertEqual(server.count, self.MOST)
+            self.assertEqual(device.rows()[17, ()][3:5], ("Mjox", "cursor-%d" % self.MOST))
+
+    def test_as_many_as_may_be(self):
+        with self.pages(self.MOST) as server:
+            device = self.device(server.port)
+            device.sync()
+            self.assertEqual(server.count, self.MOST)
+
+
+if __name__ == "__main__":
+    unittest.main()
