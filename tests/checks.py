@@ -1,14 +1,29 @@
-"""Runs every check of this folder, and closes with a line that counts them."""
+"""Runs the checks of this folder, as many files at once as there are processors, and closes with a line that counts them.
 
+A file runs in a process of its own, so that the peak memory that a check reads is of its own children. What some files
+need, the proved functions that no command shows, is built as a shared library meanwhile, by `bench/library`, where there
+is a C compiler and SN_LIBRARY isn't set.
+"""
+
+import concurrent.futures
 import os
 import pathlib
+import re
+import shutil
+import subprocess
 import sys
+import tempfile
 import time
 import unittest
+
+HERE = pathlib.Path(__file__).resolve().parent
 
 # Where this is set, a check that is skipped fails, but for these, whose programs not every place that checks can install.
 NOTHING_SKIPPED = bool(os.environ.get("SN_NOTHING_SKIPPED"))
 MAY_BE_SKIPPED = {("test_serve", "BehindAProxy")}
+
+# The files that take longest begin first.
+LONGEST = ("test_stops", "test_passwd", "test_serve", "test_device")
 
 
 class Result(unittest.TextTestResult):
@@ -36,15 +51,20 @@ def last_line(passed, failed, skipped):
     return line + ", %d skipped" % skipped if skipped else line
 
 
-def main():
-    here = pathlib.Path(__file__).resolve().parent
-    names = sys.argv[1:] or sorted(path.stem for path in here.glob("test_*.py"))
-    suite = unittest.defaultTestLoader.loadTestsFromNames(names)
+def counted(line):
+    """The three numbers of a last line, or one failed check where it is none."""
+    found = re.fullmatch(r"(\d+) passed, (\d+) failed(?:, (\d+) skipped)?", line)
+    return [int(number or 0) for number in found.groups()] if found else [0, 1, 0]
+
+
+def run_here(name):
+    """Runs the checks of one file, class or name in this process."""
+    suite = unittest.defaultTestLoader.loadTestsFromName(name)
     began = time.time()
     result = unittest.TextTestRunner(stream=sys.stdout, verbosity=2, resultclass=Result).run(suite)
     failed = len(result.failures) + len(result.errors)
     skipped = len(result.skipped)
-    print("end-to-end checks: %.1f s" % (time.time() - began))
+    print("%s: %.1f s" % (name, time.time() - began))
     for line in skipped_classes(result):
         print(line)
     barred = [test for test, _ in result.skipped if (type(test).__module__, type(test).__name__) not in MAY_BE_SKIPPED]
@@ -53,6 +73,52 @@ def main():
         failed, skipped = failed + len(barred), skipped - len(barred)
     print(last_line(result.passed, failed, skipped))
     return 1 if failed else 0
+
+
+def needs_library(name):
+    """Whether the file that a name is of calls the shared library."""
+    file = HERE / (name.split(".")[0] + ".py")
+    return file.exists() and 'LIBRARY = os.environ.get("SN_LIBRARY")' in file.read_text()
+
+
+def build_library(folder):
+    """The path of the shared library, or None where it wasn't built."""
+    path = os.path.join(folder, "sn_bench.so")
+    done = subprocess.run([str(HERE.parent / "bench" / "library"), path], stdout=subprocess.DEVNULL)
+    return path if done.returncode == 0 else None
+
+
+def run_apart(name, library):
+    """Runs the checks of a name in a process of its own: whether it was begun, and what it printed."""
+    environment = dict(os.environ)
+    if library is not None and needs_library(name):
+        environment["SN_LIBRARY"] = path = library.result() or ""
+        if not path:
+            return "%s: the shared library was not built\n%s\n" % (name, last_line(0, 1, 0))
+    done = subprocess.run([sys.executable, __file__, "--here", name], cwd=HERE, env=environment, stdout=subprocess.PIPE, stderr=subprocess.STDOUT, text=True)
+    return done.stdout
+
+
+def run_all(names):
+    """Runs the checks of these names side by side."""
+    began, counts = time.time(), [0, 0, 0]
+    builds = shutil.which("cc") and "SN_LIBRARY" not in os.environ and any(map(needs_library, names))
+    order = sorted(names, key=lambda name: (needs_library(name), name not in LONGEST))
+    with tempfile.TemporaryDirectory(prefix="sn-checks-") as folder, concurrent.futures.ThreadPoolExecutor((os.cpu_count() or 1) + 1) as lanes:
+        library = lanes.submit(build_library, folder) if builds else None
+        for done in concurrent.futures.as_completed([lanes.submit(run_apart, name, library) for name in order]):
+            lines = done.result().splitlines()
+            print("\n".join(lines), flush=True)
+            counts = [one + other for one, other in zip(counts, counted(lines[-1] if lines else ""))]
+    print("end-to-end checks: %.1f s" % (time.time() - began))
+    print(last_line(*counts))
+    return 1 if counts[1] else 0
+
+
+def main():
+    if sys.argv[1:2] == ["--here"]:
+        return run_here(sys.argv[2])
+    return run_all(sys.argv[1:] or sorted(path.stem for path in HERE.glob("test_*.py")))
 
 
 if __name__ == "__main__":
