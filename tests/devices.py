@@ -165,7 +165,21 @@ def keys_of(identifier, password, cost, nonce):
 
 def versions(store, identifier, password):
     """By uuid the last versions of an account, opened under the keys of its password."""
-    rows = read(store, b"S")
+    return versions_in(read(store, b"S"), identifier, password)
+
+
+def versions_ever(store, identifier, password):
+    """By uuid the contents of all versions that an account ever had, whose password was never changed."""
+    found = {}
+    for rows in moments(store, b"S"):
+        if any(kind == 2 and row[0] == identifier for (kind, _), row in rows.items()):
+            for uuid, version in versions_in(rows, identifier, password).items():
+                found.setdefault(uuid, set()).add(version.content)
+    return found
+
+
+def versions_in(rows, identifier, password):
+    """By uuid the versions of an account in these rows of a server."""
     (number,) = (key[0] for (kind, key), row in rows.items() if kind == 2 and row[0] == identifier)
     cost, nonce = rows[3, (number, rows[2, (number,)][1])]
     pw, *keys = keys_of(identifier, password, cost, nonce)
