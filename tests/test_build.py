@@ -2,6 +2,7 @@
 
 import os
 import pty
+import select
 import shutil
 import signal
 import subprocess
@@ -182,7 +183,10 @@ class AtATerminal(unittest.TestCase):
         terminal, inside = pty.openpty()
         try:
             done = subprocess.run(["./sn", *words], cwd=self.clone.top, env=self.clone.environment, stdin=subprocess.DEVNULL, stderr=inside)
-            return done.returncode, os.read(terminal, 65536).decode().replace("\r\n", "\n")
+            read = b""
+            while select.select([terminal], [], [], 0.3)[0]:
+                read += os.read(terminal, 65536)
+            return done.returncode, read.decode().replace("\r\n", "\n")
         finally:
             os.close(terminal)
             os.close(inside)
