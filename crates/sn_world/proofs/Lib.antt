@@ -1,6 +1,10 @@
 pub mod Accepting
 pub mod AccountCalls
 pub mod Alive
+pub mod AnswerCounts
+pub mod AnswerLists
+pub mod AnswerPage
+pub mod AnswerPasses
 pub mod AnswerSaid
 pub mod Applied
 pub mod AppliedAnswer
@@ -8,6 +12,7 @@ pub mod AppliedPulled
 pub mod AskLemmas
 pub mod AtLast
 pub mod Based
+pub mod Batches
 pub mod Begun
 pub mod CallFronts
 pub mod CallLemmas
@@ -19,12 +24,21 @@ pub mod DraftMoves
 pub mod Dropped
 pub mod Edited
 pub mod First
+pub mod FittingCalls
+pub mod FittingGoes
+pub mod FittingItems
+pub mod FittingPieces
+pub mod FittingRows
+pub mod FittingWorlds
 pub mod Frames
+pub mod Heard
 pub mod Items
+pub mod KeyBytes
 pub mod Lasts
 pub mod Lists
 pub mod MadeBy
 pub mod Making
+pub mod OneHeld
 pub mod OneSets
 pub mod OwnStrings
 pub mod Posted
@@ -33,9 +47,11 @@ pub mod PulledAll
 pub mod Pulling
 pub mod Pulls
 pub mod PutNew
+pub mod Reaching
 pub mod Removing
 pub mod Renewed
 pub mod RoundLemmas
+pub mod RowSizes
 pub mod Said
 pub mod Saying
 pub mod SendsPosted
@@ -48,6 +64,8 @@ pub mod Sessions
 pub mod SetsKept
 pub mod Settled
 pub mod Settling
+pub mod ShortDrafts
+pub mod ShortTexts
 pub mod ShowsLemmas
 pub mod SignedIn
 pub mod Standing
@@ -55,6 +73,7 @@ pub mod Started
 pub mod Steps
 pub mod SyncCalls
 pub mod Synced
+pub mod SyncsAnswer
 pub mod SyncsEnd
 pub mod TakenAll
 pub mod TakenClean
@@ -66,6 +85,7 @@ pub mod TakenMet
 pub mod TakenOne
 pub mod TakenPosted
 pub mod TakenRenamed
+pub mod TakenSizes
 pub mod Tokens
 pub mod Traced
 pub mod Whole

@@ -1,7 +1,10 @@
+pub mod Answering
 pub mod Applying
 pub mod Calls
 pub mod Committing
+pub mod Delivered
 pub mod First
+pub mod Fitting
 pub mod Happens
 pub mod Holds
 pub mod Laws

@@ -1,9 +1,17 @@
 //! Both ends as one world, the invariant that they keep, and the laws that each step keeps it.
 #![tactic(auto)]
 
+mod answering_laws;
+mod fitting_laws;
 mod laws;
 mod settling_laws;
 
+pub use answering_laws::{syncs_answer, traced_syncs_answer};
+pub use fitting_laws::{
+    calls_fit, calls_go_by, devices_fit, first_fits, fresh_fits, lines_go_by, lines_keep_by,
+    requests_fit, runs_stay_fitting, sends_fit, steps_fit, steps_fit_uuids, syncs_end_by,
+    traces_fit,
+};
 pub use laws::{
     applied_whole, calls_go, fronts_go, holds_first, keeps, keeps_committing, keeps_making,
     keeps_serving, keeps_starting, leads_keep, lines_go, lines_keep, makes_live, registered_begins,
