@@ -1,0 +1,222 @@
+-- What a commit says is what is computed.
+use Rattle.std.proofs.Common.{◌≡◌, ◌≢◌, ◌⊎◌, ℕ, Bool, true, false, List, [], ◌∷◌, ◌++◌, length, Option, Some, None, refl, sym, ap, ◌∙◌, subst, inl, inr, ⊎_elim}
+use Rattle.std.proofs.lemmas.Bool.{cases_Bool}
+use Rattle.std.proofs.lemmas.List.{append-nil}
+use Rattle.std.specs.List.{AllZip, flat_map, list_any}
+use Rattle.std.specs.Option.{option_and_then, option_to_list}
+use Rattle.std.specs.Prelude.{◌&&◌, if◌then◌else◌, is_none}
+use Rattle.std.specs.Str.{bytes_eq}
+use Rattle.rand_chacha.specs.ChaCha.{ChaCha}
+use Rattle.sn_client.specs.Laws.{AreStanding, StayStanding}
+use Rattle.sn_client.specs.Sending.{Posts, PostsAll, PutsColumns}
+use Rattle.sn_client.specs.States.{AreSoundLocals, HasItem, HasLocal, columns}
+use Rattle.sn_client.specs.Steps.{Applies, AppliesTo, Deletes, Edits, IsUnknown, Step, What, adopts, applies, asks, begins, deletes, drafted, edits, forgets, posts, puts, renews, start}
+use Rattle.sn_client.specs.Taking.{Told, told_by}
+use Rattle.sn_laws.proofs.Facts.{one_there}
+use Rattle.sn_laws.specs.Lookups.{Bytes, account_named}
+use Rattle.sn_laws.specs.declared.ideal.Account.{Account}
+use Rattle.sn_laws.specs.declared.ideal.Content.TheVariants as content
+use Rattle.sn_laws.specs.declared.ideal.Ideal.{Ideal}
+use Rattle.sn_laws.specs.declared.moves.Move.{Move}
+use Rattle.sn_laws.specs.declared.moves.Move.TheVariants.{Drop, Edit, Join, Post}
+use Rattle.sn_rows.specs.Table.{Removes, Rows, key_of}
+use Rattle.sn_rows.specs.declared.body.RowBody.{RowBody}
+use Rattle.sn_rows.specs.declared.body.RowBody.TheVariants as row
+use Rattle.sn_rows.specs.declared.change.Change.{Change}
+use Rattle.sn_rows.specs.declared.device_rows.LocalItem.{LocalItem}
+use Rattle.sn_rows.specs.declared.key.Key.{Key}
+use Rattle.sn_rows.specs.declared.key.Key.TheVariants as key
+use Rattle.sn_rows.specs.declared.value.Value.{Value}
+use Rattle.sn_rows.specs.declared.value.Value.TheVariants as value
+use Rattle.sn_sync.specs.Laws.{HasOneStamp}
+use Rattle.sn_sync.specs.declared.answer.Answer.{Answer}
+use Rattle.sn_sync.specs.declared.answer.Answer.TheVariants as answer
+use Rattle.sn_sync.specs.declared.answer.Conflict.{Conflict}
+use Rattle.sn_sync.specs.declared.item.Item.{Item}
+use Rattle.sn_sync.specs.declared.request.Request.{Request}
+use Rattle.sn_sync.specs.declared.request.Request.TheVariants as request
+use Rattle.sn_world.specs.Applying.{SaysAnswer, SaysApplied}
+use Rattle.sn_moves.specs.Commits.{change_moved, deletion_of, edit_of, is_unknown, item_moved, moves_of}
+use Rattle.sn_world.specs.Committing.{IsPostOf, SaysCommit, SaysDeletion, SaysEdit}
+use Rattle.sn_moves.specs.Drafts.{answered, item_at, item_found, item_left, item_move}
+use Rattle.sn_laws.specs.Reached.{DeletionsStay}
+use Rattle.sn_world.specs.Happens.{commits}
+use Rattle.sn_world.specs.Holds.{Holds}
+use Rattle.sn_world.specs.Laws.{SaysSome}
+use Rattle.sn_world.specs.World.{World}
+use Rattle.sn_moves.specs.Laws.{IsDone, KeepsDeletions, SaysComputed, SaysOne}
+use Rattle.sn_moves.specs.Foreign.{foreign_in, foreign_of}
+use Rattle.sn_moves.specs.declared.done.Done.{Done}
+use Rattle.sn_moves.specs.declared.done.Done.TheVariants as done
+use Rattle.sn_moves.proofs.ApartLemmas.{told_all, told_apart, told_checked}
+use Rattle.sn_moves.proofs.Shown.{keeps_deletions}
+use Rattle.sn_moves.proofs.ToldLemmas.{AreLeft, IsIn, IsOut, all_said, foreign_told}
+use Rattle.sn_moves.proofs.Turns.{Said, found_at}
+
+-- ---- one item
+
+abbrev local_in : Option Value → Option LocalItem
+local_in (Some (value.Local local)) = Some local
+local_in found = None
+
+same_local : (rows : Rows) (n : ℕ) (l m : LocalItem) → HasLocal rows n l → HasLocal rows n m → l ≡ m
+same_local rows n l m has there = one_there l m (local_in (rows (key.Local n))) (ap local_in has) (ap local_in there)
+
+-- a uuid is that of one item
+same_item : (rows : Rows) → AreSoundLocals rows → (uuid : Bytes) (n k : ℕ) (l m : LocalItem) → HasItem rows uuid n l → HasItem rows uuid k m → l ≡ m
+same_item rows sound uuid n k l m has there =
+    let at : n ≡ k = sound.apart n k l m has.0 there.0 (has.1 ∙ sym there.1) in
+    same_local rows k l m (subst (λ (x : ℕ). HasLocal rows x l) at has.0) there.0
+
+-- ---- what is done to it
+
+moved_one : (rows : Rows) (name : Bytes) (what : Done) (changes : List Change) (change : Change) (n : ℕ) (local : LocalItem) → changes ≡ change ∷ []
+    → key_of change ≡ key.Local n → HasLocal rows n local → (m : Move) → item_moved name what local ≡ Some m
+    → flat_map (change_moved rows name what) changes ≡ m ∷ []
+moved_one rows name what changes change n local are named has m is =
+    ap (flat_map (change_moved rows name what)) are
+    ∙ ap (λ (found : Option LocalItem). option_to_list (option_and_then (item_moved name what) found) ++ []) (found_at rows change n local named has)
+    ∙ ap (λ (said : Option Move). option_to_list said ++ []) is
+
+edit_one : (rows : Rows) → AreSoundLocals rows → (words left : ChaCha) (name uuid text : Bytes) (changes : List Change) (moves : List Move)
+    → Edits rows words uuid text changes left → SaysEdit rows name uuid (content.Plain text) moves → moves ≡ moves_of rows name (done.Edits text) changes
+edit_one rows sound words left name uuid text changes moves x (n, l, has, is) =
+    let same : l ≡ x.local = same_item rows sound uuid n x.number l x.local has x.stands in
+    is
+    ∙ ap (λ (u : Bytes). Edit name u l.kind l.base (content.Plain text) ∷ []) (sym has.1)
+    ∙ ap (λ (m : LocalItem). edit_of name (content.Plain text) m ∷ []) same
+    ∙ sym (moved_one rows name (done.Edits text) changes x.change x.number x.local x.changes_are x.change_is.puts.key_is x.stands.0
+    (edit_of name (content.Plain text) x.local) refl)
+
+unknown : (base : Option ℕ) (posted : Option RowBody) → base ≡ None → posted ≡ None → (is_none base && is_none posted) ≡ true
+unknown base posted e f = ap (λ (b : Option ℕ). is_none b && is_none posted) e ∙ ap (λ (p : Option RowBody). is_none p) f
+
+known : (base : Option ℕ) (posted : Option RowBody) → ¬ ((base ≡ None) × (posted ≡ None)) → (is_none base && is_none posted) ≡ false
+known None None h = absurd (h (refl, refl))
+known None (Some p) h = refl
+known (Some b) posted h = refl
+
+deletion_said : (name uuid : Bytes) (l : LocalItem) (moves : List Move) → l.uuid ≡ uuid
+    → ((IsUnknown l × (moves ≡ Drop name l.uuid ∷ [])) ⊎ (¬ (IsUnknown l) × (moves ≡ Edit name uuid l.kind l.base content.Deleted ∷ [])))
+    → moves ≡ deletion_of name l ∷ []
+deletion_said name uuid l moves named (inl (new, is)) =
+    is ∙ ap (λ (b : Bool). (if b then Drop name l.uuid else edit_of name content.Deleted l) ∷ []) (sym (unknown l.base l.posted new.0 new.1))
+deletion_said name uuid l moves named (inr (old, is)) =
+    is
+    ∙ ap (λ (u : Bytes). Edit name u l.kind l.base content.Deleted ∷ []) (sym named)
+    ∙ ap (λ (b : Bool). (if b then Drop name l.uuid else edit_of name content.Deleted l) ∷ []) (sym (known l.base l.posted old))
+
+deleted_key : (rows : Rows) (uuid : Bytes) (changes : List Change) → (x : Deletes rows uuid changes) → key_of x.change ≡ key.Local x.number
+deleted_key rows uuid changes x =
+    ⊎_elim (λ (gone : IsUnknown x.local × Removes x.change (key.Local x.number)). gone.1.key_is)
+    (λ (kept : ¬ (IsUnknown x.local) × PutsColumns x.change x.number (drafted (Some row.Deleted) (columns x.local))). kept.1.puts.key_is) x.change_is
+
+deletion_one : (rows : Rows) → AreSoundLocals rows → (name uuid : Bytes) (changes : List Change) (moves : List Move) → Deletes rows uuid changes
+    → SaysDeletion rows name uuid moves → moves ≡ moves_of rows name done.Deletes changes
+deletion_one rows sound name uuid changes moves x (n, l, has, is) =
+    let same : l ≡ x.local = same_item rows sound uuid n x.number l x.local has x.stands in
+    deletion_said name uuid l moves has.1 is
+    ∙ ap (λ (m : LocalItem). deletion_of name m ∷ []) same
+    ∙ sym (moved_one rows name done.Deletes changes x.change x.number x.local x.changes_are (deleted_key rows uuid changes x) x.stands.0
+    (deletion_of name x.local) refl)
+
+posts_one : (rows : Rows) (name : Bytes) (numbers : List ℕ) (changes : List Change) (moves : List Move) → PostsAll rows numbers changes
+    → AllZip (IsPostOf rows name) numbers moves → moves ≡ flat_map (change_moved rows name done.Posts) changes
+posts_one rows name [] [] [] all says = refl
+posts_one rows name [] [] (m ∷ ms) all says = absurd says
+posts_one rows name [] (c ∷ cs) moves all says = absurd all
+posts_one rows name (n ∷ ns) [] moves all says = absurd all
+posts_one rows name (n ∷ ns) (c ∷ cs) [] all says = absurd says
+posts_one rows name (n ∷ ns) (c ∷ cs) (m ∷ ms) (one, rest) ((l, has, is), others) =
+    let same : l ≡ one.local = same_local rows n l one.local has one.stands in
+    let first : change_moved rows name done.Posts c ≡ Post name one.local.uuid ∷ [] =
+    ap (λ (found : Option LocalItem). option_to_list (option_and_then (item_moved name done.Posts) found)) (found_at rows c n one.local one.puts.puts.key_is one.stands) in
+    ap (λ (x : Move). x ∷ ms) (is ∙ ap (λ (k : LocalItem). Post name k.uuid) same)
+    ∙ ap (λ (more : List Move). Post name one.local.uuid ∷ more) (posts_one rows name ns cs ms rest others)
+    ∙ ap (λ (x : List Move). x ++ flat_map (change_moved rows name done.Posts) cs) (sym first)
+
+-- ---- an answer
+
+module _ (one_stamp : HasOneStamp) (stays : StayStanding) (rows : Rows) (sound : AreSoundLocals rows) (stay : KeepsDeletions rows) (name : Bytes) (words left : ChaCha)
+    (sent : List Item) (conflicts : List Conflict) (cursor : Option Bytes) (retrieved saved : List Item) (token : Bytes) (changes : List Change)
+    (moves : List Move) (x : Applies rows words sent conflicts cursor retrieved saved token changes left)
+    (says : SaysApplied rows name conflicts cursor retrieved saved token changes moves) where
+  abbrev foreign : List Bytes
+  foreign = flat_map foreign_of conflicts
+
+  standing : AreStanding says.owner.next rows
+  standing = record {
+    numbered = λ number local there. sound.numbered says.owner number local says.holds.owned there;
+    apart = sound.apart;
+    items = sound.items;
+  }
+
+  before : AreLeft foreign rows (foreign_told (told_by saved conflicts retrieved))
+  before n l has is =
+      ⊎_elim (λ (among : IsIn l.uuid foreign). inr (subst (λ (us : List Bytes). IsIn l.uuid us) (sym (told_all saved conflicts retrieved)) among))
+      (λ (out : IsOut l.uuid foreign). inl out) (cases_Bool (list_any (bytes_eq l.uuid) foreign))
+
+  said : Said name foreign (start rows says.owner says.words) says.end moves
+  said =
+      all_said one_stamp stays name foreign says.sets saved (told_by saved conflicts retrieved) (start rows says.owner says.words) says.end moves
+      (told_checked sent saved conflicts retrieved cursor x.passes) (told_apart sent saved conflicts retrieved cursor x.passes) standing stay before says.told
+
+  -- the device's own row says nothing
+  own : answered name foreign None says.end.rows (says.counted ∷ []) ≡ []
+  own =
+      ap (λ (found : Option LocalItem). option_to_list (item_move name foreign None found (item_left says.counted)) ++ [])
+      (ap (λ (k : Key). item_at k (says.end.rows k)) says.counted_is.puts_it.key_is)
+
+  pub applied_one : moves ≡ answered name foreign None rows changes
+  applied_one =
+      sym (append-nil moves)
+      ∙ ap (λ (m : List Move). moves ++ m) (sym own)
+      ∙ sym (said.says (says.counted ∷ []))
+      ∙ ap (answered name foreign None rows) (ap (λ (c : List Change). c ++ says.counted ∷ []) (sym said.changes_are) ∙ sym says.changes_are)
+
+answer_one : HasOneStamp → StayStanding → (rows : Rows) → AreSoundLocals rows → KeepsDeletions rows → (name : Bytes) (words left : ChaCha) (r : Request) (given : Answer)
+    (changes : List Change) (moves : List Move) → AppliesTo rows words r given changes left → SaysAnswer rows name given changes moves
+    → moves ≡ moves_of rows name (done.Applies (foreign_in given)) changes
+answer_one one_stamp stays rows sound stay name words left (request.Sync token items limit sync_token cursor_token) (answer.Sync conflicts cursor retrieved saved next_token) changes moves step says =
+    applied_one one_stamp stays rows sound stay name words left items conflicts cursor retrieved saved next_token changes moves step says
+answer_one one_stamp stays rows sound stay name words left r (answer.Account other identifier uuid) changes moves step says = absurd says
+answer_one one_stamp stays rows sound stay name words left r (answer.Params params) changes moves step says = absurd says
+answer_one one_stamp stays rows sound stay name words left r (answer.Refused status tag more) changes moves step says = absurd says
+answer_one one_stamp stays rows sound stay name words left (request.Register params pw) given changes moves step says = absurd step
+answer_one one_stamp stays rows sound stay name words left (request.Params identifier) given changes moves step says = absurd step
+answer_one one_stamp stays rows sound stay name words left (request.SignIn identifier pw) given changes moves step says = absurd step
+answer_one one_stamp stays rows sound stay name words left (request.ChangePw token current pw cost nonce) given changes moves step says = absurd step
+
+-- ---- each of them
+
+done_as : (rows : Rows) (name : Bytes) (changes : List Change) (moves : List Move) (did is : Done) → did ≡ is → moves ≡ moves_of rows name is changes
+    → moves ≡ moves_of rows name did changes
+done_as rows name changes moves did is same said = said ∙ ap (λ (d : Done). moves_of rows name d changes) (sym same)
+
+pub says_one : HasOneStamp → StayStanding → SaysOne
+says_one one_stamp stays rows s name words left (begins set uuid token) changes moves did sound stay (a, named, is) step (b, there, says) =
+    let same : b ≡ a = one_there b a (account_named s set.params.identifier) there named in
+    done_as rows name changes moves did _ is (says ∙ ap (λ (x : Account). Join name set.params.identifier (length x.sets) ∷ []) same)
+says_one one_stamp stays rows s name words left (renews token) changes moves did sound stay is step says = done_as rows name changes moves did _ is says
+says_one one_stamp stays rows s name words left (puts uuid kind text) changes moves did sound stay is step says = done_as rows name changes moves did _ is says
+says_one one_stamp stays rows s name words left (edits uuid text) changes moves did sound stay is step says =
+    done_as rows name changes moves did _ is (edit_one rows sound words left name uuid text changes moves step says)
+says_one one_stamp stays rows s name words left (deletes uuid) changes moves did sound stay is step says =
+    done_as rows name changes moves did _ is (deletion_one rows sound name uuid changes moves step.0 says)
+says_one one_stamp stays rows s name words left (posts numbers) changes moves did sound stay is step says =
+    done_as rows name changes moves did _ is (posts_one rows name numbers changes moves step.0 says)
+says_one one_stamp stays rows s name words left (applies r given) changes moves did sound stay is step says =
+    done_as rows name changes moves did _ is (answer_one one_stamp stays rows sound stay name words left r given changes moves step says)
+says_one one_stamp stays rows s name words left (asks set) changes moves did sound stay is step says = absurd says
+says_one one_stamp stays rows s name words left (adopts set token) changes moves did sound stay is step says = absurd says
+says_one one_stamp stays rows s name words left forgets changes moves did sound stay is step says = absurd says
+
+-- ---- in the world
+
+pub says_computed : DeletionsStay → SaysOne → SaysSome → SaysComputed
+says_computed law one some secret w next s name what changes did h x may is =
+    let said : (moves : List Move) × SaysCommit (w.devices name) s name what changes moves = some secret w next s (commits name what changes true) h (x, may) in
+    let stay : KeepsDeletions (w.devices name) = keeps_deletions law (w.devices name) s h.reached name (h.devices name) in
+    let same : said.0 ≡ moves_of (w.devices name) name did changes =
+    one (w.devices name) s name x.words x.left what changes said.0 did (h.sound name).locals stay is x.step said.1 in
+    subst (λ (m : List Move). SaysCommit (w.devices name) s name what changes m) same said.1

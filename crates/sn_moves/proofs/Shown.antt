@@ -1,0 +1,57 @@
+-- What the rows of a device in the world have of deletions.
+use Rattle.std.proofs.Common.{◌≡◌, ℕ, List, Option, Some, None, refl, sym, ap, ◌∙◌, subst}
+use Rattle.sn_client.specs.States.{HasLocal}
+use Rattle.sn_laws.specs.Lookups.{Bytes, account_named, device_named, draft_at, greatest}
+use Rattle.sn_laws.specs.Reached.{DeletionsStay}
+use Rattle.sn_laws.specs.declared.ideal.Account.{Account}
+use Rattle.sn_laws.specs.declared.ideal.Content.{Content}
+use Rattle.sn_laws.specs.declared.ideal.Content.TheVariants as content
+use Rattle.sn_laws.specs.declared.ideal.Device.{Device}
+use Rattle.sn_laws.specs.declared.ideal.Draft.{Draft}
+use Rattle.sn_laws.specs.declared.ideal.Ideal.{Ideal}
+use Rattle.sn_laws.specs.declared.ideal.Posted.{Posted}
+use Rattle.sn_rows.specs.Table.{Rows}
+use Rattle.sn_rows.specs.declared.body.RowBody.{RowBody}
+use Rattle.sn_rows.specs.declared.body.RowBody.TheVariants as row
+use Rattle.sn_rows.specs.declared.device_rows.LocalItem.{LocalItem}
+use Rattle.sn_rows.specs.declared.key.Key.TheVariants as key
+use Rattle.sn_shows.specs.Devices.{ShowsContent, ShowsDevice, ShowsDeviceAs, ShowsDraft, ShowsDrafted, ShowsPosted}
+use Rattle.sn_string.specs.declared.params.KeySet.{KeySet}
+use Rattle.sn_world.specs.Holds.{Reached}
+use Rattle.sn_moves.specs.Laws.{KeepsDeletions}
+
+content_deleted : (sets : List KeySet) (number : ℕ) (uuid : Bytes) (c : Content) → ShowsContent sets number uuid row.Deleted c → c ≡ content.Deleted
+content_deleted sets number uuid (content.Plain text) h = absurd h
+content_deleted sets number uuid content.Deleted h = refl
+
+row_deleted : (sets : List KeySet) (number : ℕ) (uuid : Bytes) (b : RowBody) → ShowsContent sets number uuid b content.Deleted → b ≡ row.Deleted
+row_deleted sets number uuid row.Deleted h = refl
+row_deleted sets number uuid (row.Sealed strings) h = absurd h
+
+sent_deleted : (sets : List KeySet) (number : ℕ) (uuid : Bytes) (found : Option RowBody) (posted : Option Posted) → found ≡ Some row.Deleted
+    → ShowsPosted sets number uuid found posted → (p : Posted) × (posted ≡ Some p) × (p.content ≡ content.Deleted)
+sent_deleted sets number uuid None posted is h = absurd (cc)
+sent_deleted sets number uuid (Some b) None is h = absurd h
+sent_deleted sets number uuid (Some b) (Some p) is h =
+    let same : b ≡ row.Deleted = cc in
+    (p, refl, content_deleted sets number uuid p.content (subst (λ (x : RowBody). ShowsContent sets number uuid x p.content) same h))
+
+module _ (law : DeletionsStay) (rows : Rows) (s : Ideal) (reached : Reached s) (name : Bytes) where
+  of_draft : (sets : List KeySet) (number : ℕ) (l : LocalItem) → l.posted ≡ Some row.Deleted → (found : Option Draft) → draft_at s name l.uuid ≡ found
+      → ShowsDrafted sets number l found → l.latest ≡ Some row.Deleted
+  of_draft sets number l sent None at shown = let none : l.posted ≡ None = shown.1 in absurd (cc)
+  of_draft sets number l sent (Some d) at shown =
+      let p = sent_deleted sets number l.uuid l.posted d.posted sent shown.posted in
+      let latest : d.latest ≡ content.Deleted =
+      law reached.moves name l.uuid d p.0 reached.legal (subst (λ (t : Ideal). draft_at t name l.uuid ≡ Some d) reached.is at) p.1 p.2 in
+      shown.latest_is
+      ∙ ap Some (row_deleted sets number l.uuid shown.latest (subst (λ (c : Content). ShowsContent sets number l.uuid shown.latest c) latest shown.content))
+
+  of_device : (found : Option Device) → ShowsDeviceAs rows s name found → KeepsDeletions rows
+  of_device None shown n l has sent = let none : rows (key.Local n) ≡ None = shown.none (key.Local n) in absurd (cc)
+  of_device (Some d) (a, named, holder, asks) n l has sent =
+      of_draft a.sets (greatest 0 d.held) l sent (draft_at s name l.uuid) refl (holder.locals n l has).draft
+
+  -- where a deletion was sent, the draft is one
+  pub keeps_deletions : ShowsDevice rows s name → KeepsDeletions rows
+  keeps_deletions shown = of_device (device_named s name) shown

@@ -1,0 +1,54 @@
+-- What a commit of a device says is what these functions compute.
+use Rattle.std.specs.Prelude.{◌≡◌, ℕ, List, length, Some}
+use Rattle.rand_chacha.specs.ChaCha.{ChaCha}
+use Rattle.sn_client.specs.States.{AreSoundLocals, HasLocal}
+use Rattle.sn_client.specs.Steps.{Step, What, adopts, applies, asks, begins, deletes, edits, forgets, posts, puts, renews}
+use Rattle.sn_laws.specs.Lookups.{Bytes, account_named}
+use Rattle.sn_laws.specs.declared.ideal.Account.{Account}
+use Rattle.sn_laws.specs.declared.ideal.Ideal.{Ideal}
+use Rattle.sn_laws.specs.declared.moves.Move.{Move}
+use Rattle.sn_rows.specs.Table.{Rows}
+use Rattle.sn_rows.specs.declared.body.RowBody.TheVariants as row
+use Rattle.sn_rows.specs.declared.change.Change.{Change}
+use Rattle.sn_rows.specs.declared.device_rows.LocalItem.{LocalItem}
+use Rattle.sn_world.specs.Committing.{Commits, MayCommit, SaysCommit}
+use Rattle.sn_world.specs.Holds.{Holds}
+use Rattle.sn_world.specs.World.{World}
+use Rattle.sn_moves.specs.Commits.{moves_of}
+use Rattle.sn_moves.specs.Foreign.{foreign_in}
+use Rattle.sn_moves.specs.declared.done.Done.{Done}
+use Rattle.sn_moves.specs.declared.done.Done.TheVariants as done
+
+-- ---- what was done, of all that a commit is
+
+-- a device begins with the number of its account's sets; a change of password isn't among it
+abbrev pub IsDone : Ideal → What → Done → Type 0
+IsDone s (begins set uuid token) what =
+    (a : Account) × (account_named s set.params.identifier ≡ Some a) × (what ≡ done.Begins set.params.identifier (length a.sets))
+IsDone s (renews token) what = what ≡ done.Renews
+IsDone s (puts uuid kind text) what = what ≡ done.Puts uuid kind text
+IsDone s (edits uuid text) what = what ≡ done.Edits text
+IsDone s (deletes uuid) what = what ≡ done.Deletes
+IsDone s (posts numbers) what = what ≡ done.Posts
+IsDone s (applies request given) what = what ≡ done.Applies (foreign_in given)
+IsDone s (asks set) what = ⊥
+IsDone s (adopts set token) what = ⊥
+IsDone s forgets what = ⊥
+
+-- ---- the law
+
+-- where a deletion was sent of a row, its draft is still that
+abbrev pub KeepsDeletions : Rows → Type 0
+KeepsDeletions rows = (number : ℕ) (local : LocalItem) → HasLocal rows number local → local.posted ≡ Some row.Deleted → local.latest ≡ Some row.Deleted
+
+-- a commit of a device whose items are sound says one list of moves, and it is this one
+abbrev pub SaysOne : Type 0
+SaysOne = (rows : Rows) (s : Ideal) (name : Bytes) (words left : ChaCha) (what : What) (changes : List Change) (moves : List Move) (did : Done)
+    → AreSoundLocals rows → KeepsDeletions rows → IsDone s what did → Step rows words what changes left → SaysCommit rows s name what changes moves
+    → moves ≡ moves_of rows name did changes
+
+-- in the world, where the invariant holds, a commit says what is computed
+abbrev pub SaysComputed : Type 0
+SaysComputed = (secret : Bytes) (w next : World) (s : Ideal) (name : Bytes) (what : What) (changes : List Change) (did : Done)
+    → Holds secret w s → Commits w next name what changes → MayCommit secret w.server (w.devices name) s name what → IsDone s what did
+    → SaysCommit (w.devices name) s name what changes (moves_of (w.devices name) name did changes)

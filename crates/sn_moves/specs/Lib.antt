@@ -1,0 +1,4 @@
+pub mod Commits
+pub mod Drafts
+pub mod Foreign
+pub mod Laws

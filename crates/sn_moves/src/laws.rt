@@ -1,0 +1,26 @@
+//! What holds of the moves of a commit, by the definitions alone. The functions call laws of the crates below and do
+//! nothing else; their contracts are laws.
+
+ghost use Rattle.sn_moves.specs.Laws.{SaysComputed, SaysOne};
+
+use sn_client::stay_standing;
+use sn_laws::state_laws::deletions_stay;
+use sn_sync::laws::one_stamp;
+use sn_world::says_some;
+
+/// A commit of a device with sound rows says one list of moves, the one that `moves_of` computes.
+pub fn says_one()
+    ensures { SaysOne }
+{
+    one_stamp();
+    stay_standing();
+}
+
+/// And in the world it says that list.
+pub fn says_computed()
+    ensures { SaysComputed }
+{
+    deletions_stay();
+    says_one();
+    says_some();
+}

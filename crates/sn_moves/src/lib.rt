@@ -1,0 +1,18 @@
+//! The moves of the ideal account that a batch says: one of the server, and one of a device.
+#![tactic(auto)]
+
+mod committing;
+pub mod done;
+mod drafts;
+mod foreign;
+mod laws;
+mod serving;
+
+pub use committing::moves_of;
+pub use done::Done;
+pub use foreign::foreign_in;
+pub use laws::{says_computed, says_one};
+pub use serving::moves_for;
+
+#[cfg(test)]
+mod tests;
