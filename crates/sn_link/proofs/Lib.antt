@@ -1,0 +1,10 @@
+pub mod Asking
+pub mod Batches
+pub mod Delivering
+pub mod Heard
+pub mod Readable
+pub mod Requests
+pub mod Serving
+pub mod Statuses
+pub mod Still
+pub mod Wanting
