@@ -1,0 +1,9 @@
+pub mod Batches
+pub mod Begun
+pub mod Came
+pub mod Coming
+pub mod Fating
+pub mod Growing
+pub mod Hearing
+pub mod Lines
+pub mod Quiet

@@ -1,0 +1,12 @@
+pub mod Answers
+pub mod Begins
+pub mod Calling
+pub mod Devices
+pub mod Events
+pub mod Fates
+pub mod Fresh
+pub mod Growing
+pub mod Laws
+pub mod Servers
+pub mod Standing
+pub mod Steadies
