@@ -7,10 +7,10 @@ use Rattle.sn_net.specs.Exchanges.{Exchange, answer_of}
 use Rattle.sn_net.specs.declared.link.AskError.{AskError}
 use Rattle.sn_net.specs.declared.link.AskError.TheVariants as ask
 use Rattle.sn_disk.specs.MemDisk.{Grows}
-use Rattle.sn_link.specs.Deliveries.{Delivers, IsHandedOver, Reaches, Standing, failed, held_disk, serves}
+use Rattle.sn_link.specs.Deliveries.{Delivers, Reaches, Standing, failed, held_disk, serves}
 use Rattle.sn_link.specs.Holdings.{GoesOn, HoldsIn, stays_on}
 use Rattle.sn_link.specs.declared.delivery.Held.{Held}
-use Rattle.sn_link.specs.Links.{Arrives, Asks, Befalls, Does, HasReason, IsFailed, IsGiven, link_held, link_losses, link_now, link_number}
+use Rattle.sn_link.specs.Links.{Asks, Befalls, Does, HasReason, IsFailed, IsGiven, link_held, link_losses, link_now, link_number}
 use Rattle.sn_link.specs.Losses.{lost_at}
 use Rattle.sn_link.specs.declared.link.ServingLink.{ServingLink}
 use Rattle.sn_link.specs.declared.losses.Lost.{Lost}
@@ -28,24 +28,10 @@ pub reply_befalls : (now : ℕ) (was : Standing) (host request : List ℕ) (next
 reply_befalls now (serves kept) host request next result (given, delivers, handed) = (given, delivers, refl)
 reply_befalls now (failed had made) host request next result (same, none) = (same, refl)
 
-arrived : (given : Option (List ℕ)) (next : Standing) (result : Answered) → IsHandedOver given next result → Arrives given (answer_of result)
-arrived given (serves next) (Ok answer) handed = handed
-arrived given (serves next) (Err ask.Failed) handed = tt
-arrived given (serves next) (Err ask.Memory) handed = tt
-arrived given (failed had made) (Ok answer) handed = absurd (let impossible : ⊥ = cc in impossible)
-arrived given (failed had made) (Err ask.Failed) handed = tt
-arrived given (failed had made) (Err ask.Memory) handed = tt
-
 none_answered : (result : Answered) → result ≡ Err ask.Failed → answer_of result ≡ None
 none_answered result is = ap answer_of is
 
--- its answer arrives
-pub answer_befalls : (now : ℕ) (was : Standing) (host request : List ℕ) (next : Standing) (result : Answered) → Reaches now was request next result
-    → Befalls Nothing now was (exchange host request (answer_of result)) next
-answer_befalls now (serves kept) host request next result (given, delivers, handed) = (given, delivers, arrived given next result handed)
-answer_befalls now (failed had made) host request next result (same, none) = (same, none_answered result none)
-
--- .. or doesn't
+-- no answer arrives
 pub none_befalls : (now : ℕ) (was : Standing) (host request : List ℕ) (next : Standing) (result : Answered) → Reaches now was request next result
     → Befalls Nothing now was (exchange host request None) next
 none_befalls now (serves kept) host request next result (given, delivers, handed) = (given, delivers, tt)

@@ -130,21 +130,21 @@ impl ServingLink {
     {
         match self.deliver(alloc, request) {
             Ok(answer) if answer.len() <= room => Ok(answer),
-            Ok(_) => Err(self.fail()),
+            Ok(_long) => Err(self.fail()),
             Err(AskError::Failed) => Err(self.fail()),
             Err(AskError::Memory) => Err(AskError::Memory),
         }
     }
 
     // Serves a request whose answer is lost.
-    fn unheard(&mut self, alloc: Global, request: &[u8]) -> Result<Vec<u8>, AskError>
-        ensures does { (room : ℕ) → Does Lost.Reply self.old.host self.old self.new request.now room result }
+    fn unheard(&mut self, alloc: Global, bytes: &[u8]) -> Result<Vec<u8>, AskError>
+        ensures does { (room : ℕ) → Does Lost.Reply self.old.host self.old self.new bytes.now room result }
         ensures none { IsErr result }
         ensures host { self.new.host ≡ self.old.host }
         ensures fault { IsErrOf result AskError.Failed → Rose self.old.faults self.new.faults }
         ensures later { self.old.faults ≤ self.new.faults }
     {
-        match self.deliver(alloc, request) {
+        match self.deliver(alloc, bytes) {
             Ok(_) => Err(self.fail()),
             Err(AskError::Failed) => Err(self.fail()),
             Err(AskError::Memory) => Err(AskError::Memory),

@@ -11,7 +11,7 @@ use Rattle.sn_link.proofs.link.ServingLink.unheard.Goals.{in-Ok, in-Err-Failed, 
 pub returns-clause-does : goal.returns-clause-does
 returns-clause-does c = λ room.
     let old = c.args.self.now in
-    let request = c.args.request.now in
+    let request = c.args.bytes.now in
     elim c.match-deliver.branch [
       | in-Ok w ↦ does_as Reply old.host old _ _ request room _ _ w.self-is w.result-is (
           does_by Reply old.host old w.fail.new.self (link_held c.deliver.new.self) request room (Err w.fail.result) c.deliver.result
