@@ -1,18 +1,18 @@
 -- What the checks of an answer say of the uuids that another account has.
-use Rattle.std.proofs.Common.{◌≡◌, ◌≢◌, ◌<◌, ℕ, suc, Bool, true, false, List, [], ◌∷◌, ◌++◌, map, Some, refl, sym, ap, ◌∙◌, subst}
+use Rattle.std.proofs.Common.{◌≡◌, ◌≢◌, ℕ, suc, Bool, false, List, [], ◌∷◌, ◌++◌, map, Some, refl, sym, ap, ◌∙◌, subst}
 use Rattle.std.proofs.lemmas.List.Elements.{Contains-append_left, Contains-append_right, Contains-push}
 use Rattle.std.proofs.lemmas.Option.{slice_get_within}
 use Rattle.std.specs.List.{Contains, flat_map, list_any}
 use Rattle.std.specs.Prelude.{◌||◌, Option, slice_get, take}
 use Rattle.std.specs.Str.{bytes_eq}
 use Rattle.sn_client.specs.Laws.{IsChecked}
-use Rattle.sn_client.specs.Taking.{Told, is_conflict, is_retrieved, is_saved, told_by}
+use Rattle.sn_client.specs.Taking.{is_conflict, is_retrieved, is_saved, told_by}
 use Rattle.sn_conflict.specs.Checks.{HasItsStrings, IsConflict, IsRetrieved, IsSaved, Passes}
 use Rattle.sn_conflict.specs.Lists.{AllRight}
 use Rattle.sn_laws.proofs.Facts.{is_false, or_left, or_right, same_text, text_same}
 use Rattle.sn_laws.specs.Each.{Each}
 use Rattle.sn_laws.specs.Lookups.{Bytes}
-use Rattle.sn_sync.specs.Versions.{conflict_uuids, item_of, uuids}
+use Rattle.sn_sync.specs.Versions.{conflict_uuids, item_of}
 use Rattle.sn_sync.specs.declared.answer.Conflict.{Conflict}
 use Rattle.sn_sync.specs.declared.answer.Conflict.TheVariants as conflict
 use Rattle.sn_sync.specs.declared.item.Item.{Item}

@@ -1,12 +1,11 @@
 -- What is said where a draft gets a row of its own or another uuid, or an item a new row.
-use Rattle.std.proofs.Common.{◌≡◌, ◌≢◌, ◌⊎◌, ◌<◌, ℕ, suc, Bool, true, false, List, [], ◌∷◌, ◌++◌, Option, Some, None, refl, sym, ap, ◌∙◌, subst, inl, inr, append_assoc, arith}
+use Rattle.std.proofs.Common.{◌≡◌, ◌<◌, ℕ, Bool, true, false, List, [], ◌∷◌, ◌++◌, Option, Some, None, refl, ap, ◌∙◌, subst, inl, inr, append_assoc, arith}
 use Rattle.std.specs.List.{list_any}
 use Rattle.std.specs.Option.{option_to_list}
 use Rattle.std.specs.Prelude.{if◌then◌else◌, is_some}
 use Rattle.std.specs.Str.{bytes_eq}
 use Rattle.sn_client.specs.Laws.{AreStanding}
-use Rattle.sn_client.specs.Sending.{PutsColumns}
-use Rattle.sn_client.specs.States.{Columns, HasItem, HasLocal, IsFree}
+use Rattle.sn_client.specs.States.{Columns, HasItem, HasLocal}
 use Rattle.sn_client.specs.Taking.{Copies, MakesRow, Progress, Renames, TakesVersion}
 use Rattle.sn_conflict.specs.Meetings.{MeetsText}
 use Rattle.sn_laws.proofs.Facts.{is_false, one_there, same_text}
@@ -17,15 +16,14 @@ use Rattle.sn_rows.specs.declared.body.RowBody.{RowBody}
 use Rattle.sn_rows.specs.declared.body.RowBody.TheVariants as row
 use Rattle.sn_rows.specs.declared.change.Change.{Change}
 use Rattle.sn_rows.specs.declared.device_rows.LocalItem.{LocalItem}
-use Rattle.sn_rows.specs.declared.key.Key.TheVariants as key
 use Rattle.sn_sets.specs.declared.sets.Sets.{Sets}
 use Rattle.sn_sync.specs.declared.item.Body.{Body}
 use Rattle.sn_sync.specs.declared.item.Body.TheVariants as body
 use Rattle.sn_sync.specs.declared.item.Item.{Item}
 use Rattle.sn_world.specs.Applying.{renaming}
-use Rattle.sn_moves.specs.Drafts.{answered, copy_made, ended, ended_with_row, item_move, settled_at, stayed}
-use Rattle.sn_moves.proofs.Meets.{TookAs, drafted_move, end_move, ends, forks, frame_clean, some_apart, takes_turns}
-use Rattle.sn_moves.proofs.Turns.{Frame, Said, Turns, WasDeleted, found_at, found_new, frame_both, frame_turn, gone_turns, puts_turns, said_none, said_turn, turn_elsewhere, turn_here, turn_said}
+use Rattle.sn_moves.specs.Drafts.{answered, copy_made, ended, item_move, settled_at, stayed}
+use Rattle.sn_moves.proofs.Meets.{TookAs, drafted_move, ends, forks, frame_clean, some_apart, takes_turns}
+use Rattle.sn_moves.proofs.Turns.{Frame, Said, Turns, found_at, found_new, frame_both, frame_turn, gone_turns, puts_turns, said_none, said_turn, turn_elsewhere, turn_here, turn_said}
 
 -- ---- a new row
 

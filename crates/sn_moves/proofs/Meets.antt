@@ -1,25 +1,20 @@
 -- What is said where a version of the server's meets a row.
-use Rattle.std.proofs.Common.{◌≡◌, ◌≢◌, ◌<◌, ℕ, suc, Bool, true, false, List, [], ◌∷◌, ◌++◌, Option, Some, None, refl, sym, ap, ◌∙◌, subst, inl, inr, append_assoc, arith}
+use Rattle.std.proofs.Common.{◌≡◌, ◌≢◌, ℕ, Bool, false, List, [], ◌∷◌, Option, Some, None, refl, sym, ap, ◌∙◌, subst}
 use Rattle.std.specs.List.{list_any}
 use Rattle.std.specs.Option.{option_to_list}
 use Rattle.std.specs.Prelude.{if◌then◌else◌, is_some}
 use Rattle.std.specs.Str.{bytes_eq}
-use Rattle.sn_client.specs.Laws.{AreStanding}
-use Rattle.sn_client.specs.States.{Columns, HasItem, HasLocal, IsFree}
-use Rattle.sn_client.specs.Taking.{Copies, MakesRow, Progress, TakesBody, TakesVersion}
-use Rattle.sn_conflict.specs.Meetings.{HasContent, HasContentOf, MeetsAs, MeetsClean, MeetsDeletion, MeetsOwn, MeetsPosted, MeetsText}
-use Rattle.sn_conflict.specs.declared.meeting.Meeting.{Meeting}
-use Rattle.sn_conflict.specs.declared.meeting.Meeting.TheVariants as meeting
+use Rattle.sn_client.specs.States.{Columns, HasItem}
+use Rattle.sn_client.specs.Taking.{Progress, TakesBody, TakesVersion}
+use Rattle.sn_conflict.specs.Meetings.{HasContent, HasContentOf, MeetsClean, MeetsDeletion, MeetsOwn, MeetsPosted}
 use Rattle.sn_laws.proofs.Facts.{one_there, text_same}
 use Rattle.sn_laws.specs.Lookups.{Bytes}
 use Rattle.sn_laws.specs.declared.moves.Move.{Move}
 use Rattle.sn_laws.specs.declared.moves.Move.TheVariants.{Drop, Fork, GiveWay, Rename, Settle, SettlePosted}
-use Rattle.sn_rows.specs.Table.{key_of}
 use Rattle.sn_rows.specs.declared.body.RowBody.{RowBody}
 use Rattle.sn_rows.specs.declared.body.RowBody.TheVariants as row
 use Rattle.sn_rows.specs.declared.body.RowStrings.{RowStrings}
 use Rattle.sn_rows.specs.declared.device_rows.LocalItem.{LocalItem}
-use Rattle.sn_rows.specs.declared.key.Key.TheVariants as key
 use Rattle.sn_sets.specs.declared.sets.Sets.{Sets}
 use Rattle.sn_sync.specs.Laws.{HasOneStamp}
 use Rattle.sn_sync.specs.Stamps.{IsStampText}
@@ -27,10 +22,9 @@ use Rattle.sn_sync.specs.Versions.{NamesStamp}
 use Rattle.sn_sync.specs.declared.item.Body.{Body}
 use Rattle.sn_sync.specs.declared.item.Body.TheVariants as body
 use Rattle.sn_sync.specs.declared.item.Item.{Item}
-use Rattle.sn_world.specs.Applying.{SaysMeets, SaysServer}
-use Rattle.sn_moves.specs.Drafts.{answered, copy_made, draft_move, ended, ended_with_row, item_move, row_move, settled_at, stayed}
+use Rattle.sn_moves.specs.Drafts.{draft_move, ended, ended_with_row, item_move, row_move, settled_at, stayed}
 use Rattle.sn_moves.specs.Laws.{KeepsDeletions}
-use Rattle.sn_moves.proofs.Turns.{Frame, Said, Turns, WasDeleted, found_at, found_new, frame_both, frame_turn, gone_turns, puts_turns, said_none, said_turn, turn_elsewhere, turn_said}
+use Rattle.sn_moves.proofs.Turns.{Frame, Said, Turns, found_at, frame_turn, gone_turns, puts_turns, said_turn}
 
 -- ---- the row that takes a version
 

@@ -1,5 +1,5 @@
 -- What a commit says is what is computed.
-use Rattle.std.proofs.Common.{◌≡◌, ◌≢◌, ◌⊎◌, ℕ, Bool, true, false, List, [], ◌∷◌, ◌++◌, length, Option, Some, None, refl, sym, ap, ◌∙◌, subst, inl, inr, ⊎_elim}
+use Rattle.std.proofs.Common.{◌≡◌, ◌⊎◌, ℕ, Bool, true, false, List, [], ◌∷◌, ◌++◌, length, Option, Some, None, refl, sym, ap, ◌∙◌, subst, inl, inr, ⊎_elim}
 use Rattle.std.proofs.lemmas.Bool.{cases_Bool}
 use Rattle.std.proofs.lemmas.List.{append-nil}
 use Rattle.std.specs.List.{AllZip, flat_map, list_any}
@@ -8,15 +8,14 @@ use Rattle.std.specs.Prelude.{◌&&◌, if◌then◌else◌, is_none}
 use Rattle.std.specs.Str.{bytes_eq}
 use Rattle.rand_chacha.specs.ChaCha.{ChaCha}
 use Rattle.sn_client.specs.Laws.{AreStanding, StayStanding}
-use Rattle.sn_client.specs.Sending.{Posts, PostsAll, PutsColumns}
+use Rattle.sn_client.specs.Sending.{PostsAll, PutsColumns}
 use Rattle.sn_client.specs.States.{AreSoundLocals, HasItem, HasLocal, columns}
-use Rattle.sn_client.specs.Steps.{Applies, AppliesTo, Deletes, Edits, IsUnknown, Step, What, adopts, applies, asks, begins, deletes, drafted, edits, forgets, posts, puts, renews, start}
-use Rattle.sn_client.specs.Taking.{Told, told_by}
+use Rattle.sn_client.specs.Steps.{Applies, AppliesTo, Deletes, Edits, IsUnknown, adopts, applies, asks, begins, deletes, drafted, edits, forgets, posts, puts, renews, start}
+use Rattle.sn_client.specs.Taking.{told_by}
 use Rattle.sn_laws.proofs.Facts.{one_there}
 use Rattle.sn_laws.specs.Lookups.{Bytes, account_named}
 use Rattle.sn_laws.specs.declared.ideal.Account.{Account}
 use Rattle.sn_laws.specs.declared.ideal.Content.TheVariants as content
-use Rattle.sn_laws.specs.declared.ideal.Ideal.{Ideal}
 use Rattle.sn_laws.specs.declared.moves.Move.{Move}
 use Rattle.sn_laws.specs.declared.moves.Move.TheVariants.{Drop, Edit, Join, Post}
 use Rattle.sn_rows.specs.Table.{Removes, Rows, key_of}
@@ -36,15 +35,13 @@ use Rattle.sn_sync.specs.declared.item.Item.{Item}
 use Rattle.sn_sync.specs.declared.request.Request.{Request}
 use Rattle.sn_sync.specs.declared.request.Request.TheVariants as request
 use Rattle.sn_world.specs.Applying.{SaysAnswer, SaysApplied}
-use Rattle.sn_moves.specs.Commits.{change_moved, deletion_of, edit_of, is_unknown, item_moved, moves_of}
+use Rattle.sn_moves.specs.Commits.{change_moved, deletion_of, edit_of, item_moved, moves_of}
 use Rattle.sn_world.specs.Committing.{IsPostOf, SaysCommit, SaysDeletion, SaysEdit}
-use Rattle.sn_moves.specs.Drafts.{answered, item_at, item_found, item_left, item_move}
+use Rattle.sn_moves.specs.Drafts.{answered, item_at, item_left, item_move}
 use Rattle.sn_laws.specs.Reached.{DeletionsStay}
 use Rattle.sn_world.specs.Happens.{commits}
-use Rattle.sn_world.specs.Holds.{Holds}
 use Rattle.sn_world.specs.Laws.{SaysSome}
-use Rattle.sn_world.specs.World.{World}
-use Rattle.sn_moves.specs.Laws.{IsDone, KeepsDeletions, SaysComputed, SaysOne}
+use Rattle.sn_moves.specs.Laws.{KeepsDeletions, SaysComputed, SaysOne}
 use Rattle.sn_moves.specs.Foreign.{foreign_in, foreign_of}
 use Rattle.sn_moves.specs.declared.done.Done.{Done}
 use Rattle.sn_moves.specs.declared.done.Done.TheVariants as done

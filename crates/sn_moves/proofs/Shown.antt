@@ -1,9 +1,7 @@
 -- What the rows of a device in the world have of deletions.
-use Rattle.std.proofs.Common.{◌≡◌, ℕ, List, Option, Some, None, refl, sym, ap, ◌∙◌, subst}
-use Rattle.sn_client.specs.States.{HasLocal}
-use Rattle.sn_laws.specs.Lookups.{Bytes, account_named, device_named, draft_at, greatest}
+use Rattle.std.proofs.Common.{◌≡◌, ℕ, List, Option, Some, None, refl, ap, ◌∙◌, subst}
+use Rattle.sn_laws.specs.Lookups.{Bytes, device_named, draft_at, greatest}
 use Rattle.sn_laws.specs.Reached.{DeletionsStay}
-use Rattle.sn_laws.specs.declared.ideal.Account.{Account}
 use Rattle.sn_laws.specs.declared.ideal.Content.{Content}
 use Rattle.sn_laws.specs.declared.ideal.Content.TheVariants as content
 use Rattle.sn_laws.specs.declared.ideal.Device.{Device}
@@ -15,7 +13,7 @@ use Rattle.sn_rows.specs.declared.body.RowBody.{RowBody}
 use Rattle.sn_rows.specs.declared.body.RowBody.TheVariants as row
 use Rattle.sn_rows.specs.declared.device_rows.LocalItem.{LocalItem}
 use Rattle.sn_rows.specs.declared.key.Key.TheVariants as key
-use Rattle.sn_shows.specs.Devices.{ShowsContent, ShowsDevice, ShowsDeviceAs, ShowsDraft, ShowsDrafted, ShowsPosted}
+use Rattle.sn_shows.specs.Devices.{ShowsContent, ShowsDevice, ShowsDeviceAs, ShowsDrafted, ShowsPosted}
 use Rattle.sn_string.specs.declared.params.KeySet.{KeySet}
 use Rattle.sn_world.specs.Holds.{Reached}
 use Rattle.sn_moves.specs.Laws.{KeepsDeletions}

@@ -4,12 +4,12 @@ use Rattle.std.proofs.lemmas.Bool.{or_cases}
 use Rattle.std.specs.List.{list_any}
 use Rattle.std.specs.Str.{bytes_eq}
 use Rattle.sn_client.specs.Laws.{AreStanding, IsChecked, StayStanding}
-use Rattle.sn_client.specs.States.{HasItem, HasLocal, IsFree}
-use Rattle.sn_client.specs.Taking.{Meets, Progress, Takes, TakesAll, TakesConflict, TakesOwn, TakesServer, Told, is_conflict, is_retrieved, is_saved}
+use Rattle.sn_client.specs.States.{HasItem, HasLocal}
+use Rattle.sn_client.specs.Taking.{Meets, Progress, Takes, TakesOwn, TakesServer, Told, is_conflict, is_retrieved, is_saved}
 use Rattle.sn_conflict.specs.Meetings.{MeetsAs}
 use Rattle.sn_conflict.specs.declared.meeting.Meeting.{Meeting}
 use Rattle.sn_conflict.specs.declared.meeting.Meeting.TheVariants as meeting
-use Rattle.sn_laws.proofs.Facts.{clash, one_there, same_text, text_same}
+use Rattle.sn_laws.proofs.Facts.{clash, one_there, same_text}
 use Rattle.sn_laws.specs.Each.{Each}
 use Rattle.sn_laws.specs.Lookups.{Bytes}
 use Rattle.sn_laws.specs.declared.moves.Move.{Move}
@@ -21,7 +21,6 @@ use Rattle.sn_rows.specs.declared.value.Value.{Value}
 use Rattle.sn_rows.specs.declared.value.Value.TheVariants as value
 use Rattle.sn_sets.specs.declared.sets.Sets.{Sets}
 use Rattle.sn_sync.specs.Laws.{HasOneStamp}
-use Rattle.sn_sync.specs.declared.answer.Conflict.{Conflict}
 use Rattle.sn_sync.specs.declared.answer.Conflict.TheVariants as conflict
 use Rattle.sn_sync.specs.declared.item.Item.{Item}
 use Rattle.sn_world.specs.Applying.{SaysAllTold, SaysForeign, SaysMeets, SaysServer, SaysTold}

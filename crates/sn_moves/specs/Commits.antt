@@ -1,5 +1,5 @@
 -- The moves of a commit of a device, by its rows before, its name, what was done, and the changes.
-use Rattle.std.specs.Prelude.{List, [], ◌∷◌, Bool, true, false, ◌&&◌, Option, Some, None, is_none, if◌then◌else◌}
+use Rattle.std.specs.Prelude.{List, [], ◌∷◌, Bool, ◌&&◌, Option, Some, None, is_none, if◌then◌else◌}
 use Rattle.std.specs.List.{flat_map}
 use Rattle.std.specs.Option.{option_and_then, option_to_list}
 use Rattle.sn_laws.specs.Lookups.{Bytes}
