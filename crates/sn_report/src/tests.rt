@@ -23,7 +23,7 @@ fn three() -> Result<Uuid, Fail> {
     Ok(Uuid::from_bytes([3; 16]))
 }
 
-// The second is made first.
+// The second is made first, and has the third label too.
 fn labels(alloc: Global) -> Result<Labels, Fail> {
     let mut labels = Labels::new(alloc);
     labels.add(two()?)?;
@@ -36,11 +36,15 @@ fn labels(alloc: Global) -> Result<Labels, Fail> {
 fn makes_labels(rt: HostRuntime) -> Result<(), Fail> {
     let labels = labels(rt.alloc())?;
     let other = Uuid::from_bytes([7; 16]);
-    assert_eq!(rt; (labels.len(), labels.is_empty()), (2, false));
-    assert_eq!(rt; labels.as_slice(), [two()?, one()?].as_slice());
+    assert_eq!(rt; (labels.len(), labels.is_empty()), (3, false));
+    assert_eq!(rt; labels.as_slice(), [two()?, one()?, two()?].as_slice());
+    assert_eq!(rt; labels.items(rt.alloc())?.as_slice(), [two()?, one()?].as_slice());
     assert_eq!(rt; (labels.label(&two()?), labels.label(&one()?)), (1, 2));
+    assert_eq!(rt; (labels.item(0), labels.item(1)), (None, Some(two()?)));
+    assert_eq!(rt; (labels.item(2), labels.item(3)), (Some(one()?), Some(two()?)));
+    assert_eq!(rt; (labels.item(4), labels.item(u64::MAX)), (None, None));
     assert!(rt; labels.is_labelled(&one()?) && !labels.is_labelled(&other));
-    assert_eq!(rt; labels.label(&other), 3);
+    assert_eq!(rt; labels.label(&other), 4);
     Ok(())
 }
 
@@ -133,14 +137,16 @@ fn plain(alloc: Global, text: &str) -> Result<Content, AllocError> {
     Ok(Content::Plain(Text::of(alloc, text)?))
 }
 
-fn event(number: u64, moves: Many<Move>, shown: Many<Text>, last: Last) -> Event {
+// Lines 4, 5, 10 and 11 put items.
+fn event(alloc: Global, number: u64, moves: Many<Move>, shown: Many<Text>, last: Last) -> Event {
     Event {
         number,
+        puts: matches!(number, 4 | 5 | 10 | 11),
         moves,
         shown,
         last,
         server_mark: 0,
-        device_mark: None,
+        device_marks: Many::new(alloc),
     }
 }
 
@@ -155,7 +161,7 @@ fn begun(alloc: Global) -> Result<Event, Fail> {
         identifier: Text::of(alloc, "alice")?,
         number: 1,
     })?;
-    Ok(event(3, moves, Many::new(alloc), Last::Done))
+    Ok(event(alloc, 3, moves, Many::new(alloc), Last::Done))
 }
 
 // The text names an item that has no label yet.
@@ -163,7 +169,7 @@ fn first_put(alloc: Global) -> Result<Event, Fail> {
     let mut moves = Many::new(alloc);
     let text = plain(alloc, "{\"to\":\"f81d4fae-7dec-11d0-a765-00a0c91e6bf6\"}")?;
     moves.push(edit(alloc, one()?, text)?)?;
-    Ok(event(4, moves, Many::new(alloc), Last::Done))
+    Ok(event(alloc, 4, moves, Many::new(alloc), Last::Done))
 }
 
 fn second_put(alloc: Global) -> Result<Event, Fail> {
@@ -173,8 +179,14 @@ fn second_put(alloc: Global) -> Result<Event, Fail> {
         "{\"to\":\"f81d4fae-7dec-11d0-a765-00a0c91e6bf6\",\"from\":\"00000000-0000-4000-8000-000000000001\"}",
     )?;
     moves.push(edit(alloc, two()?, text)?)?;
+    Ok(event(alloc, 5, moves, Many::new(alloc), Last::Done))
+}
+
+// An edit of an item that was put takes no label.
+fn deletion(alloc: Global) -> Result<Event, Fail> {
+    let mut moves = Many::new(alloc);
     moves.push(edit(alloc, one()?, Content::Deleted)?)?;
-    Ok(event(5, moves, Many::new(alloc), Last::Done))
+    Ok(event(alloc, 6, moves, Many::new(alloc), Last::Done))
 }
 
 fn exchange(alloc: Global) -> Result<Event, Fail> {
@@ -186,7 +198,8 @@ fn exchange(alloc: Global) -> Result<Event, Fail> {
     let mut shown = Many::new(alloc);
     shown.push(Text::of(alloc, "account alice set 1")?)?;
     shown.push(Text::of(alloc, "device A none")?)?;
-    Ok(event(7, moves, shown, Last::Server(ServerRefusal::Taken)))
+    let tag = Text::of(alloc, "taken")?;
+    Ok(event(alloc, 7, moves, shown, Last::Server { status: 409, tag }))
 }
 
 const REPORT: &str = "3 register alice set 1
@@ -195,8 +208,9 @@ const REPORT: &str = "3 register alice set 1
 4 edit A #1 {\"to\":\"f81d4fae-7dec-11d0-a765-00a0c91e6bf6\"}
 4 = ok
 5 edit A #2 {\"to\":\"#2\",\"from\":\"#1\"}
-5 edit A #1 deleted
 5 = ok
+6 edit A #1 deleted
+6 = ok
 7 post A #2
 7 accept #2 @1000001 set 1
 7 accept #1 @1000002 deleted
@@ -213,6 +227,7 @@ fn writes_moves(rt: HostRuntime) -> Result<(), Fail> {
     events.push(begun(alloc)?)?;
     events.push(first_put(alloc)?)?;
     events.push(second_put(alloc)?)?;
+    events.push(deletion(alloc)?)?;
     events.push(exchange(alloc)?)?;
     assert_eq!(rt; report_text(alloc, &Report { events })?.as_str(), REPORT);
     Ok(())
@@ -222,7 +237,6 @@ fn writes_moves(rt: HostRuntime) -> Result<(), Fail> {
 fn met(alloc: Global) -> Result<Event, Fail> {
     let device = "A";
     let mut moves = Many::new(alloc);
-    moves.push(edit(alloc, one()?, plain(alloc, "{}")?)?)?;
     moves.push(Move::Fork {
         device: Text::of(alloc, device)?,
         uuid: one()?,
@@ -250,7 +264,7 @@ fn met(alloc: Global) -> Result<Event, Fail> {
         device: Text::of(alloc, device)?,
         uuid: three()?,
     })?;
-    Ok(event(8, moves, Many::new(alloc), Last::Done))
+    Ok(event(alloc, 8, moves, Many::new(alloc), Last::Done))
 }
 
 fn rekeyed(alloc: Global) -> Result<Event, Fail> {
@@ -269,10 +283,28 @@ fn rekeyed(alloc: Global) -> Result<Event, Fail> {
         device: Text::of(alloc, "A")?,
         number: 1,
     })?;
-    Ok(event(9, moves, Many::new(alloc), Last::Done))
+    Ok(event(alloc, 9, moves, Many::new(alloc), Last::Done))
 }
 
-const MET: &str = "8 edit A #1 {}
+fn put(alloc: Global, number: u64, uuid: Uuid) -> Result<Event, Fail> {
+    let mut moves = Many::new(alloc);
+    moves.push(edit(alloc, uuid, plain(alloc, "{}")?)?)?;
+    Ok(event(alloc, number, moves, Many::new(alloc), Last::Done))
+}
+
+fn renaming(alloc: Global, uuid: Uuid, other: Uuid) -> Result<Event, Fail> {
+    let mut moves = Many::new(alloc);
+    let device = Text::of(alloc, "A")?;
+    moves.push(Move::Rename {
+        device,
+        uuid,
+        other,
+    })?;
+    Ok(event(alloc, 12, moves, Many::new(alloc), Last::Link))
+}
+
+const MET: &str = "4 edit A #1 {}
+4 = ok
 8 fork A #1 #2
 8 rename A #2 #3
 8 settle A #3 @1000003
@@ -290,15 +322,43 @@ const MET: &str = "8 edit A #1 {}
 fn writes_moves_of_conflicts(rt: HostRuntime) -> Result<(), Fail> {
     let alloc = rt.alloc();
     let mut events = Many::new(alloc);
+    events.push(put(alloc, 4, one()?)?)?;
     events.push(met(alloc)?)?;
     events.push(rekeyed(alloc)?)?;
     assert_eq!(rt; report_text(alloc, &Report { events })?.as_str(), MET);
     Ok(())
 }
 
+// The first item is put twice and renamed to, so that the second has the third label.
+const AGAIN: &str = "10 edit A #1 {}
+10 = ok
+11 edit A #1 {}
+11 = ok
+11 edit A #3 {}
+11 = ok
+12 rename A #3 #1
+12 = link
+4 edit A #5 {}
+4 = ok
+";
+
+#[test]
+fn writes_least_labels(rt: HostRuntime) -> Result<(), Fail> {
+    let alloc = rt.alloc();
+    let mut events = Many::new(alloc);
+    events.push(put(alloc, 10, one()?)?)?;
+    events.push(put(alloc, 11, one()?)?)?;
+    events.push(put(alloc, 11, two()?)?)?;
+    events.push(renaming(alloc, two()?, one()?)?)?;
+    events.push(put(alloc, 4, three()?)?)?;
+    assert_eq!(rt; report_text(alloc, &Report { events })?.as_str(), AGAIN);
+    Ok(())
+}
+
 fn ended(alloc: Global, events: &mut Many<Event>, last: Last) -> Result<(), Fail> {
     let number = (events.len() as u64).saturating_add(1);
-    events.push(event(number, Many::new(alloc), Many::new(alloc), last))?;
+    let none = Many::new(alloc);
+    events.push(event(alloc, number, none, Many::new(alloc), last))?;
     Ok(())
 }
 
@@ -307,27 +367,44 @@ fn refused(alloc: Global, events: &mut Many<Event>, refusal: DeviceRefusal) -> R
 }
 
 const ENDS: &str = "1 = ok
-2 = server 409 taken
-3 = server 409 full
-4 = server 409 stamps-used
-5 = refused client.1 NoAccount
-6 = refused client.4 TooLong 700001
-7 = refused client.5 NotObject
-8 = refused client.8 RoundsUsed
-9 = refused client.9 NoFreshUuid #1
-10 = refused client.13 HasAccount alice
-11 = refused client.15 NumbersUsed 18446744073709551615
+2 = link
+3 = server 409 taken
+4 = server 401 bad-auth
+5 = answer 200
+6 = answer 503
+7 = refused client.1 NoAccount
+8 = refused client.2 NoItem #1
+9 = refused client.3 Closed set 2
+10 = refused client.4 TooLong 700001
+11 = refused client.5 NotObject
+12 = refused client.8 RoundsUsed
+13 = refused client.9 NoFreshUuid #1
+14 = refused client.11 WrongPassword
+15 = refused client.12 OtherAccount alice
+16 = refused client.13 HasAccount alice
+17 = refused client.14 Cost 10000001
+18 = refused client.15 NumbersUsed 18446744073709551615
 ";
+
+fn answered(alloc: Global, events: &mut Many<Event>) -> Result<(), Fail> {
+    ended(alloc, events, Last::Done)?;
+    ended(alloc, events, Last::Link)?;
+    for (status, tag) in [(409, "taken"), (401, "bad-auth")] {
+        let tag = Text::of(alloc, tag)?;
+        ended(alloc, events, Last::Server { status, tag })?;
+    }
+    ended(alloc, events, Last::Answer { status: 200 })?;
+    ended(alloc, events, Last::Answer { status: 503 })
+}
 
 #[test]
 fn writes_last_lines(rt: HostRuntime) -> Result<(), Fail> {
     let alloc = rt.alloc();
     let mut events = Many::new(alloc);
-    ended(alloc, &mut events, Last::Done)?;
-    ended(alloc, &mut events, Last::Server(ServerRefusal::Taken))?;
-    ended(alloc, &mut events, Last::Server(ServerRefusal::Full))?;
-    ended(alloc, &mut events, Last::Server(ServerRefusal::StampsUsed))?;
+    answered(alloc, &mut events)?;
     refused(alloc, &mut events, DeviceRefusal::NoAccount)?;
+    refused(alloc, &mut events, DeviceRefusal::NoItem { uuid: one()? })?;
+    refused(alloc, &mut events, DeviceRefusal::Closed { number: 2 })?;
     refused(
         alloc,
         &mut events,
@@ -340,8 +417,16 @@ fn writes_last_lines(rt: HostRuntime) -> Result<(), Fail> {
         &mut events,
         DeviceRefusal::NoFreshUuid { drawn: one()? },
     )?;
+    refused(alloc, &mut events, DeviceRefusal::WrongPassword)?;
+    let identifier = Text::of(alloc, "alice")?;
+    refused(
+        alloc,
+        &mut events,
+        DeviceRefusal::OtherAccount { identifier },
+    )?;
     let identifier = Text::of(alloc, "alice")?;
     refused(alloc, &mut events, DeviceRefusal::HasAccount { identifier })?;
+    refused(alloc, &mut events, DeviceRefusal::Cost { cost: 10000001 })?;
     refused(
         alloc,
         &mut events,

@@ -1,7 +1,7 @@
 use Rattle.std.proofs.Common.{◌∙◌, ◌∷◌, ◌++◌, ap, arith}
 use Rattle.std.specs.List.{flat_map}
 use Rattle.sn_script.proofs.Lists.{joined, take_all}
-use Rattle.sn_script.proofs.commands.joined.Goals as goal
+use Rattle.sn_script.proofs.texts.joined.Goals as goal
 
 pub returns : goal.returns
 returns c =
