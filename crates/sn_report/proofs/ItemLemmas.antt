@@ -2,9 +2,8 @@
 use Rattle.std.proofs.Common.{rules, ◌≡◌, ℕ, zero, suc, ◌+◌, ◌<◌, ◌≤◌, List, [], ◌∷◌, ◌++◌, length, take, drop, get_or, Bool, true, false, refl, sym, ap, ◌∙◌, arith, append-nil, add-one}
 use Rattle.std.specs.Prelude.{◌||◌, cond, not, if◌then◌else◌, filter}
 use Rattle.std.specs.Str.{bytes_eq}
-use Rattle.std.proofs.lemmas.List.{length-take}
 use Rattle.std.proofs.lemmas.List.Elements.{filter-append}
-use Rattle.std.proofs.Math.Seq.{length_front, split_at, take-suc}
+use Rattle.std.proofs.Math.Seq.{split_at, take-suc}
 use Rattle.sn_laws.specs.Lookups.{Bytes}
 use Rattle.sn_report.specs.Labels.{Labels, is_labelled, items_of, label_from}
 use Rattle.sn_report.proofs.NumberLemmas.{bytes_same}
@@ -65,12 +64,17 @@ chosen false m k l e h = (λ same. refl, λ other. absurd (other e))
 
 -- whether an item at a place had a label before
 
+front_length : (k : ℕ) (xs : Labels) → k ≤ length xs → length (take k xs) ≡ k
+front_length zero xs h = refl
+front_length (suc k) [] h = absurd (omega (arith, h))
+front_length (suc k) (x ∷ xs) h = ap suc (front_length k xs (omega (arith, h)))
+
 first_here : (made : Labels) (k : ℕ) (u : Bytes) → k < length made → u ≡ get_or made k u
     → (label_from 1 made u ≡ k + 1 → is_labelled (take k made) u ≡ false) × ((label_from 1 made u ≡ k + 1 → ⊥) → is_labelled (take k made) u ≡ true)
 first_here made k u h is =
     let all : made ≡ take k made ++ u ∷ drop (suc k) made =
     split_at made k u h ∙ ap (λ (x : Bytes). take k made ++ x ∷ drop (suc k) made) (sym is) in
-    let count : length (take k made) ≡ k = length_front k made (omega (arith, h)) in
+    let count : length (take k made) ≡ k = front_length k made (omega (arith, h)) in
     let end : 1 + length (take k made) ≡ k + 1 = omega (arith, count) in
     chosen (is_labelled (take k made) u) (label_from 1 (take k made) u) (k + 1) (label_from 1 made u)
     (ap (λ (ls : Labels). label_from 1 ls u) all ∙ least_at 1 (take k made) (drop (suc k) made) u
