@@ -34,14 +34,14 @@ no_put ws never l h = let e : codes "put" ≡ command l = begins (codes "put" �
 
 pub no_edit : (ws : List Word)
     → ((device number : Word) (label : Ordinal) (rest : List Word) (fates : List Fate) (text : List ℕ) → ws ≡ device ∷ number ∷ rest
-      → IsName device → IsLabel number label → ¬ (IsTextBehind rest fates text))
+    → IsName device → IsLabel number label → ¬ (IsTextBehind rest fates text))
     → (l : Line) → ¬ (IsLine (codes "edit" ∷ ws) l)
 no_edit ws never (line.Edit device label fates text) (number, rest, e, name, which, is) = never device number label rest fates text (cc) name which is
 no_edit ws never l h = let e : codes "edit" ≡ command l = begins (codes "edit" ∷ ws) l h in absurd (search (rules, e))
 
 pub no_delete : (ws : List Word)
     → ((device number : Word) (label : Ordinal) (rest : List Word) (fates : List Fate) → ws ≡ device ∷ number ∷ rest
-      → IsName device → IsLabel number label → ¬ (AreLosses rest fates))
+    → IsName device → IsLabel number label → ¬ (AreLosses rest fates))
     → (l : Line) → ¬ (IsLine (codes "del" ∷ ws) l)
 no_delete ws never (line.Delete device label fates) (number, rest, e, name, which, are) = never device number label rest fates (cc) name which are
 no_delete ws never l h = let e : codes "del" ≡ command l = begins (codes "del" ∷ ws) l h in absurd (search (rules, e))
@@ -85,16 +85,26 @@ late_is ws device number text request e name same which =
 
 pub delete_is : (ws : List Word) (device number text : Word) (rest : List Word) (label : Ordinal) (fates : List Fate) → ws ≡ device ∷ number ∷ rest
     → IsName device → text ≡ device → IsLabel number label → AreLosses rest fates → IsLine (codes "del" ∷ ws) (line.Delete text label fates)
-delete_is ws device number text rest label fates e name same which are =
-    (number, rest, ap (λ (t : List Word). codes "del" ∷ t) e ∙ ap (λ (t : Word). codes "del" ∷ t ∷ number ∷ rest) (sym same),
-      subst IsName (sym same) name, which, are)
+delete_is ws device number text rest label fates e name same which are = (
+  number,
+  rest,
+  ap (λ (t : List Word). codes "del" ∷ t) e ∙ ap (λ (t : Word). codes "del" ∷ t ∷ number ∷ rest) (sym same),
+  subst IsName (sym same) name,
+  which,
+  are,
+)
 
 pub edit_is : (ws : List Word) (device number text : Word) (rest : List Word) (label : Ordinal) (fates : List Fate) (content : List ℕ)
     → ws ≡ device ∷ number ∷ rest → IsName device → text ≡ device → IsLabel number label → IsTextBehind rest fates content
     → IsLine (codes "edit" ∷ ws) (line.Edit text label fates content)
-edit_is ws device number text rest label fates content e name same which is =
-    (number, rest, ap (λ (t : List Word). codes "edit" ∷ t) e ∙ ap (λ (t : Word). codes "edit" ∷ t ∷ number ∷ rest) (sym same),
-      subst IsName (sym same) name, which, is)
+edit_is ws device number text rest label fates content e name same which is = (
+  number,
+  rest,
+  ap (λ (t : List Word). codes "edit" ∷ t) e ∙ ap (λ (t : Word). codes "edit" ∷ t ∷ number ∷ rest) (sym same),
+  subst IsName (sym same) name,
+  which,
+  is,
+)
 
 -- words that are none for one of them
 

@@ -104,7 +104,7 @@ one_line ws (line.Put device fates text) (line.Put device' fates' text') (rest, 
     let texts : text ≡ text' = same.1 in
     cc
 one_line ws (line.Edit device label fates text) (line.Edit device' label' fates' text') (number, rest, e, name, which, is)
-  (number', rest', e', name', which', is') =
+    (number', rest', e', name', which', is') =
     let devices : device ≡ device' = cc in
     let numbers : number' ≡ number = cc in
     let labels : label ≡ label' = one_label number label label' which (subst (λ w. IsLabel w label') numbers which') in
@@ -114,7 +114,7 @@ one_line ws (line.Edit device label fates text) (line.Edit device' label' fates'
     let texts : text ≡ text' = same.1 in
     cc
 one_line ws (line.Delete device label fates) (line.Delete device' label' fates') (number, rest, e, name, which, are)
-  (number', rest', e', name', which', are') =
+    (number', rest', e', name', which', are') =
     let devices : device ≡ device' = cc in
     let numbers : number' ≡ number = cc in
     let labels : label ≡ label' = one_label number label label' which (subst (λ w. IsLabel w label') numbers which') in

@@ -95,9 +95,10 @@ first_cut (x ∷ xs) (l ∷ ls) w v more others (f ∷ fs) (g ∷ gs) a b none n
 pub one_text : (ws : List Word) (fs gs : List Fate) (t u : List ℕ) → IsTextBehind ws fs t → IsTextBehind ws gs u → (fs ≡ gs) × (t ≡ u)
 one_text ws fs gs t u a b =
     let cut = first_cut a.losses b.losses a.first b.first a.more b.more fs gs a.lost b.lost (not_lost a.first a.no_fate) (not_lost b.first b.no_fate)
-    (sym a.words_are ∙ b.words_are) in
-    (one_fates a.losses fs gs a.lost (subst (λ ls. AreLosses ls gs) (sym cut.0) b.lost),
-      a.text_is ∙ ap (λ (w : Word). join_with_byte 32 (w ∷ a.more)) cut.1 ∙ ap (λ (ls : List Word). join_with_byte 32 (b.first ∷ ls)) cut.2 ∙ sym b.text_is)
+    (sym a.words_are ∙ b.words_are) in (
+      one_fates a.losses fs gs a.lost (subst (λ ls. AreLosses ls gs) (sym cut.0) b.lost),
+      a.text_is ∙ ap (λ (w : Word). join_with_byte 32 (w ∷ a.more)) cut.1 ∙ ap (λ (ls : List Word). join_with_byte 32 (b.first ∷ ls)) cut.2 ∙ sym b.text_is,
+    )
 
 -- words that are read one after the other
 
