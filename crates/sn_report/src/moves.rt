@@ -198,16 +198,11 @@ pub fn make_label(labels: &mut Labels, puts: bool, made: &Move) -> Result<(), Al
     ensures refused { OnErr result (labels.new ≡ labels.old) }
 {
     match made {
-        Move::Edit { uuid, .. } => {
-            if puts {
-                labels.add(*uuid)
-            } else {
-                Ok(())
-            }
-        }
+        Move::Edit { uuid, .. } if puts => labels.add(*uuid),
         Move::Fork { other, .. } | Move::Rename { other, .. } => labels.add(*other),
         Move::Register { .. }
         | Move::Join { .. }
+        | Move::Edit { .. }
         | Move::Drop { .. }
         | Move::Post { .. }
         | Move::Unpost { .. }

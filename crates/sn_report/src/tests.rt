@@ -38,10 +38,16 @@ fn makes_labels(rt: HostRuntime) -> Result<(), Fail> {
     let other = Uuid::from_bytes([7; 16]);
     assert_eq!(rt; (labels.len(), labels.is_empty()), (3, false));
     assert_eq!(rt; labels.as_slice(), [two()?, one()?, two()?].as_slice());
-    assert_eq!(rt; labels.items(rt.alloc())?.as_slice(), [two()?, one()?].as_slice());
+    assert_eq!(rt;
+        labels.items(rt.alloc())?.as_slice(),
+        [two()?, one()?].as_slice()
+    );
     assert_eq!(rt; (labels.label(&two()?), labels.label(&one()?)), (1, 2));
     assert_eq!(rt; (labels.item(0), labels.item(1)), (None, Some(two()?)));
-    assert_eq!(rt; (labels.item(2), labels.item(3)), (Some(one()?), Some(two()?)));
+    assert_eq!(rt;
+        (labels.item(2), labels.item(3)),
+        (Some(one()?), Some(two()?))
+    );
     assert_eq!(rt; (labels.item(4), labels.item(u64::MAX)), (None, None));
     assert!(rt; labels.is_labelled(&one()?) && !labels.is_labelled(&other));
     assert_eq!(rt; labels.label(&other), 4);

@@ -11,11 +11,11 @@ loop-place-preserved c =
     let place : ℕ = c.loop-place.place in
     let label : label_from 1 made uuid ≡ c.label.result = ap (λ (ls : List (List ℕ)). label_from 1 ls uuid) c.as_slice-made.ensures ∙ sym c.label.ensures in
     elim c.if-label-place.branch [
-      then-label-place+in_ok-push w ↦
-        item_new made c.loop-place.items.items c.if-label-place.items.items place uuid c.loop-place-test.true c.index-made-place.is
-        (label ∙ w.if-label-place.true) c.loop-place.invariant (ap (λ v. v.items) w.items-is ∙ w.in_ok-push.ensures.items)
-    | else-label-place w ↦
-        ap (λ v. v.items) w.items-is
-        ∙ item_known made c.loop-place.items.items place uuid c.loop-place-test.true c.index-made-place.is
-        (λ same. w.if-label-place.false (sym label ∙ same)) c.loop-place.invariant
+      | then-label-place+in_ok-push w ↦
+          item_new made c.loop-place.items.items c.if-label-place.items.items place uuid c.loop-place-test.true c.index-made-place.is
+          (label ∙ w.if-label-place.true) c.loop-place.invariant (ap (λ v. v.items) w.items-is ∙ w.in_ok-push.ensures.items)
+      | else-label-place w ↦
+          ap (λ v. v.items) w.items-is
+          ∙ item_known made c.loop-place.items.items place uuid c.loop-place-test.true c.index-made-place.is
+          (λ same. w.if-label-place.false (sym label ∙ same)) c.loop-place.invariant
     ]
