@@ -1,0 +1,15 @@
+pub mod AccountLines
+pub mod BodyLemmas
+pub mod DeviceLines
+pub mod DraftsGathered
+pub mod Finds
+pub mod HoldingLemmas
+pub mod LabelPlaces
+pub mod LawLemmas
+pub mod LineOrder
+pub mod NumberLemmas
+pub mod OpenedDrafts
+pub mod OpenedItems
+pub mod PlaceLemmas
+pub mod SetLemmas
+pub mod WalkLemmas

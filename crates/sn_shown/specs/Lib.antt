@@ -1,0 +1,6 @@
+pub mod Drafts
+pub mod Held
+pub mod Laws
+pub mod Lines
+pub mod Rows
+pub mod Shown

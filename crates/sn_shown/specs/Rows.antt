@@ -1,0 +1,59 @@
+-- Rows by their kinds.
+use Rattle.std.specs.Prelude.{ℕ, Bool, false, Option, Some, None}
+use Rattle.std.specs.Str.{bytes_eq}
+use Rattle.sn_items.specs.declared.sealed.Sealed.{Sealed}
+use Rattle.sn_laws.specs.Lookups.{Bytes}
+use Rattle.sn_row_map.specs.RowMaps.{row_in}
+use Rattle.sn_row_map.specs.declared.row_map.RowMap.{RowMap}
+use Rattle.sn_rows.specs.Table.{Rows}
+use Rattle.sn_rows.specs.declared.device_rows.LocalItem.{LocalItem}
+use Rattle.sn_rows.specs.declared.device_rows.OwnerRow.{OwnerRow}
+use Rattle.sn_rows.specs.declared.device_rows.SetRow.{SetRow}
+use Rattle.sn_rows.specs.declared.server_rows.AccountRow.{AccountRow}
+use Rattle.sn_rows.specs.declared.server_rows.GenerationRow.{GenerationRow}
+use Rattle.sn_rows.specs.declared.server_rows.ItemRow.{ItemRow}
+use Rattle.sn_rows.specs.declared.value.Value.{Value}
+use Rattle.sn_rows.specs.declared.value.Value.TheVariants as value
+
+-- the rows of a map; where there is none, there are no rows
+abbrev pub rows_in : Option RowMap → Rows
+rows_in None key = None
+rows_in (Some map) key = row_in map key
+
+-- how many accounts the store's row counts; none before it stands
+abbrev pub count_in : Option Value → ℕ
+count_in (Some (value.Store row)) = row.accounts
+count_in found = 0
+
+abbrev pub account_in : Option Value → Option AccountRow
+account_in (Some (value.Account row)) = Some row
+account_in found = None
+
+abbrev pub generation_in : Option Value → Option GenerationRow
+generation_in (Some (value.Generation row)) = Some row
+generation_in found = None
+
+abbrev pub item_in : Option Value → Option ItemRow
+item_in (Some (value.Item row)) = Some row
+item_in found = None
+
+abbrev pub owner_in : Option Value → Option OwnerRow
+owner_in (Some (value.Owner owner)) = Some owner
+owner_in found = None
+
+abbrev pub set_in : Option Value → Option SetRow
+set_in (Some (value.Set set)) = Some set
+set_in found = None
+
+abbrev pub local_in : Option Value → Option LocalItem
+local_in (Some (value.Local item)) = Some item
+local_in found = None
+
+-- the row of a set has this nonce
+abbrev pub has_nonce : Option GenerationRow → Bytes → Bool
+has_nonce None nonce = false
+has_nonce (Some row) nonce = bytes_eq row.pw_nonce nonce
+
+-- the two strings of a server's row
+abbrev pub sealed_in : ItemRow → Sealed
+sealed_in row = record { content = row.content; enc = row.enc }

@@ -1,0 +1,39 @@
+//! What `show` prints.
+
+ghost use Rattle.std.specs.Prelude.{◌≡◌, IfOk};
+ghost use Rattle.sn_laws.specs.declared.ideal.Ideal.{Ideal};
+ghost use Rattle.sn_report.specs.Showing.{show_lines};
+ghost use Rattle.sn_row_map.specs.RowMaps.{row_in};
+ghost use Rattle.sn_shown.specs.Rows.{rows_in};
+ghost use Rattle.sn_shown.specs.Shown.{IsShown};
+
+use crate::account_lines::add_accounts;
+use crate::device_lines::add_devices;
+use crate::ends::Devices;
+use crate::held::held_sets;
+use crate::numbers::account_numbers;
+use sn_report::Labels;
+use sn_row_map::RowMap;
+use sn_string::{Many, Text};
+use std::alloc::{AllocError, Global};
+
+/// The lines that show what both ends hold, from the server's rows and those of the devices of these
+/// names: each account, in the order in which they began, with its items in order of label, and then
+/// each device, in the order of the names, with its drafts. Each string is opened once.
+pub fn show<D: Devices>(
+    alloc: Global,
+    labels: &Labels,
+    names: &[Text],
+    server: &RowMap,
+    devices: &D,
+) -> Result<Many<Text>, AllocError>
+    ensures { (s : Ideal) → IsShown (row_in server.now) (λ name. rows_in (D.rows_of devices.now name)) labels.now names.now s
+        → IfOk result (λ lines. lines ≡ show_lines labels.now names.now s) }
+{
+    let numbers = account_numbers(alloc, server)?;
+    let sets = held_sets(alloc, server, &numbers, names, devices)?;
+    let mut lines = Many::new(alloc);
+    add_accounts(alloc, &mut lines, labels, server, &sets)?;
+    add_devices(alloc, &mut lines, labels, names, server, &numbers, devices)?;
+    Ok(lines)
+}
