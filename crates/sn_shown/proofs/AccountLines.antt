@@ -21,7 +21,7 @@ use Rattle.sn_rows.specs.declared.value.Value.{Value}
 use Rattle.sn_shows.specs.Servers.{IsShown, ShowsIdentity, ShowsItem, ShowsServer, ShowsStrings, account_at}
 use Rattle.sn_shown.specs.Lines.{lines_so_far}
 use Rattle.sn_shown.specs.Rows.{account_in, item_in}
-use Rattle.sn_shown.proofs.Finds.{never, one_found, some_is}
+use Rattle.sn_shown.proofs.Finds.{never, one_found}
 use Rattle.sn_shown.proofs.PlaceLemmas.{at_place, map_at, map_same, map_set, taken, taken_at}
 
 -- each account's own line

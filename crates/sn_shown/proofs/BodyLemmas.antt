@@ -1,6 +1,5 @@
 -- What the strings of an item's row hold.
-use Rattle.std.proofs.Common.{◌≡◌, ℕ, suc, List, Option, Some, None, Result, Ok, Err, true, false, refl, sym, ap, ◌∙◌, subst}
-use Rattle.std.specs.Prelude.{IfOk, IsErr}
+use Rattle.std.proofs.Common.{◌≡◌, ℕ, List, Option, Some, Err, true, false, refl, sym, ap, ◌∙◌}
 use Rattle.sn_items.specs.Items.{CarriesParams, OpensItem}
 use Rattle.sn_laws.specs.Lookups.{Bytes, last_of}
 use Rattle.sn_laws.specs.declared.ideal.Account.{Account}
@@ -13,7 +12,6 @@ use Rattle.sn_rows.specs.declared.server_rows.ItemRow.{ItemRow}
 use Rattle.sn_shows.specs.Servers.{ShowsStrings, account_at}
 use Rattle.sn_shows.specs.Sets.{set_at}
 use Rattle.sn_string.specs.Grammar.{Is003, Reading}
-use Rattle.sn_string.specs.Laws.{IsOutcome}
 use Rattle.sn_string.specs.Parts.{reading_of}
 use Rattle.sn_string.specs.Refusals.{IsRefusal}
 use Rattle.sn_string.specs.declared.params.KeySet.{KeySet}

@@ -1,5 +1,5 @@
 -- The lines of a device, and of the devices so far.
-use Rattle.std.proofs.Common.{◌≡◌, ℕ, ◌+◌, ◌<◌, ◌≤◌, List, [], ◌∷◌, ◌++◌, length, take, get_or, Option, Some, None, refl, sym, ap, ◌∙◌, subst, append_assoc}
+use Rattle.std.proofs.Common.{◌≡◌, ℕ, ◌+◌, ◌<◌, ◌≤◌, List, [], ◌∷◌, ◌++◌, length, take, get_or, Option, None, refl, sym, ap, ◌∙◌, subst, append_assoc}
 use Rattle.std.specs.Prelude.{OnOk, Result}
 use Rattle.std.specs.List.{flat_map}
 use Rattle.std.proofs.lemmas.List.{append-nil, take_all, take_more}
@@ -12,9 +12,6 @@ use Rattle.sn_laws.specs.declared.ideal.Ideal.{Ideal}
 use Rattle.sn_report.specs.Labels.{Labels}
 use Rattle.sn_report.specs.Showing.{device_lines, device_text, draft_lines, none_text, sets_text}
 use Rattle.sn_rows.specs.Table.{Rows}
-use Rattle.sn_rows.specs.declared.device_rows.LocalItem.{LocalItem}
-use Rattle.sn_rows.specs.declared.key.Key.TheVariants as key
-use Rattle.sn_rows.specs.declared.value.Value.TheVariants as value
 use Rattle.sn_shows.specs.Devices.{ShowsDevice, ShowsDeviceAs, ShowsDrafted, ShowsHolder, ShowsNothing}
 use Rattle.sn_shown.specs.Drafts.{ShowsDrafts}
 use Rattle.sn_shown.specs.Held.{IsHolding, numbers_of}

@@ -1,6 +1,6 @@
 -- The drafts of a device, gathered by label from row to row.
-use Rattle.std.proofs.Common.{◌≡◌, ℕ, ◌<◌, List, [], ◌∷◌, ◌++◌, Option, Some, None, Bool, true, false, refl, sym, ap, ◌∙◌, subst, inl, inr, ⊎_elim}
-use Rattle.std.specs.Prelude.{◌==◌, ◌&&◌, MatchOption, cond, if◌then◌else◌}
+use Rattle.std.proofs.Common.{◌≡◌, ℕ, List, [], ◌∷◌, ◌++◌, Option, Some, None, Bool, true, false, refl, sym, ap, ◌∙◌, subst, inl, inr, ⊎_elim}
+use Rattle.std.specs.Prelude.{◌==◌, cond, if◌then◌else◌}
 use Rattle.std.specs.BTreeMap.{BTreeMap, IsEmpty, IsOrdered, get, is_at, values}
 use Rattle.std.specs.List.{flat_map}
 use Rattle.std.specs.Map.{lookup}
@@ -78,16 +78,18 @@ pub record IsGathered (map : RowMap) (labels : Labels) (s : Ideal) (name : Bytes
 pub first_stands : (map : RowMap) (found : Option (Key × Value)) → IsFirst map kind.Local found → Stands map found
 first_stands map None first k v e = absurd (cc)
 first_stands map (Some row) first k v e =
-    let same : row ≡ (k, v) = cc in
-    (ap (λ (r : Key × Value). key_kind r.0) (sym same) ∙ first.passes,
-    ap (λ (r : Key × Value). row_in map r.0) (sym same) ∙ first.stands ∙ ap (λ (r : Key × Value). Some r.1) same)
+    let same : row ≡ (k, v) = cc in (
+      ap (λ (r : Key × Value). key_kind r.0) (sym same) ∙ first.passes,
+      ap (λ (r : Key × Value). row_in map r.0) (sym same) ∙ first.stands ∙ ap (λ (r : Key × Value). Some r.1) same,
+    )
 
 pub next_stands : (map : RowMap) (before : Key) (found : Option (Key × Value)) → key_kind before ≡ kind.Local → IsNext map before found → Stands map found
 next_stands map before None of next k v e = absurd (cc)
 next_stands map before (Some row) of next k v e =
-    let same : row ≡ (k, v) = cc in
-    (ap (λ (r : Key × Value). key_kind r.0) (sym same) ∙ next.passes.0 ∙ of,
-    ap (λ (r : Key × Value). row_in map r.0) (sym same) ∙ next.stands ∙ ap (λ (r : Key × Value). Some r.1) same)
+    let same : row ≡ (k, v) = cc in (
+      ap (λ (r : Key × Value). key_kind r.0) (sym same) ∙ next.passes.0 ∙ of,
+      ap (λ (r : Key × Value). row_in map r.0) (sym same) ∙ next.stands ∙ ap (λ (r : Key × Value). Some r.1) same,
+    )
 
 pub none_gathered : (map : RowMap) (labels : Labels) (s : Ideal) (name : Bytes) (m : BTreeMap ℕ Bytes) (found : Option (Key × Value))
     → IsEmpty m → IsOrdered nat_cmp m → GoesOn map (rows_of map kind.Local) found → IsFirst map kind.Local found → IsGathered map labels s name m found

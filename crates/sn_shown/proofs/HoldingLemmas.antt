@@ -1,8 +1,7 @@
 -- What a device holds, by the rows that show it.
-use Rattle.std.proofs.Common.{◌≡◌, ◌<◌, ◌≤◌, ℕ, suc, List, [], ◌∷◌, ◌++◌, length, Option, Some, None, Bool, true, false, refl, sym, ap, ◌∙◌, subst, arith}
-use Rattle.std.specs.Prelude.{IfSome, cond, if◌then◌else◌, nat_lt}
-use Rattle.sn_laws.proofs.Facts.{clash, found_passes, is_below}
-use Rattle.sn_laws.specs.Each.{One}
+use Rattle.std.proofs.Common.{◌≡◌, ◌<◌, ◌≤◌, ℕ, suc, List, [], ◌∷◌, ◌++◌, length, Option, Some, None, Bool, refl, sym, ap, ◌∙◌, subst}
+use Rattle.std.specs.Prelude.{IfSome, if◌then◌else◌, nat_lt}
+use Rattle.sn_laws.proofs.Facts.{found_passes, is_below}
 use Rattle.sn_laws.specs.Lookups.{Bytes, account_for, account_named, account_of, device_named, greatest, is_account}
 use Rattle.sn_laws.specs.Reached.{HoldsSets, IsOneOrTwo}
 use Rattle.sn_laws.specs.declared.ideal.Account.{Account}
@@ -15,12 +14,12 @@ use Rattle.sn_rows.specs.declared.key.Key.TheVariants as key
 use Rattle.sn_rows.specs.declared.key.Slot.TheVariants.{Present, Older}
 use Rattle.sn_rows.specs.declared.value.Value.{Value}
 use Rattle.sn_rows.specs.declared.value.Value.TheVariants as value
-use Rattle.sn_shows.specs.Devices.{IsSetRow, ShowsDevice, ShowsDeviceAs, ShowsHolder, ShowsNothing, ShowsOlder, ShowsPresent}
+use Rattle.sn_shows.specs.Devices.{IsSetRow, ShowsDevice, ShowsDeviceAs, ShowsHolder, ShowsOlder, ShowsPresent}
 use Rattle.sn_shows.specs.Servers.{account_at}
 use Rattle.sn_shows.specs.Sets.{set_at}
 use Rattle.sn_string.proofs.Facts.{same_keys}
 use Rattle.sn_string.specs.declared.params.KeySet.{KeySet}
-use Rattle.sn_shown.specs.Held.{AreNumbers, IsHolding, IsNumbered, IsOfSlot, IsServed, IsSetOf, number_of, numbers_of}
+use Rattle.sn_shown.specs.Held.{AreNumbers, IsHolding, IsNumbered, IsOfSlot, IsSetOf, number_of, numbers_of}
 use Rattle.sn_shown.specs.Rows.{owner_in, set_in}
 use Rattle.sn_shown.specs.declared.holding.HeldSet.{HeldSet}
 use Rattle.sn_shown.specs.declared.holding.Holding.{Holding}

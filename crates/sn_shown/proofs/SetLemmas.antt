@@ -1,20 +1,17 @@
 -- The sets that devices hold, gathered from device to device.
-use Rattle.std.proofs.Common.{◌≡◌, ◌⊎◌, ◌≤◌, ℕ, List, [], ◌∷◌, ◌++◌, length, take, Option, Some, None, Bool, true, false, refl, sym, ap, ◌∙◌, subst, inl, inr, ⊎_elim}
-use Rattle.std.specs.Prelude.{◌==◌, ◌&&◌, IfSome, IsSome, cond, if◌then◌else◌, nat_lt}
+use Rattle.std.proofs.Common.{◌≡◌, ◌≤◌, ℕ, List, [], ◌∷◌, ◌++◌, length, take, Option, Some, None, Bool, true, false, refl, sym, ap, ◌∙◌, subst, ⊎_elim}
+use Rattle.std.specs.Prelude.{◌==◌, ◌&&◌, IfSome, IsSome, if◌then◌else◌}
 use Rattle.std.specs.BTreeMap.{BTreeMap, IsEmpty, Updates, get, is_at}
 use Rattle.std.specs.Map.{lookup}
 use Rattle.std.specs.Ordering.{is_eq, nat_cmp, ordering_then}
 use Rattle.std.specs.declared.cmp.Ordering.{Ordering}
 use Rattle.std.specs.declared.cmp.Ordering.TheVariants.{Less, Equal, Greater}
 use Rattle.std.proofs.lemmas.List.{take_all}
-use Rattle.sn_laws.proofs.Facts.{same_number}
 use Rattle.sn_laws.specs.Each.{One}
-use Rattle.sn_laws.specs.Lookups.{Bytes, account_of, device_named, last_of}
+use Rattle.sn_laws.specs.Lookups.{Bytes, account_of, device_named}
 use Rattle.sn_laws.specs.declared.ideal.Account.{Account}
-use Rattle.sn_laws.specs.declared.ideal.Body.TheVariants.{Under}
 use Rattle.sn_laws.specs.declared.ideal.Device.{Device}
 use Rattle.sn_laws.specs.declared.ideal.Ideal.{Ideal}
-use Rattle.sn_laws.specs.declared.ideal.Version.{Version}
 use Rattle.sn_row_map.specs.Keys.{key_cmp}
 use Rattle.sn_rows.specs.Facts.{keys_compare, same_self}
 use Rattle.sn_rows.specs.Table.{same_key}
@@ -25,7 +22,7 @@ use Rattle.sn_shows.specs.Servers.{account_at}
 use Rattle.sn_shows.specs.Sets.{set_at}
 use Rattle.sn_shows.proofs.Facts.{one_at}
 use Rattle.sn_string.specs.declared.params.KeySet.{KeySet}
-use Rattle.sn_shown.specs.Held.{AreSets, AreSetsOf, HasSet, IsHolding, IsHoldingOf, number_of, numbers_of, with_held, with_set}
+use Rattle.sn_shown.specs.Held.{AreSets, AreSetsOf, IsHolding, number_of, numbers_of, with_held, with_set}
 use Rattle.sn_shown.specs.Shown.{AreHeld, IsHeld, IsHolder}
 use Rattle.sn_shown.specs.declared.holding.HeldSet.{HeldSet}
 use Rattle.sn_shown.specs.declared.holding.Holding.{Holding}

@@ -17,8 +17,8 @@ use Rattle.sn_rows.specs.declared.value.Value.TheVariants as value
 
 -- the rows of a map; where there is none, there are no rows
 abbrev pub rows_in : Option RowMap → Rows
-rows_in None key = None
-rows_in (Some map) key = row_in map key
+rows_in None = λ key. None
+rows_in (Some map) = row_in map
 
 -- how many accounts the store's row counts; none before it stands
 abbrev pub count_in : Option Value → ℕ

@@ -69,11 +69,7 @@ fn add_sets<D: Devices>(
 }
 
 // Adds a set of an account.
-fn add_set(
-    sets: &mut BTreeMap<Key, KeySet>,
-    account: u64,
-    held: HeldSet,
-) -> Result<(), AllocError>
+fn add_set(sets: &mut BTreeMap<Key, KeySet>, account: u64, held: HeldSet) -> Result<(), AllocError>
     ensures { OnOk result ((name : Key) → get key_cmp sets.new name ≡ with_set (get key_cmp sets.old) (key.Generation account held.number) held.set name) }
 {
     sets.insert(Key::Generation(account, held.number), held.set)?;

@@ -11,7 +11,7 @@ ghost use Rattle.sn_shows.specs.Devices.{ShowsDevice};
 ghost use Rattle.sn_shows.specs.Servers.{account_at};
 ghost use Rattle.sn_shown.specs.Held.{AreNumbers, IsHoldingOf, IsOfSlot, IsServed, IsSetOf, numbers_of};
 
-use crate::numbers::set_number;
+use crate::numbers::{account_number, set_number};
 use crate::rows::{owner_row, set_row};
 use sn_row_map::RowMap;
 use sn_rows::{OwnerRow, SetRow, Slot};
@@ -63,7 +63,7 @@ pub(crate) fn holding_of(
     let Some(owner) = owner_row(rows) else {
         return Ok(None);
     };
-    let Some(account) = numbers.get(owner.identifier.as_str()).copied() else {
+    let Some(account) = account_number(numbers, owner.identifier.as_str()) else {
         return Ok(None);
     };
     let Some(present) = held_set(alloc, server, account, owner, set_row(rows, Slot::Present))?

@@ -91,11 +91,7 @@ fn body_of(
 }
 
 // The number of the set whose parameters the strings of an item carry.
-fn carried_number(
-    alloc: Global,
-    server: &RowMap,
-    row: &ItemRow,
-) -> Result<Option<u64>, AllocError>
+fn carried_number(alloc: Global, server: &RowMap, row: &ItemRow) -> Result<Option<u64>, AllocError>
     ensures { (s : Ideal) (a : Account) (number : ℕ) (set : KeySet) (uuid text : Bytes) → IsServed (row_in server.now) s
         → account_at row.now.account s.accounts ≡ Some a → set_at number a.sets ≡ Some set → OpensItem (sealed_in row.now) uuid set text
         → IfOk result (λ found. found ≡ Some number) }

@@ -50,6 +50,13 @@ fn add_number(
     Ok(())
 }
 
+/// The number of the account of this identifier.
+pub(crate) fn account_number(numbers: &BTreeMap<String, u64>, identifier: &str) -> Option<u64>
+    ensures { result ≡ get_by_text numbers.now identifier.now }
+{
+    numbers.get(identifier).copied()
+}
+
 /// The number of the set of an account that has this nonce. The account's last sets are looked at
 /// first.
 pub(crate) fn set_number(server: &RowMap, account: u64, nonce: &str) -> Option<u64>

@@ -1,4 +1,4 @@
-use Rattle.std.proofs.Common.{◌≡◌, ◌<◌, ◌≤◌, List, length, get_or, sym, ◌∙◌, subst}
+use Rattle.std.proofs.Common.{◌≡◌, get_or, sym, subst}
 use Rattle.sn_laws.specs.Lookups.{Bytes}
 use Rattle.sn_report.specs.Showing.{device_lines}
 use Rattle.sn_shown.proofs.DeviceLines.{names_all, names_step}

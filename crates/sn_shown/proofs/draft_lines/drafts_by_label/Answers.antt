@@ -1,5 +1,5 @@
 use Rattle.std.proofs.Common.{◌≡◌, Some, None, ap}
-use Rattle.sn_laws.specs.Lookups.{Bytes, draft_at}
+use Rattle.sn_laws.specs.Lookups.{draft_at}
 use Rattle.sn_row_map.specs.Steps.{lent}
 use Rattle.sn_shown.proofs.DraftsGathered.{IsGathered, add_row, all_gathered, local_or_not, none_gathered, row_shows, skip_row}
 use Rattle.sn_shown.proofs.WalkLemmas.{walk_shorter}

@@ -1,4 +1,4 @@
-use Rattle.std.proofs.Common.{◌≡◌, ℕ, Some, sym, ap, ◌∙◌}
+use Rattle.std.proofs.Common.{◌≡◌, ℕ, sym, ap, ◌∙◌}
 use Rattle.sn_report.specs.Showing.{item_text}
 use Rattle.sn_row_map.specs.RowMaps.{row_in}
 use Rattle.sn_shows.specs.Servers.{account_at}

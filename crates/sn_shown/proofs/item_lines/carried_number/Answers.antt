@@ -1,4 +1,4 @@
-use Rattle.std.proofs.Common.{◌≡◌, ℕ, Some, sym, ap, ◌∙◌, subst}
+use Rattle.std.proofs.Common.{◌≡◌, ℕ, sym, ap, ◌∙◌, subst}
 use Rattle.sn_items.specs.Items.{CarriesParams}
 use Rattle.sn_laws.specs.Lookups.{Bytes}
 use Rattle.sn_shows.specs.Servers.{account_at}

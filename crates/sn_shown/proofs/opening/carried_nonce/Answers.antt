@@ -1,5 +1,4 @@
 use Rattle.std.proofs.Common.{◌≡◌, Some, ap}
-use Rattle.sn_string.specs.Parts.{reading_of}
 use Rattle.sn_shown.proofs.BodyLemmas.{carried, only_memory}
 use Rattle.sn_shown.proofs.OpenedItems.{none_given}
 use Rattle.sn_shown.proofs.opening.carried_nonce.Goals as goal
