@@ -19,7 +19,7 @@ use Rattle.sn_shows.specs.Servers.{account_at}
 use Rattle.sn_shows.specs.Sets.{set_at}
 use Rattle.sn_string.proofs.Facts.{same_keys}
 use Rattle.sn_string.specs.declared.params.KeySet.{KeySet}
-use Rattle.sn_shown.specs.Held.{AreNumbers, IsHolding, IsNumbered, IsOfSlot, IsSetOf, number_of, numbers_of}
+use Rattle.sn_shown.specs.Held.{AreAccountNumbers, IsHolding, IsNumbered, IsOfSlot, IsSetOf, number_of, numbers_of}
 use Rattle.sn_shown.specs.Rows.{owner_in, set_in}
 use Rattle.sn_shown.specs.declared.holding.HeldSet.{HeldSet}
 use Rattle.sn_shown.specs.declared.holding.Holding.{Holding}
@@ -101,7 +101,7 @@ module _ (rows : Rows) (s : Ideal) (name : Bytes) (shows : ShowsDevice rows s na
       let o : Owned rows s name d = owned_by rows s name d shows e in
       never (owner_in (rows key.Owner)) o.holder.owner.owner (ap owner_in o.holder.owner.stands) none)
 
-  module _ (numbers : Bytes → Option ℕ) (are : AreNumbers numbers s.accounts) (owner : OwnerRow) (owner_is : owner_in (rows key.Owner) ≡ Some owner) where
+  module _ (numbers : Bytes → Option ℕ) (are : AreAccountNumbers numbers s.accounts) (owner : OwnerRow) (owner_is : owner_in (rows key.Owner) ≡ Some owner) where
     own : (d : Device) (o : Owned rows s name d) → owner.identifier ≡ o.account.identifier
     own d o =
         let there : owner_in (rows key.Owner) ≡ Some o.holder.owner.owner = ap owner_in o.holder.owner.stands in

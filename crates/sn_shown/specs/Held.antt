@@ -1,5 +1,6 @@
 -- Accounts and sets by what rows name them by.
-use Rattle.std.specs.Prelude.{◌≡◌, ℕ, List, [], ◌∷◌, ◌++◌, Option, Some, None, IsSome, IfSome, if◌then◌else◌}
+use Rattle.std.specs.Prelude.{◌≡◌, ℕ, List, [], ◌∷◌, ◌++◌, Option, Some, None, IsSome, IfSome, String, if◌then◌else◌, slice_get}
+use Rattle.std.specs.BTreeMap.{BTreeMap, get_by_text}
 use Rattle.std.specs.Str.{bytes_eq}
 use Rattle.sn_laws.specs.Each.{One}
 use Rattle.sn_laws.specs.Lookups.{Bytes, account_of, device_named, greatest, last_of}
@@ -20,21 +21,38 @@ use Rattle.sn_string.specs.declared.params.KeySet.{KeySet}
 use Rattle.sn_shown.specs.Shown.{IsHolder, IsRegular}
 use Rattle.sn_shown.specs.declared.holding.HeldSet.{HeldSet}
 use Rattle.sn_shown.specs.declared.holding.Holding.{Holding}
+use Rattle.sn_shown.specs.declared.numbers.Numbers.{Numbers}
 
 -- the server's rows show the accounts of a state that is regular
 pub record IsServed (server : Rows) (s : Ideal) : Type 0 where
   pub regular : IsRegular s
   pub accounts : ShowsServer server s.accounts
 
--- ---- accounts by their identifiers
+-- ---- numbers by what rows name accounts and sets by
 
 -- each account has its number by its identifier
-abbrev pub AreNumbers : (Bytes → Option ℕ) → List Account → Type 0
-AreNumbers found accounts = (n : ℕ) (a : Account) → account_at n accounts ≡ Some a → found a.identifier ≡ Some n
+abbrev pub AreAccountNumbers : (Bytes → Option ℕ) → List Account → Type 0
+AreAccountNumbers found accounts = (n : ℕ) (a : Account) → account_at n accounts ≡ Some a → found a.identifier ≡ Some n
 
--- a number was put at an identifier
+-- each set of an account has its number by its nonce
+abbrev pub AreSetNumbers : (Bytes → Option ℕ) → Account → Type 0
+AreSetNumbers found a = (number : ℕ) (set : KeySet) → set_at number a.sets ≡ Some set → found set.params.pw_nonce ≡ Some number
+
+-- the map at an account's place has the numbers of its sets
+abbrev pub HasSetNumbers : {A : Type 0} → Option (BTreeMap (String A) ℕ) → Account → Type 0
+HasSetNumbers None a = ⊥
+HasSetNumbers (Some numbers) a = AreSetNumbers (get_by_text numbers) a
+
+abbrev pub HaveSetNumbers : {A : Type 0} → List (BTreeMap (String A) ℕ) → List Account → Type 0
+HaveSetNumbers maps accounts = (place : ℕ) (a : Account) → slice_get accounts place ≡ Some a → HasSetNumbers (slice_get maps place) a
+
+pub record AreNumbers (numbers : Numbers) (accounts : List Account) : Type 0 where
+  pub accounts_are : AreAccountNumbers (get_by_text numbers.accounts) accounts
+  pub sets_are : HaveSetNumbers numbers.sets.items accounts
+
+-- a number was put at a name
 abbrev pub AddsNumber : (Bytes → Option ℕ) → (Bytes → Option ℕ) → Bytes → ℕ → Type 0
-AddsNumber before after identifier number = (other : Bytes) → after other ≡ (if bytes_eq identifier other then Some number else before other)
+AddsNumber before after name number = (other : Bytes) → after other ≡ (if bytes_eq name other then Some number else before other)
 
 -- ---- the sets of a device
 

@@ -1,8 +1,6 @@
 -- Rows by their kinds.
-use Rattle.std.specs.Prelude.{ℕ, Bool, false, Option, Some, None}
-use Rattle.std.specs.Str.{bytes_eq}
+use Rattle.std.specs.Prelude.{ℕ, Option, Some, None}
 use Rattle.sn_items.specs.declared.sealed.Sealed.{Sealed}
-use Rattle.sn_laws.specs.Lookups.{Bytes}
 use Rattle.sn_row_map.specs.RowMaps.{row_in}
 use Rattle.sn_row_map.specs.declared.row_map.RowMap.{RowMap}
 use Rattle.sn_rows.specs.Table.{Rows}
@@ -49,10 +47,10 @@ abbrev pub local_in : Option Value → Option LocalItem
 local_in (Some (value.Local item)) = Some item
 local_in found = None
 
--- the row of a set has this nonce
-abbrev pub has_nonce : Option GenerationRow → Bytes → Bool
-has_nonce None nonce = false
-has_nonce (Some row) nonce = bytes_eq row.pw_nonce nonce
+-- how many sets an account's row counts; none where there is no row
+abbrev pub last_set_in : Option AccountRow → ℕ
+last_set_in None = 0
+last_set_in (Some row) = row.generation
 
 -- the two strings of a server's row
 abbrev pub sealed_in : ItemRow → Sealed

@@ -9,10 +9,11 @@ ghost use Rattle.sn_report.specs.Showing.{account_lines, account_text};
 ghost use Rattle.sn_row_map.specs.Keys.{key_cmp};
 ghost use Rattle.sn_row_map.specs.RowMaps.{row_in};
 ghost use Rattle.sn_shows.specs.Servers.{account_at};
-ghost use Rattle.sn_shown.specs.Held.{AreSets, IsServed};
+ghost use Rattle.sn_shown.specs.Held.{AreNumbers, AreSets, IsServed};
 ghost use Rattle.sn_shown.specs.Lines.{lines_so_far};
 
 use crate::item_lines::add_item;
+use crate::numbers::Numbers;
 use crate::rows::{account_count, account_row};
 use sn_report::{Labels, account_line};
 use sn_row_map::RowMap;
@@ -28,14 +29,15 @@ pub(crate) fn add_accounts(
     lines: &mut Many<Text>,
     labels: &Labels,
     server: &RowMap,
+    numbers: &Numbers,
     sets: &BTreeMap<Key, KeySet>,
 ) -> Result<(), AllocError>
-    ensures { (s : Ideal) → IsServed (row_in server.now) s → AreSets (get key_cmp sets.now) s.accounts
+    ensures { (s : Ideal) → IsServed (row_in server.now) s → AreNumbers numbers.now s.accounts → AreSets (get key_cmp sets.now) s.accounts
         → OnOk result (lines.new ≡ lines.old ++ flat_map (account_lines labels.now) s.accounts) }
 {
     let mut lists = first_lists(alloc, server)?;
     'items: for uuid in labels.as_slice() {
-        add_item(alloc, server, sets, labels, &mut lists, uuid)?;
+        add_item(alloc, server, numbers, sets, labels, &mut lists, uuid)?;
     }
     add_lists(lines, lists)
 }

@@ -1,24 +1,24 @@
 //! The lines that show the devices.
 
 ghost use Rattle.std.specs.Prelude.{◌≡◌, ◌++◌, ◌∷◌, [], OnOk};
-ghost use Rattle.std.specs.BTreeMap.{get_by_text};
 ghost use Rattle.std.specs.List.{flat_map};
+ghost use Rattle.sn_laws.specs.Lookups.{Bytes};
 ghost use Rattle.sn_laws.specs.declared.ideal.Ideal.{Ideal};
 ghost use Rattle.sn_report.specs.Showing.{device_lines, none_text};
 ghost use Rattle.sn_row_map.specs.RowMaps.{row_in};
 ghost use Rattle.sn_shows.specs.Devices.{ShowsDevice};
-ghost use Rattle.sn_shown.specs.Held.{AreNumbers, IsHolding, IsServed};
+ghost use Rattle.sn_shown.specs.Held.{AreNumbers, IsHolding};
 ghost use Rattle.sn_shown.specs.Rows.{rows_in};
-ghost use Rattle.sn_shown.specs.Shown.{AreDistinct, IsShown};
+ghost use Rattle.sn_shown.specs.Shown.{AreDistinct, IsRegular};
 
 use crate::draft_lines::add_drafts;
 use crate::ends::Devices;
 use crate::holding::{Holding, holding_of};
+use crate::numbers::Numbers;
 use sn_report::{Labels, device_line, no_account_line};
 use sn_row_map::RowMap;
 use sn_string::{Many, Text};
 use std::alloc::{AllocError, Global};
-use std::collections::BTreeMap;
 
 /// Adds the lines of each of these devices, in this order: the device, and its drafts in order of
 /// label.
@@ -27,17 +27,16 @@ pub(crate) fn add_devices<D: Devices>(
     lines: &mut Many<Text>,
     labels: &Labels,
     names: &[Text],
-    server: &RowMap,
-    numbers: &BTreeMap<String, u64>,
+    numbers: &Numbers,
     devices: &D,
 ) -> Result<(), AllocError>
-    ensures { (s : Ideal) → IsShown (row_in server.now) (λ name. rows_in (D.rows_of devices.now name)) labels.now names.now s
-        → AreNumbers (get_by_text numbers.now) s.accounts
+    ensures { (s : Ideal) → IsRegular s → ((name : Bytes) → ShowsDevice (rows_in (D.rows_of devices.now name)) s name)
+        → AreNumbers numbers.now s.accounts → AreDistinct labels.now
         → OnOk result (lines.new ≡ lines.old ++ flat_map (device_lines labels.now s) names.now) }
 {
     'names: for name in names {
         let name = name.as_str();
-        add_device(alloc, lines, labels, server, numbers, devices, name)?;
+        add_device(alloc, lines, labels, numbers, devices, name)?;
     }
     Ok(())
 }
@@ -47,19 +46,18 @@ fn add_device<D: Devices>(
     alloc: Global,
     lines: &mut Many<Text>,
     labels: &Labels,
-    server: &RowMap,
-    numbers: &BTreeMap<String, u64>,
+    numbers: &Numbers,
     devices: &D,
     name: &str,
 ) -> Result<(), AllocError>
-    ensures { (s : Ideal) → IsServed (row_in server.now) s → AreNumbers (get_by_text numbers.now) s.accounts
+    ensures { (s : Ideal) → IsRegular s → AreNumbers numbers.now s.accounts
         → ShowsDevice (rows_in (D.rows_of devices.now name.now)) s name.now → AreDistinct labels.now
         → OnOk result (lines.new ≡ lines.old ++ device_lines labels.now s name.now) }
 {
     let Some(rows) = devices.rows(name) else {
         return add_none(alloc, lines, name);
     };
-    let Some(holding) = holding_of(alloc, server, numbers, rows)? else {
+    let Some(holding) = holding_of(alloc, numbers, rows)? else {
         return add_none(alloc, lines, name);
     };
     add_holder(alloc, lines, labels, rows, &holding, name)

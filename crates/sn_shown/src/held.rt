@@ -1,22 +1,20 @@
 //! The sets that devices hold, from their rows.
 
 ghost use Rattle.std.specs.Prelude.{◌≡◌, ◌++◌, ◌∷◌, [], List, IfOk, OnOk};
-ghost use Rattle.std.specs.BTreeMap.{get, get_by_text};
+ghost use Rattle.std.specs.BTreeMap.{get};
 ghost use Rattle.sn_laws.specs.Lookups.{Bytes};
 ghost use Rattle.sn_laws.specs.declared.ideal.Ideal.{Ideal};
-ghost use Rattle.sn_report.specs.Labels.{Labels};
 ghost use Rattle.sn_row_map.specs.Keys.{key_cmp};
-ghost use Rattle.sn_row_map.specs.RowMaps.{row_in};
 ghost use Rattle.sn_shows.specs.Devices.{ShowsDevice};
 ghost use Rattle.sn_rows.specs.declared.key.Key.{Key};
 ghost use Rattle.sn_rows.specs.declared.key.Key.TheVariants as key;
-ghost use Rattle.sn_shown.specs.Held.{AreNumbers, AreSets, AreSetsOf, IsServed, with_held, with_set};
+ghost use Rattle.sn_shown.specs.Held.{AreNumbers, AreSets, AreSetsOf, with_held, with_set};
 ghost use Rattle.sn_shown.specs.Rows.{rows_in};
-ghost use Rattle.sn_shown.specs.Shown.{IsShown};
+ghost use Rattle.sn_shown.specs.Shown.{AreHeld, IsRegular};
 
 use crate::ends::Devices;
 use crate::holding::{HeldSet, Holding, holding_of};
-use sn_row_map::RowMap;
+use crate::numbers::Numbers;
 use sn_rows::Key;
 use sn_string::{KeySet, Text};
 use std::alloc::{AllocError, Global};
@@ -25,17 +23,16 @@ use std::collections::BTreeMap;
 /// The sets that these devices hold, by the keys of the server's rows of them.
 pub(crate) fn held_sets<D: Devices>(
     alloc: Global,
-    server: &RowMap,
-    numbers: &BTreeMap<String, u64>,
+    numbers: &Numbers,
     names: &[Text],
     devices: &D,
 ) -> Result<BTreeMap<Key, KeySet>, AllocError>
-    ensures { (s : Ideal) (labels : Labels) → IsShown (row_in server.now) (λ name. rows_in (D.rows_of devices.now name)) labels names.now s
-        → AreNumbers (get_by_text numbers.now) s.accounts → IfOk result (λ sets. AreSets (get key_cmp sets) s.accounts) }
+    ensures { (s : Ideal) → IsRegular s → ((name : Bytes) → ShowsDevice (rows_in (D.rows_of devices.now name)) s name) → AreHeld s names.now
+        → AreNumbers numbers.now s.accounts → IfOk result (λ sets. AreSets (get key_cmp sets) s.accounts) }
 {
     let mut sets = BTreeMap::new(alloc);
     'names: for name in names {
-        add_sets(alloc, &mut sets, server, numbers, devices, name.as_str())?;
+        add_sets(alloc, &mut sets, numbers, devices, name.as_str())?;
     }
     Ok(sets)
 }
@@ -44,19 +41,18 @@ pub(crate) fn held_sets<D: Devices>(
 fn add_sets<D: Devices>(
     alloc: Global,
     sets: &mut BTreeMap<Key, KeySet>,
-    server: &RowMap,
-    numbers: &BTreeMap<String, u64>,
+    numbers: &Numbers,
     devices: &D,
     name: &str,
 ) -> Result<(), AllocError>
-    ensures { (s : Ideal) (names : List Bytes) → IsServed (row_in server.now) s → AreNumbers (get_by_text numbers.now) s.accounts
+    ensures { (s : Ideal) (names : List Bytes) → IsRegular s → AreNumbers numbers.now s.accounts
         → ShowsDevice (rows_in (D.rows_of devices.now name.now)) s name.now → AreSetsOf (get key_cmp sets.old) s names
         → OnOk result (AreSetsOf (get key_cmp sets.new) s (names ++ name.now ∷ [])) }
 {
     let Some(rows) = devices.rows(name) else {
         return Ok(());
     };
-    let Some(holding) = holding_of(alloc, server, numbers, rows)? else {
+    let Some(holding) = holding_of(alloc, numbers, rows)? else {
         return Ok(());
     };
     let Holding {

@@ -1,7 +1,6 @@
 //! What a device holds, from its rows.
 
-ghost use Rattle.std.specs.Prelude.{◌≡◌, Some, IfOk};
-ghost use Rattle.std.specs.BTreeMap.{get_by_text};
+ghost use Rattle.std.specs.Prelude.{◌≡◌, List, Some, IfOk};
 ghost use Rattle.std.specs.Option.{option_copied};
 ghost use Rattle.sn_laws.specs.Lookups.{Bytes};
 ghost use Rattle.sn_laws.specs.declared.ideal.Account.{Account};
@@ -9,15 +8,15 @@ ghost use Rattle.sn_laws.specs.declared.ideal.Ideal.{Ideal};
 ghost use Rattle.sn_row_map.specs.RowMaps.{row_in};
 ghost use Rattle.sn_shows.specs.Devices.{ShowsDevice};
 ghost use Rattle.sn_shows.specs.Servers.{account_at};
-ghost use Rattle.sn_shown.specs.Held.{AreNumbers, IsHoldingOf, IsOfSlot, IsServed, IsSetOf, numbers_of};
+ghost use Rattle.sn_shown.specs.Held.{AreNumbers, IsHoldingOf, IsOfSlot, IsSetOf, numbers_of};
+ghost use Rattle.sn_shown.specs.Shown.{IsRegular};
 
-use crate::numbers::{account_number, set_number};
+use crate::numbers::Numbers;
 use crate::rows::{owner_row, set_row};
 use sn_row_map::RowMap;
 use sn_rows::{OwnerRow, SetRow, Slot};
 use sn_string::{KeySet, Params, Twin};
 use std::alloc::{AllocError, Global};
-use std::collections::BTreeMap;
 
 /// A set of an account, with its number.
 #[derive(Drop)]
@@ -53,24 +52,23 @@ impl Holding {
 /// server's accounts.
 pub(crate) fn holding_of(
     alloc: Global,
-    server: &RowMap,
-    numbers: &BTreeMap<String, u64>,
+    numbers: &Numbers,
     rows: &RowMap,
 ) -> Result<Option<Holding>, AllocError>
-    ensures { (s : Ideal) (name : Bytes) → IsServed (row_in server.now) s → AreNumbers (get_by_text numbers.now) s.accounts
+    ensures { (s : Ideal) (name : Bytes) → IsRegular s → AreNumbers numbers.now s.accounts
         → ShowsDevice (row_in rows.now) s name → IfOk result (IsHoldingOf s name) }
 {
     let Some(owner) = owner_row(rows) else {
         return Ok(None);
     };
-    let Some(account) = account_number(numbers, owner.identifier.as_str()) else {
+    let Some(account) = numbers.account(owner.identifier.as_str()) else {
         return Ok(None);
     };
-    let Some(present) = held_set(alloc, server, account, owner, set_row(rows, Slot::Present))?
+    let Some(present) = held_set(alloc, numbers, account, owner, set_row(rows, Slot::Present))?
     else {
         return Ok(None);
     };
-    let older = held_set(alloc, server, account, owner, set_row(rows, Slot::Older))?;
+    let older = held_set(alloc, numbers, account, owner, set_row(rows, Slot::Older))?;
     Ok(Some(Holding {
         account,
         present,
@@ -81,18 +79,18 @@ pub(crate) fn holding_of(
 // The set that stands in a slot, with its number in the account.
 fn held_set(
     alloc: Global,
-    server: &RowMap,
+    numbers: &Numbers,
     account: u64,
     owner: &OwnerRow,
     row: Option<&SetRow>,
 ) -> Result<Option<HeldSet>, AllocError>
-    ensures { (s : Ideal) (a : Account) → IsServed (row_in server.now) s → account_at account s.accounts ≡ Some a
+    ensures { (accounts : List Account) (a : Account) → AreNumbers numbers.now accounts → account_at account accounts ≡ Some a
         → owner.now.identifier ≡ a.identifier → IfOk result (IsOfSlot a (option_copied row.entry)) }
 {
     let Some(row) = row else {
         return Ok(None);
     };
-    let Some(number) = set_number(server, account, row.pw_nonce.as_str()) else {
+    let Some(number) = numbers.set(account, row.pw_nonce.as_str()) else {
         return Ok(None);
     };
     let set = key_set(alloc, owner, row)?;

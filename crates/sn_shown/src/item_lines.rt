@@ -12,11 +12,11 @@ ghost use Rattle.sn_row_map.specs.RowMaps.{row_in};
 ghost use Rattle.sn_shows.specs.Servers.{ShowsStrings, account_at};
 ghost use Rattle.sn_shows.specs.Sets.{set_at};
 ghost use Rattle.sn_string.specs.declared.params.KeySet.{KeySet};
-ghost use Rattle.sn_shown.specs.Held.{AreSets, IsServed};
+ghost use Rattle.sn_shown.specs.Held.{AreNumbers, AreSets, IsServed};
 ghost use Rattle.sn_shown.specs.Lines.{lines_so_far};
 ghost use Rattle.sn_shown.specs.Rows.{sealed_in};
 
-use crate::numbers::set_number;
+use crate::numbers::Numbers;
 use crate::opening::{carried_nonce, opened};
 use crate::rows::item_row;
 use sn_laws::Body;
@@ -32,19 +32,20 @@ use uuid::Uuid;
 pub(crate) fn add_item(
     alloc: Global,
     server: &RowMap,
+    numbers: &Numbers,
     sets: &BTreeMap<Key, KeySet>,
     labels: &Labels,
     lists: &mut Vec<Many<Text>>,
     uuid: &Uuid,
 ) -> Result<(), AllocError>
-    ensures { (s : Ideal) (front : List Bytes) → IsServed (row_in server.now) s → AreSets (get key_cmp sets.now) s.accounts
-        → lists.old.items ≡ map (lines_so_far labels.now front) s.accounts
+    ensures { (s : Ideal) (front : List Bytes) → IsServed (row_in server.now) s → AreNumbers numbers.now s.accounts
+        → AreSets (get key_cmp sets.now) s.accounts → lists.old.items ≡ map (lines_so_far labels.now front) s.accounts
         → OnOk result (lists.new.items ≡ map (lines_so_far labels.now (front ++ uuid.now ∷ [])) s.accounts) }
 {
     let Some(row) = item_row(server, uuid) else {
         return Ok(());
     };
-    let Some(body) = body_of(alloc, server, sets, row, uuid)? else {
+    let Some(body) = body_of(alloc, numbers, sets, row, uuid)? else {
         return Ok(());
     };
     let line = item_line(alloc, labels, uuid, row.updated(), &body)?;
@@ -66,19 +67,19 @@ fn add_line(lists: &mut Vec<Many<Text>>, number: u64, line: Text) -> Result<(), 
 // parameters they carry. Strings that don't open, or that carry a set that isn't held, hold nothing.
 fn body_of(
     alloc: Global,
-    server: &RowMap,
+    numbers: &Numbers,
     sets: &BTreeMap<Key, KeySet>,
     row: &ItemRow,
     uuid: &Uuid,
 ) -> Result<Option<Body>, AllocError>
-    ensures { (s : Ideal) (a : Account) (v : Version) → IsServed (row_in server.now) s → AreSets (get key_cmp sets.now) s.accounts
-        → account_at row.now.account s.accounts ≡ Some a → last_of uuid.now a.versions ≡ Some v → ShowsStrings a.sets uuid.now row.now v.body
+    ensures { (accounts : List Account) (a : Account) (v : Version) → AreNumbers numbers.now accounts → AreSets (get key_cmp sets.now) accounts
+        → account_at row.now.account accounts ≡ Some a → last_of uuid.now a.versions ≡ Some v → ShowsStrings a.sets uuid.now row.now v.body
         → IfOk result (λ found. found ≡ Some v.body) }
 {
     if row.is_deleted() {
         return Ok(Some(Body::Gone));
     }
-    let Some(number) = carried_number(alloc, server, row)? else {
+    let Some(number) = carried_number(alloc, numbers, row)? else {
         return Ok(None);
     };
     let Some(set) = sets.get(&Key::Generation(row.account(), number)) else {
@@ -91,13 +92,17 @@ fn body_of(
 }
 
 // The number of the set whose parameters the strings of an item carry.
-fn carried_number(alloc: Global, server: &RowMap, row: &ItemRow) -> Result<Option<u64>, AllocError>
-    ensures { (s : Ideal) (a : Account) (number : ℕ) (set : KeySet) (uuid text : Bytes) → IsServed (row_in server.now) s
-        → account_at row.now.account s.accounts ≡ Some a → set_at number a.sets ≡ Some set → OpensItem (sealed_in row.now) uuid set text
+fn carried_number(
+    alloc: Global,
+    numbers: &Numbers,
+    row: &ItemRow,
+) -> Result<Option<u64>, AllocError>
+    ensures { (accounts : List Account) (a : Account) (number : ℕ) (set : KeySet) (uuid text : Bytes) → AreNumbers numbers.now accounts
+        → account_at row.now.account accounts ≡ Some a → set_at number a.sets ≡ Some set → OpensItem (sealed_in row.now) uuid set text
         → IfOk result (λ found. found ≡ Some number) }
 {
     let Some(nonce) = carried_nonce(alloc, row.enc())? else {
         return Ok(None);
     };
-    Ok(set_number(server, row.account(), nonce.as_str()))
+    Ok(numbers.set(row.account(), nonce.as_str()))
 }

@@ -11,7 +11,7 @@ use crate::account_lines::add_accounts;
 use crate::device_lines::add_devices;
 use crate::ends::Devices;
 use crate::held::held_sets;
-use crate::numbers::account_numbers;
+use crate::numbers::Numbers;
 use sn_report::Labels;
 use sn_row_map::RowMap;
 use sn_string::{Many, Text};
@@ -30,10 +30,10 @@ pub fn show<D: Devices>(
     ensures { (s : Ideal) → IsShown (row_in server.now) (λ name. rows_in (D.rows_of devices.now name)) labels.now names.now s
         → IfOk result (λ lines. lines ≡ show_lines labels.now names.now s) }
 {
-    let numbers = account_numbers(alloc, server)?;
-    let sets = held_sets(alloc, server, &numbers, names, devices)?;
+    let numbers = Numbers::of_rows(alloc, server)?;
+    let sets = held_sets(alloc, &numbers, names, devices)?;
     let mut lines = Many::new(alloc);
-    add_accounts(alloc, &mut lines, labels, server, &sets)?;
-    add_devices(alloc, &mut lines, labels, names, server, &numbers, devices)?;
+    add_accounts(alloc, &mut lines, labels, server, &numbers, &sets)?;
+    add_devices(alloc, &mut lines, labels, names, &numbers, devices)?;
     Ok(lines)
 }
