@@ -13,10 +13,8 @@ use Rattle.sn_laws.specs.declared.ideal.Account.{Account}
 use Rattle.sn_laws.specs.declared.ideal.Ideal.{Ideal}
 use Rattle.sn_rows.specs.Table.{Rows}
 use Rattle.sn_rows.specs.declared.key.Key.TheVariants as key
-use Rattle.sn_rows.specs.declared.server_rows.AccountRow.{AccountRow}
 use Rattle.sn_rows.specs.declared.server_rows.GenerationRow.{GenerationRow}
 use Rattle.sn_rows.specs.declared.value.Value.{Value}
-use Rattle.sn_shows.specs.Laws.{AreApart}
 use Rattle.sn_shows.specs.Servers.{ShowsGeneration, ShowsIdentity, ShowsStore, account_at}
 use Rattle.sn_shows.specs.Sets.{set_at}
 use Rattle.sn_shows.proofs.Facts.{one_at}

@@ -1,4 +1,4 @@
-use Rattle.std.proofs.Common.{ℕ, ◌+◌, List, ◌≤◌, ◌∙◌, sym, refl, subst}
+use Rattle.std.proofs.Common.{ℕ, ◌+◌, ◌≤◌, ◌∙◌, sym, refl, subst}
 use Rattle.sn_row_map.specs.RowMaps.{row_in}
 use Rattle.sn_rows.specs.declared.key.Key.TheVariants as key
 use Rattle.sn_shown.proofs.NumberLemmas.{AreMaps, all_maps, counted, no_maps, one_map}
