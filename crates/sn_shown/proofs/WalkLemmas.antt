@@ -41,10 +41,6 @@ first_or_later x y ys has =
 abbrev pub PassedOrAhead : (Key → Value → Type 0) → RowMap → RowKind → Option Rowed → Type 0
 PassedOrAhead P map kind found = (k : Key) (v : Value) → Contains (rows_of map kind) (k, v) → P k v ⊎ Contains (ahead map found) (k, v)
 
--- what is ahead is of the rows
-abbrev pub AreAhead : RowMap → RowKind → Option Rowed → Type 0
-AreAhead map kind found = (k : Key) (v : Value) → Contains (ahead map found) (k, v) → Contains (rows_of map kind) (k, v)
-
 pub walk_begins : (P : Key → Value → Type 0) (map : RowMap) (kind : RowKind) (found : Option Rowed) → GoesOn map (rows_of map kind) found
     → PassedOrAhead P map kind found
 walk_begins P map kind found goes k v has =
