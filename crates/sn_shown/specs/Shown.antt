@@ -43,7 +43,7 @@ AreDistinct [] = Unit {0}
 AreDistinct (l ∷ ls) = (is_labelled ls l ≡ false) × AreDistinct ls
 
 -- the rows of the server and of each device show the state, and these devices hold what its last versions are sealed under
-pub record IsShown (server : Rows) (devices : Bytes → Rows) (labels : Labels) (names : List Bytes) (s : Ideal) : Type 0 where
+pub record EndsShow (server : Rows) (devices : Bytes → Rows) (labels : Labels) (names : List Bytes) (s : Ideal) : Type 0 where
   pub regular : IsRegular s
   pub accounts : ShowsServer server s.accounts
   pub each : (name : Bytes) → ShowsDevice (devices name) s name

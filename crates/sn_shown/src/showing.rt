@@ -5,7 +5,7 @@ ghost use Rattle.sn_laws.specs.declared.ideal.Ideal.{Ideal};
 ghost use Rattle.sn_report.specs.Showing.{show_lines};
 ghost use Rattle.sn_row_map.specs.RowMaps.{row_in};
 ghost use Rattle.sn_shown.specs.Rows.{rows_in};
-ghost use Rattle.sn_shown.specs.Shown.{IsShown};
+ghost use Rattle.sn_shown.specs.Shown.{EndsShow};
 
 use crate::account_lines::add_accounts;
 use crate::device_lines::add_devices;
@@ -27,7 +27,7 @@ pub fn show<D: Devices>(
     server: &RowMap,
     devices: &D,
 ) -> Result<Many<Text>, AllocError>
-    ensures { (s : Ideal) → IsShown (row_in server.now) (λ name. rows_in (D.rows_of devices.now name)) labels.now names.now s
+    ensures { (s : Ideal) → EndsShow (row_in server.now) (λ name. rows_in (D.rows_of devices.now name)) labels.now names.now s
         → IfOk result (λ lines. lines ≡ show_lines labels.now names.now s) }
 {
     let numbers = Numbers::of_rows(alloc, server)?;
