@@ -16,3 +16,6 @@ pub mod showing;
 
 pub use ends::Devices;
 pub use showing::show;
+
+#[cfg(test)]
+mod tests;
