@@ -89,14 +89,14 @@ def build_library(folder):
 
 
 def run_apart(name, library):
-    """Runs the checks of a name in a process of its own: whether it was begun, and what it printed."""
+    """What the checks of a name print, run in a process of their own."""
     environment = dict(os.environ)
     if library is not None and needs_library(name):
         environment["SN_LIBRARY"] = path = library.result() or ""
         if not path:
             return "%s: the shared library was not built\n%s\n" % (name, last_line(0, 1, 0))
-    done = subprocess.run([sys.executable, __file__, "--here", name], cwd=HERE, env=environment, stdout=subprocess.PIPE, stderr=subprocess.STDOUT, text=True)
-    return done.stdout
+    command = [sys.executable, __file__, "--here", name]
+    return subprocess.run(command, cwd=HERE, env=environment, stdout=subprocess.PIPE, stderr=subprocess.STDOUT, text=True).stdout
 
 
 def run_all(names):
