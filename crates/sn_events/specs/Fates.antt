@@ -26,7 +26,7 @@ IsHeardSo unheard fate = IsUnanswered fate
 IsHeardSo (unread at) fate = IsUnanswered fate
 IsHeardSo (said given) fate = IsServedSo true fate
 
--- a request that is lost is never served, and one whose answer is lost is
+-- a request that is lost is never served; one whose answer is lost is served, or memory was wanting at the server, which nobody hears
 abbrev pub IsFateBy : Lost → Reply → Fate → Type 0
 IsFateBy lose.Nothing reply fate = IsHeardSo reply fate
 IsFateBy lose.Request reply fate = fate ≡ undelivered
