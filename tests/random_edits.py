@@ -88,15 +88,18 @@ class Pair:
             never_sent = old.base is None and old.posted is None
             self.case.assertEqual((name, new), (uuid, None if never_sent else old._replace(now=DELETED)))
 
-    def were_versions(self, those):
-        """The numbers among these that the server ever had."""
-        ever = devices.versions_ever(self.store, "alice", PASSWORD).values() if those else ()
+    @staticmethod
+    def were_versions(those, file):
+        """The numbers among these that the server had had by the bytes of its store."""
+        ever = devices.versions_ever(file, "alice", PASSWORD).values() if those else ()
         return those & {number_of(content) for contents in ever for content in contents if content is not None}
 
     def together(self):
         """The next syncs bring both devices together: no draft is lost, no content is there twice. What waits on one device may be
-        a version already, whose answer was lost, and the other device may have edited that since: then the edit is there."""
+        a version by then, whose answer was lost, and the other device may have edited that since: then the edit is there."""
         waiting = [drafts(device.items()) for device in self.devices]
+        with open(self.store, "rb") as file:
+            before = file.read()
         those = self.devices[:]
         self.drawn.shuffle(those)
         devices.until_quiet(*those)
@@ -105,7 +108,7 @@ class Pair:
         counted = sorted(number_of(content) for content in found.values())
         self.case.assertEqual(counted, sorted(set(counted)))
         gone = set().union(*waiting) - set(counted)
-        self.case.assertEqual(self.were_versions(gone), gone)
+        self.case.assertEqual(self.were_versions(gone, before), gone)
         last = devices.versions(self.store, "alice", PASSWORD)
         self.case.assertEqual({uuid: version.content for uuid, version in last.items() if version.content is not None}, found)
         for device in self.devices:
