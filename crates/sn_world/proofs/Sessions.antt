@@ -23,7 +23,7 @@ use Rattle.sn_world.specs.Happens.{Happens, Trace, commits, makes, serves, start
 use Rattle.sn_world.specs.Holds.{Holds, TokensDiffer}
 use Rattle.sn_world.specs.Laws.{HoldsFirst, Keeps, KeptBy}
 use Rattle.sn_world.specs.Serving.{moves_for}
-use Rattle.sn_world.specs.Sessions.{IsAgain, IsCalled, IsStopped, LeadsLine, Line, LinesGo, LinesKeep, MayCome, again, calls, device_behind_all, line_steps, made_behind, opens, rows_ended, server_behind_all, stops, with_end}
+use Rattle.sn_world.specs.Sessions.{AgainLeads, IsAgain, IsCalled, IsStopped, LeadsLine, Line, LinesGo, LinesKeep, MayCome, again, calls, device_behind_all, line_steps, made_behind, opens, rows_ended, server_behind_all, stops, with_end}
 use Rattle.sn_world.specs.World.{Made, World, at_first}
 
 -- ---- the rows of other devices, and the requests that were made
@@ -146,6 +146,7 @@ called_leads laws secret w s name least call words acts fates halt stands differ
     let x = ends_so secret w s name (call_steps name goes.begins acts fates) (rows_served w.server fates) (rows_done (w.devices name) acts) halt stands goes.leads in
     record {
       begins = goes.begins;
+      of_line = goes.of_call;
       moves = x.moves;
       next = x.next;
       goes = x.goes;
@@ -191,6 +192,7 @@ stopped_leads laws secret w s name least call words front met differ h p =
     let left = rows_left secret name goes.begins front met w.server x.moves w x.next s p.over x.goes in
     record {
       begins = goes.begins;
+      of_line = goes.of_call;
       moves = x.moves;
       next = x.next;
       goes = x.goes;
@@ -208,6 +210,7 @@ with_server w server = record { server = server; devices = w.devices; made = w.m
 again_leads : (secret : Bytes) (w : World) (s : Ideal) (name : Bytes) (r : Request) (fate : Fate) → IsAgain w name r fate → LeadsLine secret w s (again name r fate)
 again_leads secret w s name r undelivered p = record {
   begins = p.begins;
+  of_line = p.made;
   moves = [];
   next = w;
   goes = (refl, refl);
@@ -220,6 +223,7 @@ again_leads secret w s name r (served now changes given arrives) p =
     let first : List Move = moves_for w.server name p.begins r changes in
     record {
       begins = p.begins;
+      of_line = p.made;
       moves = first ++ [];
       next = next;
       goes = (
@@ -237,6 +241,7 @@ again_leads secret w s name r (served now changes given arrives) p =
     }
 again_leads secret w s name r (crashed now changes given) p = record {
   begins = p.begins;
+  of_line = p.made;
   moves = [];
   next = w;
   goes = (w, [], [], refl, refl, (refl, refl), refl);
@@ -245,12 +250,25 @@ again_leads secret w s name r (crashed now changes given) p = record {
   made_is = refl;
 }
 
+again_begins : (secret : Bytes) (w : World) (s : Ideal) (name : Bytes) (r : Request) (fate : Fate) (p : IsAgain w name r fate)
+    → (again_leads secret w s name r fate p).begins ≡ p.begins
+unfolding again_leads
+again_begins secret w s name r undelivered p = refl
+again_begins secret w s name r (served now changes given arrives) p = refl
+again_begins secret w s name r (crashed now changes given) p = refl
+
+pub leads_again : AgainLeads
+leads_again secret w s m fate made over =
+    let p : IsAgain w m.device m.request fate = record { begins = m.begins; made = made; over = over } in
+    (again_leads secret w s m.device m.request fate p, again_begins secret w s m.device m.request fate p)
+
 line_leads : CallLaws → (secret : Bytes) (w : World) (s : Ideal) (line : Line) → TokensDiffer secret → Holds secret w s → MayCome secret w s line
     → LeadsLine secret w s line
 line_leads laws secret w s (opens changes true) differ h (none, is) =
     let next : World = with_server w (rows_after w.server changes) in
     record {
       begins = None;
+      of_line = tt;
       moves = [];
       next = next;
       goes = (next, [], [], record { none = none; is = is; on = record { server = refl; devices = refl; made = refl } }, refl, (refl, refl), refl);
@@ -260,6 +278,7 @@ line_leads laws secret w s (opens changes true) differ h (none, is) =
     }
 line_leads laws secret w s (opens changes false) differ h p = record {
   begins = None;
+  of_line = tt;
   moves = [];
   next = w;
   goes = (w, [], [], refl, refl, (refl, refl), refl);

@@ -15,7 +15,7 @@ use Rattle.sn_rows.specs.declared.change.Change.{Change}
 use Rattle.sn_rows.specs.declared.server_rows.StoreRow.{StoreRow}
 use Rattle.sn_string.specs.declared.params.KeySet.{KeySet}
 use Rattle.sn_sync.specs.declared.request.Request.{Request}
-use Rattle.sn_world.specs.Calls.{AreServed, Fate, IsOnlyOf, IsServed, call_steps, fate_steps, rows_behind, rows_served}
+use Rattle.sn_world.specs.Calls.{AreServed, BeginsBy, Fate, IsOnlyOf, IsServed, call_steps, fate_steps, rows_behind, rows_served}
 use Rattle.sn_world.specs.First.{IsFirst}
 use Rattle.sn_world.specs.Happens.{Happens, Trace, commits, makes, serves, starts}
 use Rattle.sn_world.specs.Holds.{Holds, TokensDiffer}
@@ -118,9 +118,17 @@ made_behind made (makes m ∷ steps) = made_behind (m ∷ made) steps
 made_behind made (serves m now changes given stands ∷ steps) = made_behind made steps
 made_behind made (commits name what changes stands ∷ steps) = made_behind made steps
 
+-- the set that a registration of the line would begin: that of the call's password; of a request that comes again, the one of that request
+abbrev pub BeginsLine : World → Line → Option KeySet → Type 0
+BeginsLine w (opens changes stands) begins = Unit {0}
+BeginsLine w (calls name least call words acts fates halt stands) begins = BeginsBy call begins
+BeginsLine w (stops name least call words front met) begins = BeginsBy call begins
+BeginsLine w (again name r fate) begins = IsMade w (record { device = name; request = r; begins = begins })
+
 -- its steps can be made one after another, and leave these
 pub record LeadsLine (secret : Bytes) (w : World) (s : Ideal) (line : Line) : Type 0 where
   pub begins : Option KeySet
+  pub of_line : BeginsLine w line begins
   pub moves : List Move
   pub next : World
   pub goes : Trace secret w s (line_steps begins line) moves next
@@ -160,6 +168,11 @@ pub record LinesLead (secret : Bytes) (w : World) (s : Ideal) (lines : List Line
   pub devices_are : (name : Bytes) → next.devices name ≡ device_behind_all name (w.devices name) lines
 
 -- ---- the laws
+
+-- a request that was made leads on with the set that it would begin
+abbrev pub AgainLeads : Type 0
+AgainLeads = (secret : Bytes) (w : World) (s : Ideal) (m : Made) (fate : Fate) → IsMade w m → IsServed w.server m.request unheard fate
+    → (x : LeadsLine secret w s (again m.device m.request fate)) × (x.begins ≡ m.begins)
 
 -- from a world in which the invariant holds
 abbrev pub LinesGo : Type 0

@@ -5,7 +5,7 @@ ghost use Rattle.sn_world.specs.Calls.{CallsGo, FrontsGo, LeadsKeep, RegistersGo
 ghost use Rattle.sn_world.specs.Laws.{AppliedWhole, HoldsFirst, Keeps, KeepsCommitting, KeepsMaking, KeepsServing, KeepsStarting, RegisteredBegins, SaysSome, SendsArePosted, ServedTells, SignedInBegins, SignedInRenews, SyncedRows, TraceKeeps};
 ghost use Rattle.sn_world.specs.Making.{MakesLive};
 ghost use Rattle.sn_world.specs.Rounds.{RoundsGo};
-ghost use Rattle.sn_world.specs.Sessions.{LinesGo, LinesKeep};
+ghost use Rattle.sn_world.specs.Sessions.{AgainLeads, LinesGo, LinesKeep};
 ghost use Rattle.sn_world.specs.Synced.{SyncsEnd};
 
 use crate::settling_laws::applies_live;
@@ -248,6 +248,11 @@ pub fn sign_ins_go()
 /// And the first acts of a call alone, behind which its device may be stopped.
 pub fn fronts_go()
     ensures { FrontsGo }
+{}
+
+/// A request that was made leads on wherever it is delivered late or again, with the set that it would begin.
+pub fn again_leads()
+    ensures { AgainLeads }
 {}
 
 /// Whatever devices call one after another, whole or stopped, and whatever requests are delivered late or

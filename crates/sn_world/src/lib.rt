@@ -13,9 +13,9 @@ pub use fitting_laws::{
     traces_fit,
 };
 pub use laws::{
-    applied_whole, calls_go, fronts_go, holds_first, keeps, keeps_committing, keeps_making,
-    keeps_serving, keeps_starting, leads_keep, lines_go, lines_keep, makes_live, registered_begins,
-    registers_go, rounds_go, says_some, sends_are_posted, served_tells, sign_ins_go,
-    signed_in_begins, signed_in_renews, synced_rows, syncs_end, syncs_go, trace_keeps,
+    again_leads, applied_whole, calls_go, fronts_go, holds_first, keeps, keeps_committing,
+    keeps_making, keeps_serving, keeps_starting, leads_keep, lines_go, lines_keep, makes_live,
+    registered_begins, registers_go, rounds_go, says_some, sends_are_posted, served_tells,
+    sign_ins_go, signed_in_begins, signed_in_renews, synced_rows, syncs_end, syncs_go, trace_keeps,
 };
 pub use settling_laws::{applies_live, keeps_settling, settles_gone, settles_own};
