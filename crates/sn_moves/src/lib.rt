@@ -12,7 +12,7 @@ pub use committing::moves_of;
 pub use done::Done;
 pub use foreign::foreign_in;
 pub use laws::{says_computed, says_one};
-pub use serving::moves_for;
+pub use serving::{accepts_in, moves_for, registers_in};
 
 #[cfg(test)]
 mod tests;

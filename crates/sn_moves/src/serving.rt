@@ -38,8 +38,8 @@ pub fn moves_for(
     }
 }
 
-// An account that was begun.
-fn registers_in(
+/// The move of a batch that answers a registration: an account of this identifier was begun, with this set.
+pub fn registers_in(
     alloc: Global,
     identifier: &Text,
     begins: Option<&KeySet>,
@@ -61,8 +61,8 @@ fn registers_in(
     Ok(moves)
 }
 
-// The items that were accepted.
-fn accepts_in(
+/// The moves of a batch that answers a sync of the device of this name: the items that were accepted.
+pub fn accepts_in(
     alloc: Global,
     rows: &RowMap,
     name: &Text,

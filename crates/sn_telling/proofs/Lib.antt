@@ -1,0 +1,10 @@
+pub mod Acts
+pub mod Called
+pub mod ForeignLemmas
+pub mod PlainTold
+pub mod ResolvedTold
+pub mod Resolving
+pub mod SyncActs
+pub mod SyncTold
+pub mod TraceLemmas
+pub mod WalkLemmas
