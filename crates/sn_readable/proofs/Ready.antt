@@ -1,0 +1,99 @@
+-- A device's rows of which what it sends is readable: what commits of a sync leave of them.
+use Rattle.std.proofs.Common.{◌≡◌, ℕ, List, [], ◌∷◌, ◌≤◌, length, Option, refl, sym, ap, ◌∙◌, subst, inl, inr}
+use Rattle.rand_chacha.specs.ChaCha.{ChaCha}
+use Rattle.sn_client.proofs.Frames.{RetiresOlder, beside, one_owner}
+use Rattle.sn_client.proofs.Leading.{after_append}
+use Rattle.sn_client.proofs.StepStands.{posts_items, retires_older}
+use Rattle.sn_client.specs.Laws.{StepsStaySound}
+use Rattle.sn_client.specs.Sending.{PostsAll}
+use Rattle.sn_client.specs.States.{Bytes, HasOwner, IsSound, OwnerColumns, text_of_token, token_of}
+use Rattle.sn_client.specs.Steps.{AppliesAnswer, AppliesTo, Step, applies, posts}
+use Rattle.sn_rows.specs.Facts.{put_here, removed_elsewhere}
+use Rattle.sn_rows.specs.Table.{Puts, Rows, rows_after}
+use Rattle.sn_rows.specs.declared.change.Change.{Change}
+use Rattle.sn_rows.specs.declared.device_rows.OwnerRow.{OwnerRow}
+use Rattle.sn_rows.specs.declared.key.Key.TheVariants as key
+use Rattle.sn_rows.specs.declared.key.Slot.TheVariants.{Older}
+use Rattle.sn_rows.specs.declared.value.Value.TheVariants as value
+use Rattle.sn_sync.specs.declared.answer.Answer.{Answer}
+use Rattle.sn_sync.specs.declared.answer.Answer.TheVariants as answer
+use Rattle.sn_sync.specs.declared.item.Item.{Item}
+use Rattle.sn_sync.specs.declared.request.Request.{Request}
+use Rattle.sn_sync.specs.declared.request.Request.TheVariants as request
+use Rattle.sn_world.specs.Fitting.{FitsUuids, StepsFitUuids}
+use Rattle.sn_readable.proofs.Tokens.{HasShortTokens, IsShortAnswer, IsShortToken, TokensAreShort, cursor_short, token_short}
+
+-- sound rows, of which each item's uuid has 16 bytes, and the tokens of a sync are short
+pub record IsReady (rows : Rows) : Type 0 where
+  pub sound : IsSound rows
+  pub uuids : FitsUuids rows
+  pub tokens : TokensAreShort rows
+
+-- ---- the device's own row
+
+posted_tokens : (rows : Rows) (numbers : List ℕ) (changes : List Change) → PostsAll rows numbers changes → TokensAreShort rows
+    → TokensAreShort (rows_after rows changes)
+posted_tokens rows numbers changes all short owner has =
+    short owner (sym (beside rows changes key.Owner (posts_items rows numbers changes all) (λ e. cc)) ∙ has)
+
+-- it is put last, but for a set that goes
+counted_here : (mid : Rows) (c : Change) (retired : List Change) (owner : OwnerRow) → Puts c key.Owner (value.Owner owner) → RetiresOlder retired
+    → HasOwner (rows_after mid (c ∷ retired)) owner
+counted_here mid c retired owner puts (inl none) =
+    subst (λ (x : List Change). HasOwner (rows_after mid (c ∷ x)) owner) (sym none) (put_here mid c key.Owner (value.Owner owner) puts)
+counted_here mid c retired owner puts (inr (d, removes, is)) =
+    subst (λ (x : List Change). HasOwner (rows_after mid (c ∷ x)) owner) (sym is)
+    (removed_elsewhere (rows_after mid (c ∷ [])) d (key.Set Older) key.Owner removes (λ e. cc) ∙ put_here mid c key.Owner (value.Owner owner) puts)
+
+columns_short : (owner : OwnerRow) (token : Bytes) (cursor : Option Bytes) → owner.sync_token ≡ token → owner.cursor_token ≡ text_of_token cursor
+    → IsShortToken cursor → length token ≤ 1024 → HasShortTokens owner
+columns_short owner token cursor sync page one two = (
+  subst (λ (t : Bytes). IsShortToken (token_of t)) (sym sync) (token_short token two),
+  subst (λ (t : Bytes). IsShortToken (token_of t)) (sym page) (cursor_short cursor one),
+)
+
+answer_tokens : (rows : Rows) (words left : ChaCha) (sent : List Item) (given : Answer) (changes : List Change) → IsShortAnswer given
+    → AppliesAnswer rows words sent given changes left → TokensAreShort (rows_after rows changes)
+answer_tokens rows words left sent (answer.Sync conflicts cursor retrieved saved token) changes short s = λ owner has.
+    (let put = s.counted_is in
+    let here : HasOwner (rows_after (rows_after rows s.end.changes) (s.counted ∷ s.retired)) put.owner =
+    counted_here (rows_after rows s.end.changes) s.counted s.retired put.owner put.puts_it
+    (retires_older s.end.rows cursor s.sets.older s.retired s.retires) in
+    let all : rows_after rows changes ≡ rows_after (rows_after rows s.end.changes) (s.counted ∷ s.retired) =
+    ap (rows_after rows) s.changes_are ∙ after_append rows s.end.changes (s.counted ∷ s.retired) in
+    let there : HasOwner (rows_after rows changes) put.owner = ap (λ (r : Rows). r key.Owner) all ∙ here in
+    let same : put.owner ≡ owner = one_owner (rows_after rows changes) put.owner owner there has in
+    subst HasShortTokens same
+    (columns_short put.owner token cursor (ap (λ (c : OwnerColumns). c.sync_token) put.columns_are)
+    (ap (λ (c : OwnerColumns). c.cursor_token) put.columns_are) short.0 short.1))
+answer_tokens rows words left sent (answer.Account token identifier uuid) changes short s = absurd s
+answer_tokens rows words left sent (answer.Params params) changes short s = absurd s
+answer_tokens rows words left sent (answer.Refused status tag more) changes short s = absurd s
+
+applied_tokens : (rows : Rows) (words left : ChaCha) (r : Request) (given : Answer) (changes : List Change) → IsShortAnswer given
+    → AppliesTo rows words r given changes left → TokensAreShort (rows_after rows changes)
+applied_tokens rows words left (request.Sync token items limit sync_token cursor_token) given changes short s =
+    answer_tokens rows words left items given changes short s
+applied_tokens rows words left (request.Register params pw) given changes short s = absurd s
+applied_tokens rows words left (request.Params identifier) given changes short s = absurd s
+applied_tokens rows words left (request.SignIn identifier pw) given changes short s = absurd s
+applied_tokens rows words left (request.ChangePw token current pw cost nonce) given changes short s = absurd s
+
+-- ---- both commits of an exchange
+
+module _ (steps : StepsFitUuids) (stay : StepsStaySound) where
+  pub posted_ready : (rows : Rows) (words : ChaCha) (numbers : List ℕ) (changes : List Change) → IsReady rows → PostsAll rows numbers changes
+      → IsReady (rows_after rows changes)
+  posted_ready rows words numbers changes ready all = record {
+    sound = stay rows words words (posts numbers) changes ready.sound (all, refl);
+    uuids = steps rows words words (posts numbers) changes ready.sound ready.uuids (all, refl);
+    tokens = posted_tokens rows numbers changes all ready.tokens;
+  }
+
+  pub applied_ready : (rows : Rows) (words left : ChaCha) (r : Request) (given : Answer) (changes : List Change) → IsReady rows → IsShortAnswer given
+      → Step rows words (applies r given) changes left → IsReady (rows_after rows changes)
+  applied_ready rows words left r given changes ready short step = record {
+    sound = stay rows words left (applies r given) changes ready.sound step;
+    uuids = steps rows words left (applies r given) changes ready.sound ready.uuids step;
+    tokens = applied_tokens rows words left r given changes short step;
+  }

@@ -1,0 +1,5 @@
+use Rattle.sn_readable.proofs.Made as proof
+use Rattle.sn_readable.proofs.laws.made_stay_readable.Goals as goal
+
+pub returns : goal.returns
+returns c = proof.made_stay_readable
