@@ -1,8 +1,9 @@
 -- Batches and the rows that they leave, on both ends.
-use Rattle.std.proofs.Common.{◌≡◌, ℕ, List, [], ◌∷◌, ◌++◌, Option, None, Some, refl, sym, ap, ◌∙◌, subst, inl, inr, append-nil}
+use Rattle.std.proofs.Common.{◌≡◌, ℕ, List, [], ◌∷◌, ◌++◌, Option, None, Some, refl, sym, ap, ◌∙◌, subst, inl, inr, append-nil, append_assoc}
 use Rattle.std.proofs.Math.Path.{fun_ext}
 use Rattle.sn_client.specs.Calls.{kept_done}
 use Rattle.sn_client.specs.Runs.{Act, asked, commits, rows_done}
+use Rattle.sn_events.specs.Laws.{commits_of}
 use Rattle.sn_io.specs.Causes.{next_count}
 use Rattle.sn_laws.specs.Lookups.{Bytes}
 use Rattle.sn_link.specs.Deliveries.{Delivers, Standing, failed, serves}
@@ -35,6 +36,12 @@ with_rows batches rows = record { rows = rows; batches = batches }
 
 more_of : (batches : List (List Change)) (changes : List Change) → with_batch (kept_of batches) changes ≡ kept_of (batches ++ changes ∷ [])
 more_of batches changes = ap (with_rows (batches ++ changes ∷ [])) (sym (rows_more batches changes))
+
+-- those of before, and those of the acts' commits behind them
+pub done_are : (batches : List (List Change)) (acts : List Act) → batches_done batches acts ≡ batches ++ commits_of acts
+done_are batches [] = sym (append-nil batches)
+done_are batches (commits what changes ∷ acts) = done_are (batches ++ changes ∷ []) acts ∙ append_assoc batches (changes ∷ []) (commits_of acts)
+done_are batches (asked r reply ∷ acts) = done_are batches acts
 
 pub kept_are : (batches : List (List Change)) (acts : List Act) → kept_done (kept_of batches) acts ≡ kept_of (batches_done batches acts)
 kept_are batches [] = refl
@@ -74,7 +81,7 @@ whole_delivered now kept bytes None next (steps, rest, served, same) whole = who
 same_serves : (kept next : ServerKept) → serves next ≡ serves kept → next ≡ kept
 same_serves kept next is = cc
 
-whole_befalls : (what : Lost) (now : ℕ) (kept : ServerKept) (x : Exchange) (next : ServerKept) → Befalls what now (serves kept) x (serves next) → IsWhole kept → IsWhole next
+pub whole_befalls : (what : Lost) (now : ℕ) (kept : ServerKept) (x : Exchange) (next : ServerKept) → Befalls what now (serves kept) x (serves next) → IsWhole kept → IsWhole next
 whole_befalls lose.Nothing now kept x next (given, delivers, arrives) whole = whole_delivered now kept x.request given next delivers whole
 whole_befalls lose.Request now kept x next (same, none) whole = whole_same kept next (same_serves kept next same) whole
 whole_befalls lose.Reply now kept x next (given, delivers, none) whole = whole_delivered now kept x.request given next delivers whole

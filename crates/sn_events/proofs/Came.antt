@@ -1,59 +1,64 @@
 -- An event, by how its call ended and by its line.
-use Rattle.std.proofs.Common.{◌≡◌, ◌≢◌, ℕ, List, [], Bool, true, false, Result, Ok, Err, Some, refl, sym, ap, ◌∙◌, subst}
+use Rattle.std.proofs.Common.{◌≡◌, ◌≢◌, ◌++◌, ℕ, List, Bool, true, false, Result, Ok, Err, Some, refl, sym, ap, ◌∙◌, subst}
 use Rattle.std.specs.Prelude.{IfOk, if◌then◌else◌}
 use Rattle.std.specs.Str.{bytes_eq}
 use Rattle.std.specs.declared.option.Option.{Option}
 use Rattle.rand_chacha.specs.ChaCha.{ChaCha}
-use Rattle.sn_client.specs.Calls.{Calls, CallsOver, Ends as CallEnds, called_disk, kept_done}
-use Rattle.sn_client.specs.Runs.{Act, AreExchanges, Call, Given, Halt, Run, answered, broken, refused, rows_done}
+use Rattle.sn_client.specs.Calls.{Calls, CallsOver, Ends as CallEnds, IsOpen, called_disk, kept_done}
+use Rattle.sn_client.specs.Runs.{Act, AreExchanges, Call, Given, Halt, Run, answered, refused, rows_done}
 use Rattle.sn_client.specs.declared.called.Called.{Called}
 use Rattle.sn_client.specs.declared.called.Called.TheVariants as how
+use Rattle.sn_client.specs.declared.device.Device.{Device as AnyDevice}
 use Rattle.sn_client.specs.declared.error.ClientError.{ClientError}
+use Rattle.sn_disk.specs.declared.disk.Disk.{Ghosts}
 use Rattle.sn_disk.specs.MemDisk.{Grows}
 use Rattle.sn_disk.specs.declared.memory.MemDisk.{MemDisk}
-use Rattle.sn_events.proofs.Batches.{batches_done, kept_are, rows_are_done}
-use Rattle.sn_events.proofs.Growing.{from_on}
+use Rattle.sn_events.proofs.Batches.{batches_done, done_are, kept_are, rows_are_done}
+use Rattle.sn_events.proofs.Growing.{ends_grow, from_on}
+use Rattle.sn_events.proofs.Lines.{plain_rows}
 use Rattle.sn_events.specs.Answers.{IsAnswered, IsHalt, IsPlain}
-use Rattle.sn_events.specs.Calling.{IsPutBack, IsReady, IsSet, host}
-use Rattle.sn_events.specs.Devices.{HasRows, device_of}
+use Rattle.sn_events.specs.Calling.{IsPutBack, IsReady, host}
+use Rattle.sn_events.specs.Devices.{DeviceHas, HasRows, device_of}
 use Rattle.sn_events.specs.Events.{AsksReadable, CallCame}
-use Rattle.sn_events.specs.Growing.{ComesFrom, held_disk}
-use Rattle.sn_events.specs.Laws.{CallsCome, LineCame, QuietCome}
+use Rattle.sn_events.specs.Growing.{ComesFrom, EndsGoOn, held_disk}
+use Rattle.sn_events.specs.Laws.{CallsCome, LineCame, QuietCome, commits_of}
 use Rattle.sn_events.specs.Servers.{ServesRows}
 use Rattle.sn_events.specs.Standing.{Stands}
 use Rattle.sn_events.specs.declared.calling.Calling.{Calling}
 use Rattle.sn_events.specs.declared.ends.Ends.{Ends}
+use Rattle.sn_events.specs.declared.outcome.Outcome.{Outcome}
 use Rattle.sn_events.specs.declared.setting.Setting.{Setting}
 use Rattle.sn_events.specs.declared.steady.Holding.{Holding}
+use Rattle.sn_journal.specs.declared.owner.Owner.TheVariants.{Device as DeviceOwner}
 use Rattle.sn_laws.proofs.Facts.{clash, same_text, text_same}
 use Rattle.sn_laws.specs.Lookups.{Bytes}
 use Rattle.sn_laws.specs.declared.ideal.Ideal.{Ideal}
 use Rattle.sn_link.specs.Deliveries.{serves}
-use Rattle.sn_link.specs.Holdings.{GoesOn, HoldsIn}
-use Rattle.sn_link.specs.Links.{Asks, asking, link_held}
+use Rattle.sn_link.specs.Holdings.{GoesOn, goes_further}
+use Rattle.sn_link.specs.Links.{link_held}
 use Rattle.sn_link.specs.declared.delivery.Held.{Held}
-use Rattle.sn_link.specs.declared.link.ServingLink.{ServingLink}
-use Rattle.sn_link.specs.declared.losses.Losses.{Losses}
+use Rattle.sn_recorder.specs.Recorded.{Records, recorded_link, recorded_place}
+use Rattle.sn_recorder.specs.Told.{AreTold}
+use Rattle.sn_recorder.specs.declared.exchanged.Exchanged.{Exchanged}
+use Rattle.sn_recorder.specs.declared.recording.RecordingLink.{RecordingLink}
 use Rattle.sn_rows.specs.Table.{Rows, rows_of_batches}
 use Rattle.sn_rows.specs.declared.change.Change.{Change}
 use Rattle.sn_server.specs.Loads.{kept_of as kept_all}
 use Rattle.sn_table.specs.Kept.{Kept, kept_of}
+use Rattle.sn_tail.specs.Places.{place_behind}
 use Rattle.sn_world.specs.Calls.{AsksNothing}
 use Rattle.sn_world.specs.Holds.{TokensDiffer}
 use Rattle.sn_world.specs.Sessions.{MayAsk, rows_ended}
 use Rattle.sn_world.specs.World.{World}
 
-plain_rows : (halt : Halt) (rows : Rows) → IsPlain halt → rows_ended halt true rows ≡ rows
-plain_rows (answered given left) rows plain = refl
-plain_rows (refused why) rows plain = refl
-plain_rows (broken what changes) rows plain = absurd plain
-
-module _ {S T : Type 0} (hold : S → Holding) (is_open : S → Kept → Type 0) (may_have : MemDisk → Kept → List Change → Type 0) (gives : T → Given)
-    (to_rows : (device : S) (batches : List (List Change)) (rows : Rows) → is_open device (kept_of batches) → rows_of_batches batches ≡ rows → HasRows (Some (hold device)) rows)
-    (secret : Bytes) (w : World) (s : Ideal) (name : Bytes) (call : Call) (words left : ChaCha) (setting : Setting) (old new : Ends) (answer : Result T ClientError)
-    (calling : Calling) (link : ServingLink) (called : Called S MemDisk T) (batches : List (List Change)) (rows_are : rows_of_batches batches ≡ w.devices name)
-    (disk_of : S → MemDisk) (before : S) (came_from : ComesFrom (device_of old.devices name) (hold before)) (grew : Grows (disk_of before) (called_disk disk_of called))
-    (held_is : (x : S) → held_disk (hold x) ≡ disk_of x) (stands : Stands old secret w s) (ready : IsReady old setting name calling) (back : IsPutBack hold link calling.devices name called new answer) where
+module _ {S T : Type 0} (hold : S → ℕ → Holding) (is_open : S → Kept → Type 0) (may_have : MemDisk → Kept → List Change → Type 0) (gives : T → Given)
+    (to_rows : (device : S) (place : ℕ) (batches : List (List Change)) (rows : Rows) → is_open device (kept_of batches) → rows_of_batches batches ≡ rows → place ≡ place_behind DeviceOwner batches
+    → HasRows (Some (hold device place)) rows)
+    (secret : Bytes) (w : World) (s : Ideal) (name : Bytes) (call : Call) (words left : ChaCha) (setting : Setting) (old : Ends) (outcome : Outcome T)
+    (calling : Calling) (link : RecordingLink) (called : Called S MemDisk T) (batches : List (List Change)) (rows_are : rows_of_batches batches ≡ w.devices name)
+    (place_is : calling.place ≡ place_behind DeviceOwner batches) (disk_of : S → MemDisk) (before : S) (came_from : ComesFrom (device_of old.devices name) (hold before calling.place))
+    (grew : Grows (disk_of before) (called_disk disk_of called)) (held_is : (x : S) (place : ℕ) → held_disk (hold x place) ≡ disk_of x) (stands : Stands old secret w s)
+    (ready : IsReady old setting name calling) (back : IsPutBack hold is_open link calling.devices calling.place name called outcome) where
   -- how it ended
   record Ended (acts : List Act) (halt : Halt) (device : S) (gave : Result T ClientError) : Type 0 where
     plain : IsPlain halt
@@ -85,101 +90,115 @@ module _ {S T : Type 0} (hold : S → Holding) (is_open : S → Kept → Type 0)
   disk_same (how.Broken disk) device (Ok value) none = absurd none
   disk_same (how.Broken disk) device (Err error) none = absurd none
 
-  grown : Grows (held_disk (hold before)) (held_disk (hold back.device))
+  grown : Grows (held_disk (hold before calling.place)) (held_disk (hold back.device back.gate))
   grown =
-      subst (λ (d : MemDisk). Grows d (held_disk (hold back.device))) (sym (held_is before))
-      (subst (Grows (disk_of before)) (disk_same called back.device answer back.gives ∙ sym (held_is back.device)) grew)
+      subst (λ (d : MemDisk). Grows d (held_disk (hold back.device back.gate))) (sym (held_is before calling.place))
+      (subst (Grows (disk_of before)) (disk_same called back.device outcome.answer back.gives ∙ sym (held_is back.device back.gate)) grew)
 
-  came : (acts : List Act) (halt : Halt) → Ended acts halt back.device answer → GoesOn (link_held old.link) (link_held link) → LineCame secret w s name call words acts halt setting.losses link
-      → CallCame secret w s name call words left setting gives old new answer
-  came acts halt e goes x = record {
-    acts = acts;
-    fates = x.fates;
-    halt = halt;
-    comes = x.comes;
-    leads = x.leads;
-    legal = x.keeps.0;
-    stands = record {
-      server = subst (λ (o : Option Held). ServesRows o x.leads.next.server) (sym back.held) x.server;
-      devices = λ other. at other (bytes_eq other name) refl;
-      holds = x.keeps.1;
-    };
-    halt_is = e.halt_is;
-    by_losses = x.by_losses;
-    goes_on = record {
-      server = subst (GoesOn (link_held old.link)) (sym back.held) goes;
-      device = hold back.device;
-      own = back.own;
-      from = from_on (device_of old.devices name) (hold before) (hold back.device) came_from grown;
-      others = λ other apart. back.others other apart ∙ ready.others other apart;
-    };
+  goes_on : GoesOn (link_held old.link) (link_held (recorded_link link)) → EndsGoOn name old outcome.ends
+  goes_on goes = record {
+    server = subst (GoesOn (link_held old.link)) (sym back.server.held) goes;
+    device = hold back.device back.gate;
+    own = back.own;
+    from = from_on (device_of old.devices name) (hold before calling.place) (hold back.device back.gate) came_from grown;
+    others = λ other apart. back.others other apart ∙ ready.others other apart;
   }
-    where
-      line_rows : Bytes → Rows
-      line_rows other = if bytes_eq other name then rows_ended halt true (rows_done (w.devices other) acts) else w.devices other
 
-      own_rows : rows_of_batches (batches_done batches acts) ≡ x.leads.next.devices name
-      own_rows =
-          rows_are_done batches acts ∙ ap (λ (rows : Rows). rows_done rows acts) rows_are
-          ∙ sym (plain_rows halt (rows_done (w.devices name) acts) e.plain)
-          ∙ sym (ap (λ (b : Bool). if b then rows_ended halt true (rows_done (w.devices name) acts) else w.devices name) (text_same name name refl))
-          ∙ sym (x.leads.devices_are name)
+  module _ (acts : List Act) (halt : Halt) (e : Ended acts halt back.device outcome.answer) (x : LineCame secret w s name call words acts halt setting link) where
+    -- the batches of the device's store are those of the commits, behind those of before
+    gained : (outcome.batches ≡ commits_of acts) × (back.gate ≡ place_behind DeviceOwner (batches ++ commits_of acts))
+    gained = back.behind (kept_done (kept_of batches) acts) batches (commits_of acts) e.stood (ap (λ (k : Kept). k.batches) (kept_are batches acts) ∙ done_are batches acts) place_is
 
-      own : HasRows (device_of new.devices name) (x.leads.next.devices name)
-      own = subst (λ (o : Option Holding). HasRows o (x.leads.next.devices name)) (sym back.own)
-          (to_rows back.device (batches_done batches acts) (x.leads.next.devices name) (subst (is_open back.device) (kept_are batches acts) e.stood) own_rows)
+    line_rows : Bytes → Rows
+    line_rows other = if bytes_eq other name then rows_ended halt true (rows_done (w.devices other) acts) else w.devices other
 
-      at : (other : Bytes) (b : Bool) → bytes_eq other name ≡ b → HasRows (device_of new.devices other) (x.leads.next.devices other)
-      at other true same = subst (λ (n : Bytes). HasRows (device_of new.devices n) (x.leads.next.devices n)) (sym (same_text other name same)) own
-      at other false off =
-          let apart : other ≢ name = λ e. clash (bytes_eq other name) (text_same other name e) off in
-          let same : x.leads.next.devices other ≡ w.devices other = x.leads.devices_are other
-          ∙ ap (λ (b : Bool). if b then rows_ended halt true (rows_done (w.devices other) acts) else w.devices other) off in
-          subst (HasRows (device_of new.devices other)) (sym same)
-          (subst (λ (o : Option Holding). HasRows o (w.devices other)) (sym (back.others other apart ∙ ready.others other apart)) (stands.devices other))
+    own_rows : rows_of_batches (batches_done batches acts) ≡ x.leads.next.devices name
+    own_rows =
+        rows_are_done batches acts ∙ ap (λ (rows : Rows). rows_done rows acts) rows_are
+        ∙ sym (plain_rows halt (rows_done (w.devices name) acts) e.plain)
+        ∙ sym (ap (λ (b : Bool). if b then rows_ended halt true (rows_done (w.devices name) acts) else w.devices name) (text_same name name refl))
+        ∙ sym (x.leads.devices_are name)
+
+    own : HasRows (device_of outcome.ends.devices name) (x.leads.next.devices name)
+    own = subst (λ (o : Option Holding). HasRows o (x.leads.next.devices name)) (sym back.own)
+        (to_rows back.device back.gate (batches_done batches acts) (x.leads.next.devices name) (subst (is_open back.device) (kept_are batches acts) e.stood) own_rows
+        (gained.1 ∙ ap (λ (bs : List (List Change)). place_behind DeviceOwner bs) (sym (done_are batches acts))))
+
+    at : (other : Bytes) (b : Bool) → bytes_eq other name ≡ b → HasRows (device_of outcome.ends.devices other) (x.leads.next.devices other)
+    at other true same = subst (λ (n : Bytes). HasRows (device_of outcome.ends.devices n) (x.leads.next.devices n)) (sym (same_text other name same)) own
+    at other false off =
+        let apart : other ≢ name = λ is. clash (bytes_eq other name) (text_same other name is) off in
+        let same : x.leads.next.devices other ≡ w.devices other = x.leads.devices_are other
+        ∙ ap (λ (b : Bool). if b then rows_ended halt true (rows_done (w.devices other) acts) else w.devices other) off in
+        subst (HasRows (device_of outcome.ends.devices other)) (sym same)
+        (subst (λ (o : Option Holding). HasRows o (w.devices other)) (sym (back.others other apart ∙ ready.others other apart)) (stands.devices other))
+
+    server : ServesRows (link_held outcome.ends.link) outcome.ends.place x.leads.next.server
+    server = subst (λ (p : ℕ). ServesRows (link_held outcome.ends.link) p x.leads.next.server) (sym back.server.place_is)
+        (subst (λ (o : Option Held). ServesRows o (recorded_place link) x.leads.next.server) (sym back.server.held) x.server)
+
+    told : AreTold host acts x.fates outcome.batches outcome.exchanged
+    told = subst (λ (es : List Exchanged). AreTold host acts x.fates outcome.batches es) (sym back.exchanged_are)
+        (subst (λ (bs : List (List Change)). AreTold host acts x.fates bs link.exchanged) (sym gained.0) x.told)
+
+    came : GoesOn (link_held old.link) (link_held (recorded_link link)) → CallCame secret w s name call words left setting gives old outcome
+    came goes = record {
+      acts = acts;
+      fates = x.fates;
+      halt = halt;
+      comes = x.comes;
+      leads = x.leads;
+      legal = x.keeps.0;
+      stands = record { server = server; devices = λ other. at other (bytes_eq other name) refl; holds = x.keeps.1 };
+      halt_is = e.halt_is;
+      by_losses = x.by_losses;
+      at = x.at;
+      told = told;
+      readable = x.readable;
+      goes_on = goes_on goes;
+      grow = ends_grow name old outcome.ends (serves (kept_all stands.server.batches)) stands.server.holds (goes_on goes);
+    }
+
+  -- the server's disk while the link is aimed and set
+  set_goes : GoesOn (link_held old.link) (link_held (recorded_link calling.link))
+  set_goes = subst (GoesOn (link_held old.link)) (sym ready.recording.set.held) ready.recording.unasked.goes_on
+
+  runs_so : (acts : List Act) (halt : Halt) (least : ℕ) → least ≡ 1 → Run least call (rows_of_batches batches) words acts halt → Run 1 call (w.devices name) words acts halt
+  runs_so acts halt least one runs =
+      subst (λ (rows : Rows). Run 1 call rows words acts halt) rows_are (subst (λ (n : ℕ). Run n call (rows_of_batches batches) words acts halt) one runs)
 
   -- a call that asks nothing
   pub quiet_came : QuietCome → TokensDiffer secret → AsksNothing call → (least : ℕ) → least ≡ 1 → Calls is_open may_have gives least call (kept_of batches) words left called
-      → link ≡ calling.link → CallCame secret w s name call words left setting gives old new answer
+      → link ≡ calling.link → CallCame secret w s name call words left setting gives old outcome
   quiet_came law differ quiet least one calls same =
-      let e = ended calls.acts calls.halt back.device called answer calls.ends back.gives in
-      let runs : Run 1 call (w.devices name) words calls.acts calls.halt =
-      subst (λ (rows : Rows). Run 1 call rows words calls.acts calls.halt) rows_are (subst (λ (n : ℕ). Run n call (rows_of_batches batches) words calls.acts calls.halt) one calls.runs) in
+      let e = ended calls.acts calls.halt back.device called outcome.answer calls.ends back.gives in
       came calls.acts calls.halt e
-      (subst (λ (o : Option Held). GoesOn o (link_held link)) ready.set.held (subst (λ (l : ServingLink). GoesOn (link_held ready.linked) (link_held l)) (sym same) ready.unasked.goes_on))
-      (law secret w s name call words calls.acts calls.halt setting.losses link differ stands.holds quiet runs
-      (subst (λ (l : ServingLink). ServesRows (link_held l) w.server) (sym same) (ready_serves ready.linked ready.set ready.unasked)))
-    where
-      ready_serves : (from : ServingLink) → IsSet setting old.link from → Asks from calling.link [] → ServesRows (link_held calling.link) w.server
-      ready_serves from set asks =
-          let server = stands.server in
-          let (next, holds, asked) = asks.served (serves (kept_all server.batches)) (subst (λ (o : Option Held). HoldsIn o (serves (kept_all server.batches))) (sym set.held) server.holds) in
-          record {
-            batches = server.batches;
-            holds = subst (HoldsIn (link_held calling.link)) asked.1 holds;
-            rows_are = server.rows_are;
-            sound = server.sound;
-          }
+      (subst (λ (l : RecordingLink). LineCame secret w s name call words calls.acts calls.halt setting l) (sym same)
+      (law secret w s name call words calls.acts calls.halt setting old.link old.place calling.link differ stands.holds quiet
+      (runs_so calls.acts calls.halt least one calls.runs) e.plain stands.server ready.recording))
+      (subst (λ (l : RecordingLink). GoesOn (link_held old.link) (link_held (recorded_link l))) (sym same) set_goes)
 
   -- a call over the link
   pub over_came : CallsCome → TokensDiffer secret → MayAsk s call → AsksReadable call (w.devices name) → (least : ℕ) → least ≡ 1
-      → CallsOver is_open may_have gives least call (Asks calling.link link) calling.link.host (kept_of batches) words left called
-      → CallCame secret w s name call words left setting gives old new answer
+      → CallsOver is_open may_have gives least call (Records calling.link link) calling.link.link.host (kept_of batches) words left called
+      → CallCame secret w s name call words left setting gives old outcome
   over_came law differ may readable least one calls =
-      let e = ended calls.acts calls.halt back.device called answer calls.ends back.gives in
-      let runs : Run 1 call (w.devices name) words calls.acts calls.halt =
-      subst (λ (rows : Rows). Run 1 call rows words calls.acts calls.halt) rows_are (subst (λ (n : ℕ). Run n call (rows_of_batches batches) words calls.acts calls.halt) one calls.runs) in
-      let from = ready.linked in
-      let x = law secret w s name call words calls.acts calls.halt host calls.exchanges from link differ stands.holds may runs e.plain
-      (readable words calls.acts calls.halt runs)
-      (subst (λ (h : Bytes). AreExchanges h calls.acts calls.exchanges) ready.aimed calls.are)
-      (asking.more from calling.link link [] calls.exchanges ready.unasked calls.asked_so)
-      ready.set.number_is (subst (λ (o : Option Held). ServesRows o w.server) (sym ready.set.held) stands.server) back.open_held in
-      came calls.acts calls.halt e
-      (subst (λ (o : Option Held). GoesOn o (link_held link)) ready.set.held (asking.more from calling.link link [] calls.exchanges ready.unasked calls.asked_so).goes_on)
-      (subst (λ (l : Losses). LineCame secret w s name call words calls.acts calls.halt l link) ready.set.losses_are x)
+      let e = ended calls.acts calls.halt back.device called outcome.answer calls.ends back.gives in
+      let runs = runs_so calls.acts calls.halt least one calls.runs in
+      let records : Records calling.link link calls.exchanges = calls.asked_so in
+      let x = law secret w s name call words calls.acts calls.halt calls.exchanges setting old.link old.place calling.link link differ stands.holds may runs e.plain
+      (readable words calls.acts calls.halt runs w.server)
+      (subst (λ (h : Bytes). AreExchanges h calls.acts calls.exchanges) (ready.recording.set.aimed ∙ ready.recording.aimed_is) calls.are)
+      stands.server ready.recording records back.server.whole back.server.open_held in
+      came calls.acts calls.halt e x
+      (goes_further (link_held old.link) (link_held (recorded_link calling.link)) (link_held (recorded_link link)) set_goes records.asks.goes_on)
 
 -- what holds of each good result
 pub ok_on : {A E : Type 0} (P Q : A → Type 0) (r : Result A E) → ((a : A) → P a → Q a) → IfOk r P → IfOk r Q
 ok_on P Q (Ok a) more p = more a p
 ok_on P Q (Err e) more p = tt
+
+-- the device of a name, by what it has
+pub has_rows : {D : Type 0} {g : Ghosts D} (device : AnyDevice D g) (place : ℕ) (batches : List (List Change)) (rows : Rows) → IsOpen device (kept_of batches) → rows_of_batches batches ≡ rows
+    → place ≡ place_behind DeviceOwner batches → DeviceHas device place rows
+has_rows device place batches rows is_open is at = record { batches = batches; open_is = is_open; rows_are = is; place_is = at }

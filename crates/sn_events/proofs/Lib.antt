@@ -1,9 +1,12 @@
 pub mod Batches
-pub mod Begun
 pub mod Came
 pub mod Coming
 pub mod Fating
 pub mod Growing
 pub mod Hearing
 pub mod Lines
+pub mod Marking
+pub mod Opening
+pub mod PutAway
 pub mod Quiet
+pub mod Redelivering

@@ -5,9 +5,12 @@ use Rattle.rand_chacha.specs.ChaCha.{ChaCha}
 use Rattle.sn_client.specs.Runs.{Act, Call, CommitsOnce, Given, Halt, PutsItem, Run, WithContent, a_uuid, asked, commits, content, delete, edit, list, nothing, passwd, put, register, sign_in, sync}
 use Rattle.sn_client.specs.Steps.{What, deletes, edits, puts}
 use Rattle.sn_events.specs.Fates.{AreByLosses}
+use Rattle.sn_events.specs.Laws.{commits_of}
 use Rattle.sn_laws.specs.Lookups.{Bytes}
-use Rattle.sn_link.specs.Laws.{HearsNoWant}
+use Rattle.sn_link.specs.Laws.{AreReadable, HearsNoWant}
 use Rattle.sn_link.specs.declared.losses.Losses.{Losses}
+use Rattle.sn_recorder.specs.Told.{AreTold}
+use Rattle.sn_recorder.specs.declared.exchanged.Exchanged.{Exchanged}
 use Rattle.sn_rows.specs.Table.{Rows}
 use Rattle.sn_world.specs.Calls.{AreServed, AsksNothing}
 
@@ -74,3 +77,13 @@ pub only_by : (losses : Losses) (number : ℕ) (acts : List Act) → OnlyCommits
 only_by losses number [] only = refl
 only_by losses number (commits what changes ∷ acts) only = only_by losses number acts only
 only_by losses number (asked r reply ∷ acts) only = absurd only
+
+pub only_told : (host : Bytes) (acts : List Act) (records : List Exchanged) → OnlyCommits acts → records ≡ [] → AreTold host acts [] (commits_of acts) records
+only_told host [] records only none = (refl, refl, none)
+only_told host (commits what changes ∷ acts) records only none = (refl, only_told host acts records only none)
+only_told host (asked r reply ∷ acts) records only none = absurd only
+
+pub only_readable : (host : Bytes) (acts : List Act) → OnlyCommits acts → AreReadable host acts
+only_readable host [] only = tt
+only_readable host (commits what changes ∷ acts) only = only_readable host acts only
+only_readable host (asked r reply ∷ acts) only = absurd only

@@ -1,5 +1,5 @@
 -- The disks of the ends go on: behind an event each is the one that it was, of which more calls were made.
-use Rattle.std.specs.Prelude.{◌≡◌, ◌≢◌, [], None, Some}
+use Rattle.std.specs.Prelude.{◌≡◌, ◌≢◌, ℕ, [], None, Some}
 use Rattle.std.specs.declared.option.Option.{Option}
 use Rattle.sn_client.specs.Calls.{device_disk}
 use Rattle.sn_disk.specs.MemDisk.{Grows, disk_told}
@@ -20,7 +20,10 @@ abbrev pub IsFreshDisk : MemDisk → Type 0
 IsFreshDisk disk = (disk_told disk).start ≡ []
 
 abbrev pub held_disk : Holding → MemDisk
-held_disk (Device device) = device_disk device
+held_disk (Device device place) = device_disk device
+
+abbrev pub held_place : Holding → ℕ
+held_place (Device device place) = place
 
 -- the device of a name goes on; a name that had none has begun on a disk that was made without bytes
 abbrev pub ComesFrom : Option Holding → Holding → Type 0

@@ -6,7 +6,9 @@ pub mod Events
 pub mod Fates
 pub mod Fresh
 pub mod Growing
+pub mod Late
 pub mod Laws
 pub mod Servers
+pub mod Slots
 pub mod Standing
 pub mod Steadies

@@ -14,4 +14,4 @@ module _ {D : Type 0} {g : Ghosts D} where
     pub least : device.least_cost ≡ 1
 
 abbrev pub IsSteadyHeld : Holding → Type 0
-IsSteadyHeld (Device device) = IsSteady device
+IsSteadyHeld (Device device place) = IsSteady device

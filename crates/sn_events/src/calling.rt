@@ -1,38 +1,39 @@
 //! A call of a device: the parts of the ends that it is made with, and how they are put back.
 
 ghost use Rattle.std.specs.Prelude.{◌≡◌, ◌↔◌, IfOk, IsTrue, OnOk, Some};
-ghost use Rattle.sn_client.specs.Calls.{IfStands};
+ghost use Rattle.sn_client.specs.Calls.{IfStands, IsOpen};
 ghost use Rattle.sn_events.specs.Answers.{IsAnswered, IsWant};
-ghost use Rattle.sn_events.specs.Fresh.{IsFreshServer};
-ghost use Rattle.sn_events.specs.Growing.{IsFreshDisk};
-ghost use Rattle.sn_events.specs.Calling.{IsOpenHeld, IsPutBack, IsReady};
+ghost use Rattle.sn_events.specs.Calling.{IsOpenHeld, IsPutBack, IsReady, IsRecording, IsServerBack};
 ghost use Rattle.sn_events.specs.Steadies.{IsSteady};
 ghost use Rattle.sn_events.specs.declared.steady.Holding.TheVariants as held;
 ghost use Rattle.sn_link.specs.Deliveries.{IsSoundHeld};
 ghost use Rattle.sn_link.specs.Links.{link_held};
-ghost use Rattle.sn_server.specs.Stores.{server_disk};
 
 use crate::devices::Devices;
 use crate::ends::Ends;
+use crate::marks::device_tail;
+use crate::outcome::Outcome;
 use crate::setting::Setting;
 use sn_client::{Called, ClientError, Device};
 use sn_disk::MemDisk;
-use sn_items::Words;
 use sn_link::{Held, Losses, ServingLink};
 use sn_net::Link;
-use sn_server::Server;
+use sn_recorder::{Exchanged, Recorded, RecordingLink};
+use sn_string::Many;
+use sn_tail::Tail;
 use std::alloc::{AllocError, Global};
 
 /// The host that devices ask. The link goes to its server, whatever host is named.
-const HOST: &str = "localhost";
+const HOST: &str = "replay:0";
 
-/// A device that is taken out, and the link that it asks.
+/// A device that is taken out, with its place, and the link that it asks.
 #[derive(Drop)]
 pub struct Calling {
     pub(crate) alloc: Global,
-    pub(crate) link: ServingLink,
+    pub(crate) link: RecordingLink,
     pub(crate) devices: Devices,
     pub(crate) device: Device<MemDisk>,
+    pub(crate) place: u64,
 }
 
 impl Ends {
@@ -42,47 +43,88 @@ impl Ends {
     {
         let Ends {
             alloc,
-            mut link,
+            link,
+            place,
             mut devices,
         } = self;
-        link.set_now(setting.now);
-        link.set_losses(setting.losses);
-        let Ok(()) = link.aim(alloc, HOST) else {
-            return Err(AllocError);
-        };
-        let device = devices.take(name)?;
+        let link = recording(alloc, link, place, setting)?;
+        let (device, place) = devices.take(name)?;
         Ok(Calling {
             alloc,
             link,
             devices,
             device,
+            place,
         })
     }
 }
 
-/// Puts the server and the device back behind a call. Where memory was wanting, also on a disk, there are no ends.
-pub(crate) fn put_back<T: Drop>(
+// Aims and sets a link, and records what is asked over it.
+fn recording(
     alloc: Global,
-    link: ServingLink,
-    mut devices: Devices,
-    name: &str,
-    called: Called<Device<MemDisk>, MemDisk, T>,
-) -> Result<(Ends, Result<T, ClientError>), AllocError>
-    requires { IfStands called IsSteady }
-    ensures { IfOk result (λ made. IsPutBack held.Device link devices name.now called made.0 made.1) }
+    mut link: ServingLink,
+    place: u64,
+    setting: Setting,
+) -> Result<RecordingLink, AllocError>
+    ensures { IfOk result (IsRecording link place setting) }
 {
-    let Some(held) = link.into_held() else {
+    let Ok(()) = link.aim(alloc, HOST) else {
         return Err(AllocError);
     };
-    let link = linked(held)?;
+    link.set_now(setting.now);
+    link.set_losses(setting.losses);
+    Ok(RecordingLink::new(alloc, link, place))
+}
+
+/// Puts the server and the device back behind a call, and reads what the device's store gained. Where memory was wanting, also on a
+/// disk, there are no ends.
+pub(crate) fn put_back<T: Drop>(
+    alloc: Global,
+    link: RecordingLink,
+    mut devices: Devices,
+    place: u64,
+    name: &str,
+    called: Called<Device<MemDisk>, MemDisk, T>,
+) -> Result<Outcome<T>, AllocError>
+    requires { IfStands called IsSteady }
+    ensures { IfOk result (IsPutBack held.Device IsOpen link devices place name.now called) }
+{
+    let (link, server_place, exchanged) = served(link)?;
     let (device, answer) = answered(called)?;
-    devices.put(name, device)?;
+    let Tail { batches, gate } = device_tail(alloc, &device, place)?;
+    devices.put(name, device, gate)?;
     let ends = Ends {
         alloc,
         link,
+        place: server_place,
         devices,
     };
-    Ok((ends, answer))
+    Ok(Outcome {
+        ends,
+        answer,
+        batches,
+        exchanged,
+    })
+}
+
+// The link to its server again, which is open, the place behind the batches, and what was recorded.
+pub(crate) fn served(link: RecordingLink) -> Result<(ServingLink, u64, Many<Exchanged>), AllocError>
+    ensures { IfOk result (λ parts. IsServerBack link parts.0 parts.1 × (parts.2 ≡ link.exchanged)) }
+{
+    let Some(
+        Recorded {
+            link,
+            place,
+            exchanged,
+        },
+    ) = link.into_recorded()
+    else {
+        return Err(AllocError);
+    };
+    let Some(held) = link.into_held() else {
+        return Err(AllocError);
+    };
+    Ok((linked(held)?, place, exchanged))
 }
 
 // A link to a server that is open.
@@ -125,16 +167,4 @@ fn is_want(why: &ClientError) -> bool
         why,
         ClientError::Memory | ClientError::Refused { status: 503, .. }
     )
-}
-
-/// A server on a fresh disk, which draws its secret from the words.
-pub(crate) fn fresh_server(alloc: Global, words: &mut Words) -> Result<Server<MemDisk>, AllocError>
-    ensures fresh { IfOk result (IsFreshServer words.old words.new) }
-    ensures disk { IfOk result (λ server. IsFreshDisk (server_disk server)) }
-{
-    let disk = MemDisk::new(alloc, Vec::new(alloc), Vec::new(alloc))?;
-    match Server::load(alloc, disk, words) {
-        Ok(server) => Ok(server),
-        Err(_) => Err(AllocError),
-    }
 }

@@ -1,29 +1,22 @@
 //! What a call is in the world, by the definitions alone. The functions call the laws below them and do nothing else; their
 //! contracts are the laws.
 
-ghost use Rattle.sn_events.specs.Laws.{CallsCome, QuietCome};
+ghost use Rattle.sn_events.specs.Laws.{AgainComes, CallsCome, QuietCome};
 
-use sn_account::rule_laws::{answers_fit, stays_sound};
-use sn_http::{no_message_where_check, one_message, request_reads_back};
-use sn_sync::answer_laws::one_answer;
-use sn_sync::request_laws::{one_request, requests_not_refused};
-use sn_sync::written_laws::{answers_read_back, requests_read_back};
-use sn_world::lines_go;
+use sn_account::rule_laws::stays_sound;
+use sn_recorder::{agains_have_fates, exchanges_have_fates};
+use sn_world::{again_leads, calls_go, keeps, registers_go, sign_ins_go, syncs_go};
 
-/// A call of a device over a link is a line of the world, with fates that are by what is lost.
+/// A call of a device over a link is a line of the world, with fates that are by what is lost, and of which the records tell.
 pub fn calls_come()
     ensures { CallsCome }
 {
-    lines_go();
-    request_reads_back();
-    one_message();
-    no_message_where_check();
-    requests_read_back();
-    one_request();
-    requests_not_refused();
-    answers_read_back();
-    one_answer();
-    answers_fit();
+    calls_go();
+    syncs_go();
+    registers_go();
+    sign_ins_go();
+    keeps();
+    exchanges_have_fates();
     stays_sound();
 }
 
@@ -31,5 +24,19 @@ pub fn calls_come()
 pub fn quiet_come()
     ensures { QuietCome }
 {
-    lines_go();
+    calls_go();
+    syncs_go();
+    registers_go();
+    sign_ins_go();
+    keeps();
+}
+
+/// And so is a request that was made and is delivered late or again.
+pub fn again_comes()
+    ensures { AgainComes }
+{
+    again_leads();
+    keeps();
+    stays_sound();
+    agains_have_fates();
 }

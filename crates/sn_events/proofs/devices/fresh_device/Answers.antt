@@ -2,7 +2,7 @@ use Rattle.std.proofs.Common.{[], refl}
 use Rattle.sn_client.specs.Calls.{device_disk}
 use Rattle.sn_journal.specs.declared.owner.Owner.TheVariants.{Device}
 use Rattle.sn_events.proofs.Growing.{fresh_made, fresh_on}
-use Rattle.sn_events.proofs.Begun.{fresh_each}
+use Rattle.sn_events.proofs.Opening.{fresh_each}
 use Rattle.sn_events.proofs.devices.fresh_device.Goals as goal
 
 pub returns-in-Ok-clause-fresh : goal.returns-in-Ok-clause-fresh

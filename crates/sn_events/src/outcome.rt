@@ -1,0 +1,33 @@
+//! What an event gives.
+
+use crate::ends::Ends;
+use sn_client::ClientError;
+use sn_recorder::Exchanged;
+use sn_rows::Change;
+use sn_string::Many;
+
+/// The ends before the first event, and the changes of the server's first commit.
+#[derive(Drop)]
+pub struct Begun {
+    pub ends: Ends,
+    pub changes: Many<Change>,
+}
+
+/// The ends behind a call, what it gave or why it was refused, and what is to be told of it: the batches that the device's store
+/// gained, and the exchanges.
+#[derive(Drop)]
+pub struct Outcome<T> {
+    pub ends: Ends,
+    pub answer: Result<T, ClientError>,
+    pub batches: Many<Many<Change>>,
+    pub exchanged: Many<Exchanged>,
+}
+
+/// The ends behind a request that came late or again, the batches that the server's store gained, and the status of the answer,
+/// which no device heard.
+#[derive(Drop)]
+pub struct Again {
+    pub ends: Ends,
+    pub status: u16,
+    pub batches: Many<Many<Change>>,
+}
