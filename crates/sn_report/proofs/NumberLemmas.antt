@@ -9,7 +9,7 @@ use Rattle.std.proofs.lemmas.List.Elements.{All-append}
 use Rattle.std.proofs.lemmas.Map.Text.{is_eq-slice_cmp}
 use Rattle.std.proofs.lemmas.Slice.Eq.{bytes_eq-Decides}
 use Rattle.sn_laws.specs.Lookups.{Bytes}
-use Rattle.sn_report.specs.Labels.{Labels, is_labelled, label_from, labelled}
+use Rattle.sn_report.specs.Labels.{Labels, is_labelled, label_from}
 use Rattle.sn_report.specs.Numbers.{IsUuidBytes, AreNumbers, number_of}
 
 pub same_bytes : (a b : Bytes) → bytes_eq a b ≡ true → a ≡ b
@@ -100,6 +100,46 @@ numbers_more labels old new uuid number are none is count updates = record {
       ∙ sym (number_snoc 1 labels uuid q none);
 }
 
--- one more label, or none for an item that has one
-pub labelled_new : (labels : Labels) (uuid : Bytes) → is_labelled labels uuid ≡ false → labelled labels uuid ≡ labels ++ uuid ∷ []
-labelled_new labels uuid h = ap (λ (b : Bool). cond b labels (labels ++ uuid ∷ [])) h
+-- one more label of an item that has one
+
+passes : (b : Bool) (x y : Option ℕ) → b ≡ false → cond b x y ≡ y
+passes true x y h = absurd (cc)
+passes false x y h = refl
+
+not_true : (b : Bool) → (b ≡ true → ⊥) → b ≡ false
+not_true true h = absurd (h refl)
+not_true false h = refl
+
+left_true : (b r : Bool) → (b || r) ≡ true → r ≡ false → b ≡ true
+left_true true r h none = refl
+left_true false r h none = absurd (cc)
+
+behind_same : (b : Bool) (x y z : Option ℕ) → (b ≡ false → y ≡ z) → cond b x y ≡ cond b x z
+behind_same true x y z h = refl
+behind_same false x y z h = h refl
+
+rest_again : (n : ℕ) (l : Bytes) (ls : Labels) (uuid q : Bytes) (r : Bool) → is_labelled ls uuid ≡ r → (bytes_eq l uuid || r) ≡ true
+    → (is_labelled ls uuid ≡ true → number_from n (ls ++ uuid ∷ []) q ≡ number_from n ls q) → bytes_eq l q ≡ false
+    → number_from n (ls ++ uuid ∷ []) q ≡ number_from n ls q
+rest_again n l ls uuid q true e h again other = again e
+rest_again n l ls uuid q false e h again other =
+    let first : l ≡ uuid = same_bytes l uuid (left_true (bytes_eq l uuid) false h refl) in
+    let apart : bytes_eq uuid q ≡ true → ⊥ =
+    λ k. let same : bytes_eq l q ≡ true = bytes_same l q (first ∙ same_bytes uuid q k) in absurd (cc) in
+    number_snoc n ls uuid q e ∙ passes (bytes_eq uuid q) (Some (n + length ls)) (number_from n ls q) (not_true (bytes_eq uuid q) apart)
+
+number_again : (n : ℕ) (labels : Labels) (uuid q : Bytes) → is_labelled labels uuid ≡ true
+    → number_from n (labels ++ uuid ∷ []) q ≡ number_from n labels q
+number_again n [] uuid q h = absurd (cc)
+number_again n (l ∷ ls) uuid q h =
+    number_cons n l (ls ++ uuid ∷ []) q
+    ∙ behind_same (bytes_eq l q) (Some n) (number_from (n + 1) (ls ++ uuid ∷ []) q) (number_from (n + 1) ls q)
+    (rest_again (n + 1) l ls uuid q (is_labelled ls uuid) refl h (number_again (n + 1) ls uuid q))
+    ∙ sym (number_cons n l ls q)
+
+pub numbers_again : (labels : Labels) (numbers : BTreeMap Bytes ℕ) (uuid : Bytes) → AreNumbers labels numbers → is_labelled labels uuid ≡ true
+    → IsUuidBytes uuid → AreNumbers (labels ++ uuid ∷ []) numbers
+numbers_again labels numbers uuid are known is = record {
+  uuids = All-append IsUuidBytes labels (uuid ∷ []) are.uuids (all_one IsUuidBytes uuid is);
+  found = λ q. are.found q ∙ sym (number_again 1 labels uuid q known);
+}

@@ -1,5 +1,5 @@
 -- Lists of lines, written one after the other.
-use Rattle.std.proofs.Common.{◌≡◌, ℕ, suc, ◌+◌, ◌<◌, ◌≤◌, List, [], ◌∷◌, ◌++◌, length, drop, get_or, refl, sym, ap, ◌∙◌, arith, drop-cons}
+use Rattle.std.proofs.Common.{◌≡◌, Bool, ℕ, suc, ◌+◌, ◌<◌, ◌≤◌, List, [], ◌∷◌, ◌++◌, length, drop, get_or, refl, sym, ap, ◌∙◌, arith, drop-cons}
 use Rattle.std.specs.Fmt.{decimal}
 use Rattle.std.specs.List.{flat_map}
 use Rattle.std.proofs.lemmas.List.{append-nil, drop_all}
@@ -25,26 +25,28 @@ ended f xs i text whole empty h inv =
 
 -- moves
 
-pub labels_step : (labels next whole : Labels) (m : Move) (moves : List Move) (i : ℕ) → i < length moves → m ≡ get_or moves i m
-    → next ≡ labels_after labels m → labels_of labels (drop i moves) ≡ whole → labels_of next (drop (i + 1) moves) ≡ whole
-labels_step labels next whole m moves i h is e inv =
-    ap (λ (ls : Labels). labels_of ls (drop (i + 1) moves)) e ∙ sym (ap (labels_of labels) (next_of moves i m m h is)) ∙ inv
+pub labels_step : (puts : Bool) (labels next whole : Labels) (m : Move) (moves : List Move) (i : ℕ) → i < length moves → m ≡ get_or moves i m
+    → next ≡ labels_after puts labels m → labels_of puts labels (drop i moves) ≡ whole → labels_of puts next (drop (i + 1) moves) ≡ whole
+labels_step puts labels next whole m moves i h is e inv =
+    ap (λ (ls : Labels). labels_of puts ls (drop (i + 1) moves)) e ∙ sym (ap (labels_of puts labels) (next_of moves i m m h is)) ∙ inv
 
-pub labels_end : (labels whole : Labels) (moves : List Move) (i : ℕ) → length moves ≤ i → labels_of labels (drop i moves) ≡ whole → labels ≡ whole
-labels_end labels whole moves i h inv = sym (ap (labels_of labels) (drop_all i moves h)) ∙ inv
+pub labels_end : (puts : Bool) (labels whole : Labels) (moves : List Move) (i : ℕ) → length moves ≤ i → labels_of puts labels (drop i moves) ≡ whole
+    → labels ≡ whole
+labels_end puts labels whole moves i h inv = sym (ap (labels_of puts labels) (drop_all i moves h)) ∙ inv
 
-pub moves_step : (number : ℕ) (labels next : Labels) (old new whole : List ℕ) (m : Move) (moves : List Move) (i : ℕ) → i < length moves → m ≡ get_or moves i m
-    → next ≡ labels_after labels m → new ≡ old ++ line_text number (move_text (labels_after labels m) m)
-    → old ++ moves_text number labels (drop i moves) ≡ whole → new ++ moves_text number next (drop (i + 1) moves) ≡ whole
-moves_step number labels next old new whole m moves i h is e line inv =
-    ap (λ (ls : Labels). new ++ moves_text number ls (drop (i + 1) moves)) e
-    ∙ written_piece old new (line_text number (move_text (labels_after labels m) m)) (moves_text number (labels_after labels m) (drop (i + 1) moves))
-    (moves_text number labels (drop i moves)) line (ap (moves_text number labels) (next_of moves i m m h is))
+pub moves_step : (number : ℕ) (puts : Bool) (labels next : Labels) (old new whole : List ℕ) (m : Move) (moves : List Move) (i : ℕ) → i < length moves
+    → m ≡ get_or moves i m → next ≡ labels_after puts labels m → new ≡ old ++ line_text number (move_text (labels_after puts labels m) m)
+    → old ++ moves_text number puts labels (drop i moves) ≡ whole → new ++ moves_text number puts next (drop (i + 1) moves) ≡ whole
+moves_step number puts labels next old new whole m moves i h is e line inv =
+    ap (λ (ls : Labels). new ++ moves_text number puts ls (drop (i + 1) moves)) e
+    ∙ written_piece old new (line_text number (move_text (labels_after puts labels m) m))
+    (moves_text number puts (labels_after puts labels m) (drop (i + 1) moves))
+    (moves_text number puts labels (drop i moves)) line (ap (moves_text number puts labels) (next_of moves i m m h is))
     ∙ inv
 
-pub moves_end : (number : ℕ) (labels : Labels) (text whole : List ℕ) (moves : List Move) (i : ℕ) → length moves ≤ i
-    → text ++ moves_text number labels (drop i moves) ≡ whole → text ≡ whole
-moves_end number labels text whole moves i h inv = ended (moves_text number labels) moves i text whole refl h inv
+pub moves_end : (number : ℕ) (puts : Bool) (labels : Labels) (text whole : List ℕ) (moves : List Move) (i : ℕ) → length moves ≤ i
+    → text ++ moves_text number puts labels (drop i moves) ≡ whole → text ≡ whole
+moves_end number puts labels text whole moves i h inv = ended (moves_text number puts labels) moves i text whole refl h inv
 
 -- what an event shows
 
@@ -63,11 +65,11 @@ shown_end number text whole shown i h inv = ended (flat_map (line_text number)) 
 -- events
 
 pub events_step : (labels next : Labels) (old new whole : List ℕ) (e : Event) (events : List Event) (i : ℕ) → i < length events → e ≡ get_or events i e
-    → next ≡ labels_of labels e.moves → new ≡ old ++ event_text labels e
+    → next ≡ labels_of e.puts labels e.moves → new ≡ old ++ event_text labels e
     → old ++ events_text labels (drop i events) ≡ whole → new ++ events_text next (drop (i + 1) events) ≡ whole
 events_step labels next old new whole e events i h is after text inv =
     ap (λ (ls : Labels). new ++ events_text ls (drop (i + 1) events)) after
-    ∙ written_piece old new (event_text labels e) (events_text (labels_of labels e.moves) (drop (i + 1) events))
+    ∙ written_piece old new (event_text labels e) (events_text (labels_of e.puts labels e.moves) (drop (i + 1) events))
     (events_text labels (drop i events)) text (ap (events_text labels) (next_of events i e e h is))
     ∙ inv
 

@@ -1,5 +1,5 @@
 -- Labels of items, in the order in which they were made; the first is #1.
-use Rattle.std.specs.Prelude.{ℕ, zero, suc, ◌+◌, List, [], ◌∷◌, ◌++◌, Bool, Option, Some, None, if◌then◌else◌, nat_eq}
+use Rattle.std.specs.Prelude.{ℕ, zero, suc, ◌+◌, List, [], ◌∷◌, ◌++◌, Bool, not, Option, Some, None, if◌then◌else◌, filter, nat_eq, slice_get}
 use Rattle.std.specs.Fmt.{decimal}
 use Rattle.std.specs.List.{list_any, starts_with}
 use Rattle.std.specs.Str.{bytes_eq}
@@ -8,7 +8,7 @@ use Rattle.sn_laws.specs.declared.moves.Move.{Move}
 use Rattle.sn_laws.specs.declared.moves.Move.TheVariants.{Register, Join, Edit, Drop, Post, Unpost, Accept, Rewrap, Settle, SettlePosted, Fork, Rename, GiveWay, Change, Retire}
 use Rattle.sn_string.specs.Uuids.{uuid_text}
 
--- the items that have a label, the first made first
+-- the item of each label, that of #1 first. An item stands here once for each label that it has
 abbrev pub Labels : Type 0
 Labels = List Bytes
 
@@ -23,31 +23,43 @@ label_from n (l ∷ ls) uuid = if bytes_eq l uuid then n else label_from (n + 1)
 abbrev pub label_text : Labels → Bytes → List ℕ
 label_text labels uuid = 35 ∷ decimal (label_from 1 labels uuid)
 
--- a new item takes the next label
+-- the items that have labels, each once, by their least labels
+abbrev pub items_of : Labels → List Bytes
+items_of [] = []
+items_of (l ∷ ls) = l ∷ filter (λ other. not (bytes_eq l other)) (items_of ls)
+
+-- the item of the label with this number. There is none of number 0
+abbrev pub item_at : Labels → ℕ → Option Bytes
+item_at labels zero = None
+item_at labels (suc place) = slice_get labels place
+
+-- an item takes the next label, also where it has one
 abbrev pub labelled : Labels → Bytes → Labels
-labelled labels uuid = if is_labelled labels uuid then labels else labels ++ uuid ∷ []
+labelled labels uuid = labels ++ uuid ∷ []
 
--- the label that a move makes: of an item that is edited, of one that a draft is forked to, of one that it is renamed to
-abbrev pub labels_after : Labels → Move → Labels
-labels_after labels (Edit device uuid kind base latest) = labelled labels uuid
-labels_after labels (Fork device uuid other) = labelled labels other
-labels_after labels (Rename device uuid other) = labelled labels other
-labels_after labels (Register identifier set) = labels
-labels_after labels (Join device identifier number) = labels
-labels_after labels (Drop device uuid) = labels
-labels_after labels (Post device uuid) = labels
-labels_after labels (Unpost device uuid) = labels
-labels_after labels (Accept device uuid stamp under) = labels
-labels_after labels (Rewrap uuid stamp under) = labels
-labels_after labels (Settle device uuid) = labels
-labels_after labels (SettlePosted device uuid stamp) = labels
-labels_after labels (GiveWay device uuid) = labels
-labels_after labels (Change identifier number set) = labels
-labels_after labels (Retire device number) = labels
+-- the label that a move makes: of an item that is edited, where the line puts a new item; of one that a draft is forked to; of one that
+-- it is renamed to
+abbrev pub labels_after : Bool → Labels → Move → Labels
+labels_after puts labels (Edit device uuid kind base latest) = if puts then labelled labels uuid else labels
+labels_after puts labels (Fork device uuid other) = labelled labels other
+labels_after puts labels (Rename device uuid other) = labelled labels other
+labels_after puts labels (Register identifier set) = labels
+labels_after puts labels (Join device identifier number) = labels
+labels_after puts labels (Drop device uuid) = labels
+labels_after puts labels (Post device uuid) = labels
+labels_after puts labels (Unpost device uuid) = labels
+labels_after puts labels (Accept device uuid stamp under) = labels
+labels_after puts labels (Rewrap uuid stamp under) = labels
+labels_after puts labels (Settle device uuid) = labels
+labels_after puts labels (SettlePosted device uuid stamp) = labels
+labels_after puts labels (GiveWay device uuid) = labels
+labels_after puts labels (Change identifier number set) = labels
+labels_after puts labels (Retire device number) = labels
 
-abbrev pub labels_of : Labels → List Move → Labels
-labels_of labels [] = labels
-labels_of labels (m ∷ ms) = labels_of (labels_after labels m) ms
+-- the labels that there are after the moves of a line's event
+abbrev pub labels_of : Bool → Labels → List Move → Labels
+labels_of puts labels [] = labels
+labels_of puts labels (m ∷ ms) = labels_of puts (labels_after puts labels m) ms
 
 -- the label of the item whose uuid, as text, stands at the front of a text
 abbrev pub label_at : Labels → Labels → List ℕ → Option (List ℕ)

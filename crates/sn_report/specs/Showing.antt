@@ -11,7 +11,7 @@ use Rattle.sn_laws.specs.declared.ideal.Device.{Device}
 use Rattle.sn_laws.specs.declared.ideal.Draft.{Draft}
 use Rattle.sn_laws.specs.declared.ideal.Ideal.{Ideal}
 use Rattle.sn_laws.specs.declared.ideal.Version.{Version}
-use Rattle.sn_report.specs.Labels.{Labels, label_text, relabelled}
+use Rattle.sn_report.specs.Labels.{Labels, items_of, label_text, relabelled}
 use Rattle.sn_report.specs.Text.{content_text}
 
 -- the last version of an item: its stamp, and its set and content or its deletion
@@ -29,7 +29,7 @@ abbrev pub version_lines : Labels → Option Version → List (List ℕ)
 version_lines labels None = []
 version_lines labels (Some v) = version_text labels v ∷ []
 
--- an account with its last set's number, and its items in order of label
+-- an account with its last set's number, and its items in order of label, each once
 abbrev pub last_set_text : Bytes → ℕ → List ℕ
 last_set_text identifier number = codes "account " ++ (identifier ++ (codes " set " ++ decimal number))
 
@@ -37,7 +37,7 @@ abbrev pub account_text : Account → List ℕ
 account_text a = last_set_text a.identifier (length a.sets)
 
 abbrev pub account_lines : Labels → Account → List (List ℕ)
-account_lines labels a = account_text a ∷ flat_map (λ uuid. version_lines labels (last_of uuid a.versions)) labels
+account_lines labels a = account_text a ∷ flat_map (λ uuid. version_lines labels (last_of uuid a.versions)) (items_of labels)
 
 -- the sets that a device holds
 abbrev pub held_text : List ℕ → List ℕ
@@ -54,7 +54,7 @@ abbrev pub draft_lines : Labels → Option Draft → List (List ℕ)
 draft_lines labels None = []
 draft_lines labels (Some d) = draft_text labels d ∷ []
 
--- a device with its account and its sets, and its drafts in order of label
+-- a device with its account and its sets, and its drafts in order of label, each once
 abbrev pub sets_text : Bytes → Bytes → List ℕ → List ℕ
 sets_text name account held = codes "device " ++ (name ++ (codes " " ++ (account ++ (codes " sets" ++ held_text held))))
 
@@ -66,7 +66,7 @@ device_text name None = none_text name
 device_text name (Some d) = sets_text name d.account d.held
 
 abbrev pub device_lines : Labels → Ideal → Bytes → List (List ℕ)
-device_lines labels s name = device_text name (device_named s name) ∷ flat_map (λ uuid. draft_lines labels (draft_at s name uuid)) labels
+device_lines labels s name = device_text name (device_named s name) ∷ flat_map (λ uuid. draft_lines labels (draft_at s name uuid)) (items_of labels)
 
 -- accounts in the order in which they began, devices in that of their first lines
 abbrev pub show_lines : Labels → List Bytes → Ideal → List (List ℕ)

@@ -1,5 +1,5 @@
 -- The text of a report.
-use Rattle.std.specs.Prelude.{ℕ, List, [], ◌∷◌, ◌++◌, Option, Some, None, codes}
+use Rattle.std.specs.Prelude.{ℕ, List, [], ◌∷◌, ◌++◌, Bool, Option, Some, None, codes}
 use Rattle.std.specs.Fmt.{decimal}
 use Rattle.std.specs.List.{flat_map}
 use Rattle.sn_laws.specs.Lookups.{Bytes}
@@ -8,14 +8,11 @@ use Rattle.sn_laws.specs.declared.ideal.Content.TheVariants as content
 use Rattle.sn_laws.specs.declared.moves.Move.{Move}
 use Rattle.sn_laws.specs.declared.moves.Move.TheVariants.{Register, Join, Edit, Drop, Post, Unpost, Accept, Rewrap, Settle, SettlePosted, Fork, Rename, GiveWay, Change, Retire}
 use Rattle.sn_report.specs.Labels.{Labels, label_text, labels_after, labels_of, relabelled}
-use Rattle.sn_report.specs.declared.report.DeviceRefusal.{DeviceRefusal}
-use Rattle.sn_report.specs.declared.report.DeviceRefusal.TheVariants as refusal
 use Rattle.sn_report.specs.declared.report.Event.{Event}
 use Rattle.sn_report.specs.declared.report.Last.{Last}
 use Rattle.sn_report.specs.declared.report.Last.TheVariants as last
 use Rattle.sn_report.specs.declared.report.Report.{Report}
-use Rattle.sn_report.specs.declared.report.ServerRefusal.{ServerRefusal}
-use Rattle.sn_report.specs.declared.report.ServerRefusal.TheVariants as server
+use Rattle.sn_status.specs.ClientLines.{client_text, place_text}
 
 -- a draft's content, or its deletion
 abbrev pub content_text : Labels → Content → List ℕ
@@ -62,44 +59,34 @@ move_text labels (GiveWay device uuid) = draft_text (codes "giveway") labels dev
 move_text labels (Change identifier number set) = codes "change " ++ (identifier ++ (codes " set " ++ decimal number))
 move_text labels (Retire device number) = codes "retire " ++ (device ++ (codes " set " ++ decimal number))
 
--- a server's refusal: its status and its tag
-abbrev pub server_text : ServerRefusal → List ℕ
-server_text server.Taken = codes "409 taken"
-server_text server.Full = codes "409 full"
-server_text server.StampsUsed = codes "409 stamps-used"
-
--- a device's refusal: its number, its name and what it kept
-abbrev pub refusal_text : Labels → DeviceRefusal → List ℕ
-refusal_text labels refusal.NoAccount = codes "client.1 NoAccount"
-refusal_text labels (refusal.TooLong length) = codes "client.4 TooLong " ++ decimal length
-refusal_text labels refusal.NotObject = codes "client.5 NotObject"
-refusal_text labels refusal.RoundsUsed = codes "client.8 RoundsUsed"
-refusal_text labels (refusal.NoFreshUuid drawn) = codes "client.9 NoFreshUuid " ++ label_text labels drawn
-refusal_text labels (refusal.HasAccount identifier) = codes "client.13 HasAccount " ++ identifier
-refusal_text labels (refusal.NumbersUsed next) = codes "client.15 NumbersUsed " ++ decimal next
-
--- how an event ended
+-- how an event ended. Of a device's refusal its number, its name and the values that it keeps, each labelled uuid as its label; of an answer
+-- that is none, or fails a check, the place
 abbrev pub last_text : Labels → Last → List ℕ
 last_text labels last.Done = codes "= ok"
-last_text labels (last.Server why) = codes "= server " ++ server_text why
-last_text labels (last.Refused why) = codes "= refused " ++ refusal_text labels why
+last_text labels last.Link = codes "= link"
+last_text labels (last.Server status tag) = codes "= server " ++ (decimal status ++ (codes " " ++ tag))
+last_text labels (last.Refused refusal) = codes "= refused " ++ relabelled labels (client_text refusal)
+last_text labels (last.BadAnswer place) = codes "= refused client.7 BadAnswer " ++ place_text place
+last_text labels (last.Answer status) = codes "= answer " ++ decimal status
 
 -- a line of a report: the number of the script's line, and what there is to say
 abbrev pub line_text : ℕ → List ℕ → List ℕ
 line_text number text = decimal number ++ (codes " " ++ (text ++ 10 ∷ []))
 
-abbrev pub moves_text : ℕ → Labels → List Move → List ℕ
-moves_text number labels [] = []
-moves_text number labels (m ∷ ms) = line_text number (move_text (labels_after labels m) m) ++ moves_text number (labels_after labels m) ms
+abbrev pub moves_text : ℕ → Bool → Labels → List Move → List ℕ
+moves_text number puts labels [] = []
+moves_text number puts labels (m ∷ ms) =
+    line_text number (move_text (labels_after puts labels m) m) ++ moves_text number puts (labels_after puts labels m) ms
 
 -- an event: its moves, what it shows, and how it ended
 abbrev pub event_text : Labels → Event → List ℕ
 event_text labels e =
-    moves_text e.number labels e.moves ++ (flat_map (line_text e.number) e.shown ++ line_text e.number (last_text (labels_of labels e.moves) e.last))
+    moves_text e.number e.puts labels e.moves
+    ++ (flat_map (line_text e.number) e.shown ++ line_text e.number (last_text (labels_of e.puts labels e.moves) e.last))
 
 abbrev pub events_text : Labels → List Event → List ℕ
 events_text labels [] = []
-events_text labels (e ∷ es) = event_text labels e ++ events_text (labels_of labels e.moves) es
+events_text labels (e ∷ es) = event_text labels e ++ events_text (labels_of e.puts labels e.moves) es
 
 abbrev pub report_text : Report → List ℕ
 report_text report = events_text [] report.events

@@ -1,41 +1,26 @@
 //! The last lines of events.
 
 ghost use Rattle.std.specs.Prelude.{◌≡◌, IfOk, string_bytes};
-ghost use Rattle.sn_report.specs.Text.{last_text, refusal_text, server_text};
+ghost use Rattle.sn_report.specs.Labels.{relabelled};
+ghost use Rattle.sn_report.specs.Text.{last_text};
+ghost use Rattle.sn_status.specs.ClientLines.{client_text};
 
 use crate::labels::Labels;
-use crate::report::{DeviceRefusal, Last, ServerRefusal};
+use crate::report::Last;
+use sn_status::{ClientRefusal, client_line, place_line};
 use std::alloc::{AllocError, Global};
 use std::fmt::Write;
 
-fn server_text(why: ServerRefusal) -> &'static str
-    ensures { result.now ≡ server_text why }
+// A refusal, with the label in place of each labelled uuid that it keeps.
+fn refusal_text(
+    alloc: Global,
+    labels: &Labels,
+    refusal: &ClientRefusal,
+) -> Result<String, AllocError>
+    ensures { IfOk result (λ text. string_bytes text ≡ relabelled labels.now (client_text refusal.now)) }
 {
-    match why {
-        ServerRefusal::Taken => "409 taken",
-        ServerRefusal::Full => "409 full",
-        ServerRefusal::StampsUsed => "409 stamps-used",
-    }
-}
-
-fn refusal_text(alloc: Global, labels: &Labels, why: &DeviceRefusal) -> Result<String, AllocError>
-    ensures { IfOk result (λ text. string_bytes text ≡ refusal_text labels.now why.now) }
-{
-    match why {
-        DeviceRefusal::NoAccount => "client.1 NoAccount".to_string(alloc),
-        DeviceRefusal::TooLong { length } => format!(in alloc; "client.4 TooLong {length}"),
-        DeviceRefusal::NotObject => "client.5 NotObject".to_string(alloc),
-        DeviceRefusal::RoundsUsed => "client.8 RoundsUsed".to_string(alloc),
-        DeviceRefusal::NoFreshUuid { drawn } => {
-            let label = labels.label(drawn);
-            format!(in alloc; "client.9 NoFreshUuid #{label}")
-        }
-        DeviceRefusal::HasAccount { identifier } => {
-            let identifier = identifier.as_str();
-            format!(in alloc; "client.13 HasAccount {identifier}")
-        }
-        DeviceRefusal::NumbersUsed { next } => format!(in alloc; "client.15 NumbersUsed {next}"),
-    }
+    let line = client_line(alloc, refusal)?;
+    labels.relabelled(alloc, line.as_str())
 }
 
 /// How an event ended.
@@ -44,13 +29,19 @@ pub(crate) fn last_text(alloc: Global, labels: &Labels, last: &Last) -> Result<S
 {
     match last {
         Last::Done => "= ok".to_string(alloc),
-        Last::Server(why) => {
-            let tag = server_text(*why);
-            format!(in alloc; "= server {tag}")
+        Last::Link => "= link".to_string(alloc),
+        Last::Server { status, tag } => {
+            let tag = tag.as_str();
+            format!(in alloc; "= server {status} {tag}")
         }
-        Last::Refused(why) => {
-            let refusal = refusal_text(alloc, labels, why)?;
+        Last::Refused(refusal) => {
+            let refusal = refusal_text(alloc, labels, refusal)?;
             format!(in alloc; "= refused {refusal}")
         }
+        Last::BadAnswer(place) => {
+            let place = place_line(alloc, place)?;
+            format!(in alloc; "= refused client.7 BadAnswer {place}")
+        }
+        Last::Answer { status } => format!(in alloc; "= answer {status}"),
     }
 }

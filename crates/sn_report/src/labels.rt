@@ -1,8 +1,8 @@
 //! Labels of items.
 
-ghost use Rattle.std.specs.Prelude.{◌≡◌, ◌↔◌, ◌<◌, ◌++◌, ℕ, List, [], ◌∷◌, Some, None, length, drop, string_bytes, IfOk, IsOk, OnOk, OnErr, IsTrue, MatchOption};
+ghost use Rattle.std.specs.Prelude.{◌≡◌, ◌↔◌, ◌<◌, ◌++◌, ℕ, List, [], ◌∷◌, Some, None, length, drop, string_bytes, IfOk, OnOk, OnErr, IsTrue, MatchOption};
 ghost use Rattle.std.specs.Fmt.{decimal};
-ghost use Rattle.sn_report.specs.Labels.{is_labelled, label_from, labelled, label_at, relabelled};
+ghost use Rattle.sn_report.specs.Labels.{is_labelled, item_at, items_of, label_from, labelled, label_at, relabelled};
 ghost use Rattle.sn_report.specs.Numbers.{AreNumbers, IsUuidBytes};
 
 use sn_string::uuid_of;
@@ -15,8 +15,8 @@ use uuid::Uuid;
 // How many bytes the text of a uuid has.
 const UUID_LEN: usize = 36;
 
-/// Items that have a label, in the order in which the labels were made: the first is `#1`. A contract
-/// sees the list of their uuids.
+/// Labels of items, in the order in which they were made: the first is `#1`. An item may have several,
+/// and is printed under the least. A contract sees the list of the uuids that they were made for.
 #[derive(Drop)]
 pub struct Labels {
     made: Vec<Uuid>,
@@ -42,7 +42,7 @@ impl Labels {
         }
     }
 
-    /// The labelled items, the first made first.
+    /// The item of each label, the first label's first.
     pub fn as_slice(&self) -> &[Uuid]
         ensures { result.now ≡ self.now }
     {
@@ -68,7 +68,31 @@ impl Labels {
         self.numbers.contains_key(uuid)
     }
 
-    /// The number of an item's label. An item without one would have the next.
+    /// The item of the label with this number.
+    pub fn item(&self, number: u64) -> Option<Uuid>
+        ensures { result ≡ item_at self.now number }
+    {
+        if number == 0 {
+            return None;
+        }
+        self.made.get((number - 1) as usize).copied()
+    }
+
+    /// The labelled items, each once, in the order of their least labels.
+    pub fn items(&self, alloc: Global) -> Result<Vec<Uuid>, AllocError>
+        ensures { IfOk result (λ items. items.items ≡ items_of self.now) }
+    {
+        let made = self.as_slice();
+        let mut items = Vec::new(alloc);
+        for (place, uuid) in made.iter().enumerate() {
+            if self.label(uuid) == place as u64 + 1 {
+                items.push(*uuid)?;
+            }
+        }
+        Ok(items)
+    }
+
+    /// The number of an item's least label. An item without one would have the next.
     pub fn label(&self, uuid: &Uuid) -> u64
         ensures { result ≡ label_from 1 self.now uuid.now }
     {
@@ -78,18 +102,18 @@ impl Labels {
         }
     }
 
-    /// Gives an item the next label, if it has none.
+    /// Gives an item the next label, also where it has one.
     pub fn add(&mut self, uuid: Uuid) -> Result<(), AllocError>
         ensures added { OnOk result (self.new ≡ labelled self.old uuid) }
         ensures refused { OnErr result (self.new ≡ self.old) }
-        ensures known { IsTrue (is_labelled self.old uuid) → IsOk result }
     {
-        if self.is_labelled(&uuid) {
-            return Ok(());
-        }
+        let labelled = self.is_labelled(&uuid);
         let _known = of_bytes(uuid.as_bytes());
         let number = self.made.len() as u64 + 1;
         self.made.push(uuid)?;
+        if labelled {
+            return Ok(());
+        }
         match self.numbers.insert(uuid, number) {
             Ok(_) => Ok(()),
             Err(_) => {

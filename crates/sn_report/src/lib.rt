@@ -11,6 +11,7 @@ mod tests;
 mod writing;
 
 pub use labels::Labels;
-pub use report::{DeviceMark, DeviceRefusal, Event, Last, Report, ServerRefusal};
+pub use moves::make_label;
+pub use report::{DeviceMark, Event, Last, Report};
 pub use showing::{account_line, device_line, draft_line, item_line, no_account_line};
 pub use writing::report_text;

@@ -1,6 +1,6 @@
 //! The lines of moves.
 
-ghost use Rattle.std.specs.Prelude.{◌≡◌, ◌++◌, IfOk, OnOk, codes, string_bytes};
+ghost use Rattle.std.specs.Prelude.{◌≡◌, ◌++◌, IfOk, OnErr, OnOk, codes, string_bytes};
 ghost use Rattle.std.specs.Fmt.{decimal};
 ghost use Rattle.sn_report.specs.Labels.{label_text, labels_after};
 ghost use Rattle.sn_report.specs.Text.{accept_text, content_text, draft_text, edit_text, move_text, moved_text, under_text};
@@ -191,15 +191,18 @@ pub(crate) fn move_text(alloc: Global, labels: &Labels, made: &Move) -> Result<S
     }
 }
 
-/// Makes the label of a new item, where the move makes one.
-pub(crate) fn make_label(labels: &mut Labels, made: &Move) -> Result<(), AllocError>
-    ensures { OnOk result (labels.new ≡ labels_after labels.old made.now) }
+/// Makes the label that the move makes, if it makes one: of an item that is forked or renamed to, or
+/// that is edited by a line that puts a new item.
+pub fn make_label(labels: &mut Labels, puts: bool, made: &Move) -> Result<(), AllocError>
+    ensures made { OnOk result (labels.new ≡ labels_after puts labels.old made.now) }
+    ensures refused { OnErr result (labels.new ≡ labels.old) }
 {
     match made {
-        Move::Edit { uuid, .. } => labels.add(*uuid),
+        Move::Edit { uuid, .. } if puts => labels.add(*uuid),
         Move::Fork { other, .. } | Move::Rename { other, .. } => labels.add(*other),
         Move::Register { .. }
         | Move::Join { .. }
+        | Move::Edit { .. }
         | Move::Drop { .. }
         | Move::Post { .. }
         | Move::Unpost { .. }

@@ -26,13 +26,14 @@ fn push_move(
     text: &mut String,
     labels: &mut Labels,
     number: u64,
+    puts: bool,
     made: &Move,
 ) -> Result<(), AllocError>
-    ensures labels { OnOk result (labels.new ≡ labels_after labels.old made.now) }
+    ensures labels { OnOk result (labels.new ≡ labels_after puts labels.old made.now) }
     ensures text { OnOk result (string_bytes text.new
-        ≡ string_bytes text.old ++ line_text number (move_text (labels_after labels.old made.now) made.now)) }
+        ≡ string_bytes text.old ++ line_text number (move_text (labels_after puts labels.old made.now) made.now)) }
 {
-    make_label(labels, made)?;
+    make_label(labels, puts, made)?;
     let line = move_text(alloc, labels, made)?;
     push_line(text, number, line.as_str())
 }
@@ -42,13 +43,14 @@ fn push_moves(
     text: &mut String,
     labels: &mut Labels,
     number: u64,
+    puts: bool,
     moves: &[Move],
 ) -> Result<(), AllocError>
-    ensures labels { OnOk result (labels.new ≡ labels_of labels.old moves.now) }
-    ensures text { OnOk result (string_bytes text.new ≡ string_bytes text.old ++ moves_text number labels.old moves.now) }
+    ensures labels { OnOk result (labels.new ≡ labels_of puts labels.old moves.now) }
+    ensures text { OnOk result (string_bytes text.new ≡ string_bytes text.old ++ moves_text number puts labels.old moves.now) }
 {
     'moves: for made in moves {
-        push_move(alloc, text, labels, number, made)?;
+        push_move(alloc, text, labels, number, puts, made)?;
     }
     Ok(())
 }
@@ -68,10 +70,11 @@ fn push_event(
     labels: &mut Labels,
     event: &Event,
 ) -> Result<(), AllocError>
-    ensures labels { OnOk result (labels.new ≡ labels_of labels.old event.now.moves) }
+    ensures labels { OnOk result (labels.new ≡ labels_of event.now.puts labels.old event.now.moves) }
     ensures text { OnOk result (string_bytes text.new ≡ string_bytes text.old ++ event_text labels.old event.now) }
 {
-    push_moves(alloc, text, labels, event.number, event.moves.as_slice())?;
+    let moves = event.moves.as_slice();
+    push_moves(alloc, text, labels, event.number, event.puts, moves)?;
     push_shown(text, event.number, event.shown.as_slice())?;
     let last = last_text(alloc, labels, &event.last)?;
     push_line(text, event.number, last.as_str())?;

@@ -36,7 +36,7 @@ take_all zero (x ∷ xs) h = absurd (omega (arith, h))
 take_all (suc n) [] h = refl
 take_all (suc n) (x ∷ xs) h = ap (λ ys. x ∷ ys) (take_all n xs (omega (arith, h)))
 
-pub rest_is : (n : ℕ) (w : List ℕ) → take (length w - n) (drop n w) ≡ drop n w
+pub rest_is : {A : Type 0} (n : ℕ) (w : List A) → take (length w - n) (drop n w) ≡ drop n w
 rest_is n w = take_all (length w - n) (drop n w) (omega (arith, length-drop n w))
 
 pub length_front : {A : Type 0} (n : ℕ) (xs : List A) → n ≤ length xs → length (take n xs) ≡ n

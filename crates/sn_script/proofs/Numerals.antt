@@ -1,5 +1,5 @@
 -- What `parse` reads of a number.
-use Rattle.std.proofs.Common.{rules, arith, ◌≡◌, ◌<◌, ◌≤◌, ◌^◌, ◌*◌, ◌+◌, ◌-◌, ℕ, zero, suc, List, [], ◌∷◌, length, get_or, true, Result, Ok, Err, IfSome, IsNone, IsTrue, sym, ◌∙◌, ap, subst}
+use Rattle.std.proofs.Common.{rules, arith, ◌≡◌, ◌<◌, ◌≤◌, ◌^◌, ◌*◌, ◌+◌, ◌-◌, ℕ, zero, suc, List, [], ◌∷◌, length, get_or, true, Result, Ok, Err, IfSome, IsNone, sym, ◌∙◌, ap, subst}
 use Rattle.std.specs.Fmt.{decimal}
 use Rattle.std.specs.List.{list_all}
 use Rattle.std.specs.Result.{OkIff, result_ok}

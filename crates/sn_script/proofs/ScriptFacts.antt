@@ -1,8 +1,8 @@
 -- The lines of a script so far.
-use Rattle.std.proofs.Common.{rules, arith, ◌≡◌, ◌<◌, ◌+◌, ℕ, zero, suc, List, [], ◌∷◌, ◌++◌, length, Some, slice_get, ap, sym, ◌∙◌, subst, refl, map, take, get_or, Option, None, add-one}
+use Rattle.std.proofs.Common.{arith, ◌≡◌, ◌<◌, ◌+◌, ℕ, zero, suc, List, [], ◌∷◌, ◌++◌, length, Some, slice_get, ap, sym, ◌∙◌, subst, refl, map, take, get_or, Option, None, add-one, Bool, true, false, IsTrue, ◌↔◌}
 use Rattle.std.specs.Option.{MatchOption}
-use Rattle.sn_script.specs.Grammar.{Word, parts}
-use Rattle.sn_script.specs.Scripts.{AreLinesFrom, IsLineAt, IsFirstWrong, lines_of}
+use Rattle.sn_script.specs.Grammar.{Word, parts, IsLine}
+use Rattle.sn_script.specs.Scripts.{AreLinesFrom, IsLineAt, IsFirstWrong, MayStandAt, lines_of}
 use Rattle.sn_script.specs.declared.script.Line.{Line}
 use Rattle.sn_script.proofs.LineFacts.{one_line}
 use Rattle.sn_script.proofs.Lists.{get_map, get_take, map-take, one_more_text, size_front}
@@ -59,6 +59,14 @@ pub line_found : (place : ℕ) (text : Word) (o : Option Line) (l : Line) → Ma
     → o ≡ Some l → IsLineAt place text l
 line_found place text o l h e =
     let M : Option Line → Type 0 = λ p. MatchOption p ((m : Line) → ¬ (IsLineAt place text m)) (IsLineAt place text) in subst M e h
+
+-- a line that may not stand at its place leaves the text without one
+pub stands_nowhere : (place : ℕ) (text : Word) (l : Line) (b : Bool) → IsLine (parts 32 text) l → (IsTrue b ↔ MayStandAt place l) → b ≡ false
+    → (m : Line) → ¬ (IsLineAt place text m)
+stands_nowhere place text l b h decides none m is =
+    let same : m ≡ l = one_line (parts 32 text) m l is.0 h in
+    let t : b ≡ true = decides.1 (subst (MayStandAt place) same is.1) in
+    absurd (cc)
 
 -- a text that is no line is the first
 pub first_wrong : {A : Type 0} (f : A → Word) (text : List ℕ) (texts : List A) (lines : List Line) (place : ℕ) (d : A) → map f texts ≡ lines_of text

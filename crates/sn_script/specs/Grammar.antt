@@ -3,8 +3,12 @@ use Rattle.std.specs.Prelude.{◌≡◌, ◌⊎◌, ℕ, ◌^◌, ◌<◌, ◌�
 use Rattle.std.specs.Fmt.{decimal}
 use Rattle.std.specs.List.{list_all, join_with_byte, slice_split}
 use Rattle.sn_string.specs.Hex.{IsLowerHex}
+use Rattle.sn_script.specs.declared.script.Fate.{Fate}
+use Rattle.sn_script.specs.declared.script.Fate.TheVariants as fate
 use Rattle.sn_script.specs.declared.script.Line.{Line}
 use Rattle.sn_script.specs.declared.script.Line.TheVariants as line
+use Rattle.sn_script.specs.declared.script.Ordinal.{Ordinal}
+use Rattle.sn_script.specs.declared.script.Ordinal.TheVariants as ordinal
 
 abbrev pub Word : Type 0
 Word = List ℕ
@@ -30,6 +34,11 @@ pub record IsNumber (w : Word) : Type 0 where
   pub digits : IsTrue (list_all is_digit w)
   pub plain : slice_index w 0 ≡ 48 → length w ≡ 1
 
+-- the number says which one: its value, or, where no value of 64 bits is written so, one beyond all that there are
+abbrev pub IsOrdinal : Word → Ordinal → Type 0
+IsOrdinal w (ordinal.Nth n) = (w ≡ decimal n) × (n < 2 ^ 64)
+IsOrdinal w ordinal.Beyond = IsNumber w × ((n : ℕ) → n < 2 ^ 64 → ¬ (w ≡ decimal n))
+
 -- a device's name: 1 to 8 letters or digits
 pub record IsName (w : Word) : Type 0 where
   pub some : 1 ≤ length w
@@ -40,6 +49,10 @@ pub record IsName (w : Word) : Type 0 where
 abbrev pub IsShort : Word → Type 0
 IsShort w = (1 ≤ length w) × (length w ≤ 254)
 
+-- a label: its number behind a #
+abbrev pub IsLabel : Word → Ordinal → Type 0
+IsLabel w which = (number : Word) × (w ≡ 35 ∷ number) × IsOrdinal number which
+
 -- what a stopped disk holds: nothing since its last sync, all of it, or one byte, in two hex digits, at every unsynced place
 abbrev pub IsImage : Word → Type 0
 IsImage w = (w ≡ codes "old") ⊎ (w ≡ codes "new")
@@ -49,9 +62,9 @@ IsImage w = (w ≡ codes "old") ⊎ (w ≡ codes "new")
 abbrev pub IsNamed : Word → (Word → Type 0) → Word → Type 0
 IsNamed name Form w = (rest : Word) × (w ≡ name ++ rest) × Form rest
 
--- nothing, or a number behind an equals sign
-abbrev pub IsCount : Word → Type 0
-IsCount w = (w ≡ []) ⊎ ((number : Word) × (w ≡ 61 ∷ number) × IsNumber number)
+-- which one is said behind a name: the first by nothing, any by its number behind an equals sign
+abbrev pub IsCount : Word → Ordinal → Type 0
+IsCount w which = ((w ≡ []) × (which ≡ ordinal.Nth 1)) ⊎ ((number : Word) × (w ≡ 61 ∷ number) × IsOrdinal number which)
 
 -- a number and an image, with a colon between them
 abbrev pub IsPlace : Word → Type 0
@@ -61,28 +74,64 @@ IsPlace w = (number : Word) × (image : Word) × (w ≡ number ++ 58 ∷ image) 
 abbrev pub IsStop : Word → Type 0
 IsStop w = (place : Word) × (w ≡ 61 ∷ place) × IsPlace place
 
--- which request isn't delivered, or which reply is lost
-abbrev pub IsLoss : Word → Type 0
-IsLoss w = IsNamed (codes "drop-request") IsCount w ⊎ IsNamed (codes "drop-reply") IsCount w
+-- the word says the loss: which request isn't delivered, or which one's reply is lost
+abbrev pub IsLoss : Word → Fate → Type 0
+IsLoss w (fate.DropRequest which) = IsNamed (codes "drop-request") (λ rest. IsCount rest which) w
+IsLoss w (fate.DropReply which) = IsNamed (codes "drop-reply") (λ rest. IsCount rest which) w
 
 -- where a disk stops
 abbrev pub IsDiskStop : Word → Type 0
 IsDiskStop w = IsNamed (codes "stop-device") IsStop w ⊎ IsNamed (codes "stop-server") IsStop w
 
--- a fate. No line has one yet, and no text begins with one
+-- a fate. Where a disk stops is none that a line may have yet, and no text begins with it either
 unfoldable pub IsFate : Word → Type 0
-IsFate w = IsLoss w ⊎ IsDiskStop w
+IsFate w = ((loss : Fate) × IsLoss w loss) ⊎ IsDiskStop w
+
+-- words that say losses, each one
+abbrev pub AreLosses : List Word → List Fate → Type 0
+AreLosses [] [] = Unit {0}
+AreLosses (w ∷ ws) (f ∷ fs) = IsLoss w f × AreLosses ws fs
+AreLosses [] (f ∷ fs) = ⊥
+AreLosses (w ∷ ws) [] = ⊥
+
+-- losses, and behind them the words of a text: one at least, and the first of them no fate
+pub record IsTextBehind (ws : List Word) (fates : List Fate) (text : List ℕ) : Type 0 where
+  pub losses : List Word
+  pub first : Word
+  pub more : List Word
+  pub words_are : ws ≡ losses ++ first ∷ more
+  pub lost : AreLosses losses fates
+  pub no_fate : ¬ (IsFate first)
+  pub text_is : text ≡ join_with_byte 32 (first ∷ more)
+
+-- a device, an identifier and a password, and losses
+pub record IsEntry (ws : List Word) (device identifier password : Word) (fates : List Fate) : Type 0 where
+  pub losses : List Word
+  pub words_are : ws ≡ device ∷ identifier ∷ password ∷ losses
+  pub named : IsName device
+  pub identified : IsShort identifier
+  pub known : IsShort password
+  pub lost : AreLosses losses fates
 
 -- the words spell the line
 abbrev pub IsLine : List Word → Line → Type 0
 IsLine ws (line.Seed bytes) = (digits : Word) × (ws ≡ codes "seed" ∷ digits ∷ []) × IsLowerHex 32 digits bytes
 IsLine ws (line.Cost n) = (ws ≡ codes "cost" ∷ decimal n ∷ []) × (1 ≤ n) × (n ≤ 1000000)
 IsLine ws (line.Clock n) = (ws ≡ codes "clock" ∷ decimal n ∷ []) × (n < 2 ^ 64)
-IsLine ws (line.Register device identifier password) =
-    (ws ≡ codes "register" ∷ device ∷ identifier ∷ password ∷ []) × IsName device × IsShort identifier × IsShort password
-IsLine ws (line.Put device text) = (w : Word) × (more : List Word) × (ws ≡ codes "put" ∷ device ∷ w ∷ more) × IsName device × ¬ (IsFate w)
-    × (text ≡ join_with_byte 32 (w ∷ more))
-IsLine ws (line.Sync device) = (ws ≡ codes "sync" ∷ device ∷ []) × IsName device
+IsLine ws (line.Register device identifier password fates) =
+    (rest : List Word) × (ws ≡ codes "register" ∷ rest) × IsEntry rest device identifier password fates
+IsLine ws (line.SignIn device identifier password fates) =
+    (rest : List Word) × (ws ≡ codes "signin" ∷ rest) × IsEntry rest device identifier password fates
+IsLine ws (line.Put device fates text) =
+    (rest : List Word) × (ws ≡ codes "put" ∷ device ∷ rest) × IsName device × IsTextBehind rest fates text
+IsLine ws (line.Edit device label fates text) = (number : Word) × (rest : List Word)
+    × (ws ≡ codes "edit" ∷ device ∷ number ∷ rest) × IsName device × IsLabel number label × IsTextBehind rest fates text
+IsLine ws (line.Delete device label fates) = (number : Word) × (losses : List Word)
+    × (ws ≡ codes "del" ∷ device ∷ number ∷ losses) × IsName device × IsLabel number label × AreLosses losses fates
+IsLine ws (line.Sync device fates) =
+    (losses : List Word) × (ws ≡ codes "sync" ∷ device ∷ losses) × IsName device × AreLosses losses fates
+IsLine ws (line.Late device request) =
+    (number : Word) × (ws ≡ codes "late" ∷ device ∷ number ∷ []) × IsName device × IsOrdinal number request
 IsLine ws line.Show = ws ≡ codes "show" ∷ []
 
 -- what is found of the words is their line, or nothing where they spell none

@@ -1,14 +1,15 @@
 // The lines, one function a command. Each takes the words behind the command's.
-ghost use Rattle.std.specs.Prelude.{◌≡◌, ◌≤◌, ◌∷◌, List, ℕ, codes, map, IfNone, IfOk, IfSome};
+ghost use Rattle.std.specs.Prelude.{◌≡◌, ◌≤◌, ◌∷◌, List, ℕ, codes, map, IfNone, IfOk, IfSome, MatchOption};
 ghost use Rattle.std.specs.Fmt.{decimal};
-ghost use Rattle.std.specs.List.{join_with_byte};
-ghost use Rattle.sn_script.specs.Grammar.{IsLine, IsReading};
+ghost use Rattle.sn_script.specs.Grammar.{IsEntry, IsLine, IsReading};
+ghost use Rattle.sn_script.specs.declared.script.Fate.{Fate};
 ghost use Rattle.sn_script.specs.declared.script.Line.{Line};
 
-use crate::fates::is_fate;
-use crate::script::Line;
-use crate::words::{is_name, is_short, number};
-use sn_string::{Text, hash_bytes};
+use crate::fates::losses;
+use crate::script::{Fate, Line};
+use crate::texts::{TextBehind, text_behind};
+use crate::words::{is_name, is_short, label_of, number, ordinal_of};
+use sn_string::{Many, Text, hash_bytes};
 use std::alloc::{AllocError, Global};
 
 pub fn seed_line(words: &[&str]) -> Option<Line>
@@ -64,50 +65,131 @@ pub fn clock_line(words: &[&str]) -> Option<Line>
     }
 }
 
-pub fn register_line(alloc: Global, words: &[&str]) -> Result<Option<Line>, AllocError>
-    ensures { IfOk result (IsReading (codes "register" ∷ map (λ w. w.now) words.now)) }
+// What an account begins with, and what a device signs in with.
+#[derive(Drop)]
+struct Entry {
+    device: Text,
+    identifier: Text,
+    password: Text,
+    fates: Many<Fate>,
+}
+
+fn entry_of(alloc: Global, words: &[&str]) -> Result<Option<Entry>, AllocError>
+    ensures { IfOk result (λ found. MatchOption found
+        ((device identifier password : List ℕ) (fates : List Fate) → ¬ (IsEntry (map (λ w. w.now) words.now) device identifier password fates))
+        (λ e. IsEntry (map (λ w. w.now) words.now) e.device e.identifier e.password e.fates)) }
 {
     match words {
-        [device, identifier, password] => {
-            if is_name(device) && is_short(identifier) && is_short(password) {
-                Ok(Some(Line::Register {
+        [device, identifier, password, rest @ ..] => {
+            if !is_name(device) || !is_short(identifier) || !is_short(password) {
+                return Ok(None);
+            }
+            match losses(alloc, rest)? {
+                Some(fates) => Ok(Some(Entry {
                     device: Text::of(alloc, device)?,
                     identifier: Text::of(alloc, identifier)?,
                     password: Text::of(alloc, password)?,
-                }))
-            } else {
-                Ok(None)
+                    fates,
+                })),
+                None => Ok(None),
             }
         }
         _ => Ok(None),
     }
 }
 
-// The words with a blank between each two.
-
-fn joined(alloc: Global, first: &str, more: &[&str]) -> Result<Text, AllocError>
-    ensures { IfOk result (λ text. text ≡ join_with_byte 32 (first.now ∷ map (λ w. w.now) more.now)) }
+pub fn register_line(alloc: Global, words: &[&str]) -> Result<Option<Line>, AllocError>
+    ensures { IfOk result (IsReading (codes "register" ∷ map (λ w. w.now) words.now)) }
 {
-    let mut text = first.to_string(alloc)?;
-    for word in more {
-        text.push(' ')?;
-        text.push_str(word)?;
+    match entry_of(alloc, words)? {
+        Some(entry) => Ok(Some(Line::Register {
+            device: entry.device,
+            identifier: entry.identifier,
+            password: entry.password,
+            fates: entry.fates,
+        })),
+        None => Ok(None),
     }
-    Ok(Text::of_string(text))
+}
+
+pub fn sign_in_line(alloc: Global, words: &[&str]) -> Result<Option<Line>, AllocError>
+    ensures { IfOk result (IsReading (codes "signin" ∷ map (λ w. w.now) words.now)) }
+{
+    match entry_of(alloc, words)? {
+        Some(entry) => Ok(Some(Line::SignIn {
+            device: entry.device,
+            identifier: entry.identifier,
+            password: entry.password,
+            fates: entry.fates,
+        })),
+        None => Ok(None),
+    }
 }
 
 pub fn put_line(alloc: Global, words: &[&str]) -> Result<Option<Line>, AllocError>
     ensures { IfOk result (IsReading (codes "put" ∷ map (λ w. w.now) words.now)) }
 {
     match words {
-        [device, first, more @ ..] => {
-            if is_name(device) && !is_fate(first) {
-                Ok(Some(Line::Put {
+        [device, rest @ ..] => {
+            if !is_name(device) {
+                return Ok(None);
+            }
+            match text_behind(alloc, rest)? {
+                Some(TextBehind { fates, text }) => Ok(Some(Line::Put {
                     device: Text::of(alloc, device)?,
-                    text: joined(alloc, first, more)?,
-                }))
-            } else {
-                Ok(None)
+                    fates,
+                    text,
+                })),
+                None => Ok(None),
+            }
+        }
+        _ => Ok(None),
+    }
+}
+
+pub fn edit_line(alloc: Global, words: &[&str]) -> Result<Option<Line>, AllocError>
+    ensures { IfOk result (IsReading (codes "edit" ∷ map (λ w. w.now) words.now)) }
+{
+    match words {
+        [device, number, rest @ ..] => {
+            if !is_name(device) {
+                return Ok(None);
+            }
+            let Some(label) = label_of(number) else {
+                return Ok(None);
+            };
+            match text_behind(alloc, rest)? {
+                Some(TextBehind { fates, text }) => Ok(Some(Line::Edit {
+                    device: Text::of(alloc, device)?,
+                    label,
+                    fates,
+                    text,
+                })),
+                None => Ok(None),
+            }
+        }
+        _ => Ok(None),
+    }
+}
+
+pub fn delete_line(alloc: Global, words: &[&str]) -> Result<Option<Line>, AllocError>
+    ensures { IfOk result (IsReading (codes "del" ∷ map (λ w. w.now) words.now)) }
+{
+    match words {
+        [device, number, rest @ ..] => {
+            if !is_name(device) {
+                return Ok(None);
+            }
+            let Some(label) = label_of(number) else {
+                return Ok(None);
+            };
+            match losses(alloc, rest)? {
+                Some(fates) => Ok(Some(Line::Delete {
+                    device: Text::of(alloc, device)?,
+                    label,
+                    fates,
+                })),
+                None => Ok(None),
             }
         }
         _ => Ok(None),
@@ -118,13 +200,36 @@ pub fn sync_line(alloc: Global, words: &[&str]) -> Result<Option<Line>, AllocErr
     ensures { IfOk result (IsReading (codes "sync" ∷ map (λ w. w.now) words.now)) }
 {
     match words {
-        [device] => {
-            if is_name(device) {
-                Ok(Some(Line::Sync {
+        [device, rest @ ..] => {
+            if !is_name(device) {
+                return Ok(None);
+            }
+            match losses(alloc, rest)? {
+                Some(fates) => Ok(Some(Line::Sync {
                     device: Text::of(alloc, device)?,
-                }))
-            } else {
-                Ok(None)
+                    fates,
+                })),
+                None => Ok(None),
+            }
+        }
+        _ => Ok(None),
+    }
+}
+
+pub fn late_line(alloc: Global, words: &[&str]) -> Result<Option<Line>, AllocError>
+    ensures { IfOk result (IsReading (codes "late" ∷ map (λ w. w.now) words.now)) }
+{
+    match words {
+        [device, number] => {
+            if !is_name(device) {
+                return Ok(None);
+            }
+            match ordinal_of(number) {
+                Some(request) => Ok(Some(Line::Late {
+                    device: Text::of(alloc, device)?,
+                    request,
+                })),
+                None => Ok(None),
             }
         }
         _ => Ok(None),

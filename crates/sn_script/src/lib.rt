@@ -7,10 +7,11 @@ pub mod laws;
 mod lines;
 pub mod reader;
 pub mod script;
+mod texts;
 mod words;
 
 pub use reader::read_script;
-pub use script::{Line, Script, ScriptError};
+pub use script::{Fate, Line, Ordinal, Script, ScriptError};
 
 #[cfg(test)]
 mod tests;

@@ -5,7 +5,8 @@ ghost use Rattle.sn_script.specs.Scripts.{IsLineAt, MayStandAt};
 ghost use Rattle.sn_script.specs.declared.script.Line.{Line};
 
 use crate::commands::{
-    clock_line, cost_line, put_line, register_line, seed_line, show_line, sync_line,
+    clock_line, cost_line, delete_line, edit_line, late_line, put_line, register_line, seed_line,
+    show_line, sign_in_line, sync_line,
 };
 use crate::script::Line;
 use std::alloc::{AllocError, Global};
@@ -26,8 +27,12 @@ fn line_of(alloc: Global, words: &[&str]) -> Result<Option<Line>, AllocError>
             "cost" => Ok(cost_line(rest)),
             "clock" => Ok(clock_line(rest)),
             "register" => register_line(alloc, rest),
+            "signin" => sign_in_line(alloc, rest),
             "put" => put_line(alloc, rest),
+            "edit" => edit_line(alloc, rest),
+            "del" => delete_line(alloc, rest),
             "sync" => sync_line(alloc, rest),
+            "late" => late_line(alloc, rest),
             "show" => Ok(show_line(rest)),
             _ => Ok(None),
         },

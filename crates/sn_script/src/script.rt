@@ -7,6 +7,24 @@ use sn_string::{Many, Text};
 use std::alloc::AllocError;
 use thiserror::Error;
 
+/// Which one of several a line names, the first being 1: a request that the line makes, a label, or a
+/// request that the device ever made.
+#[derive(Clone, Copy, Debug, PartialEq, Eq)]
+pub enum Ordinal {
+    Nth(u64),
+    /// A number of more than 64 bits. There are never so many of anything.
+    Beyond,
+}
+
+/// What is lost of the requests that a line makes. Where it makes fewer, nothing is.
+#[derive(Clone, Copy, Debug, PartialEq, Eq)]
+pub enum Fate {
+    /// This request isn't delivered.
+    DropRequest(Ordinal),
+    /// This request is delivered, and its answer is lost.
+    DropReply(Ordinal),
+}
+
 /// A line of a script.
 #[derive(Drop)]
 pub enum Line {
@@ -19,17 +37,43 @@ pub enum Line {
     Register {
         /// A name of 1 to 8 letters or digits, here and below.
         device: Text,
-        /// 1 to 254 bytes, as the password.
+        /// 1 to 254 bytes, as the password; so where a device signs in.
         identifier: Text,
         password: Text,
+        fates: Many<Fate>,
+    },
+    SignIn {
+        device: Text,
+        identifier: Text,
+        password: Text,
+        fates: Many<Fate>,
     },
     /// A new item with this content.
     Put {
         device: Text,
+        fates: Many<Fate>,
         text: Text,
+    },
+    /// The item of this label gets this content. No label has number 0.
+    Edit {
+        device: Text,
+        label: Ordinal,
+        fates: Many<Fate>,
+        text: Text,
+    },
+    Delete {
+        device: Text,
+        label: Ordinal,
+        fates: Many<Fate>,
     },
     Sync {
         device: Text,
+        fates: Many<Fate>,
+    },
+    /// Of the requests that the device ever made, delivered or not, this one is delivered once more.
+    Late {
+        device: Text,
+        request: Ordinal,
     },
     Show,
 }

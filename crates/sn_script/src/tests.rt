@@ -1,10 +1,10 @@
 //! What the clauses mean at written scripts.
 
 use super::*;
-use sn_string::hex_text;
+use sn_string::{Many, Text, hex_text};
 use std::alloc::{AllocError, Global};
 use std::test::Fail;
-use tables::{ACCOUNTS, FATES, LAYOUT, SETTINGS, TEXTS};
+use tables::{ACCOUNTS, FATES, ITEMS, LAYOUT, LOSSES, SETTINGS, TEXTS};
 
 mod tables;
 
@@ -34,6 +34,82 @@ fn push_broken(text: &mut String, piece: &str) -> Result<(), AllocError> {
     Ok(())
 }
 
+fn ordinal_shown(alloc: Global, which: Ordinal) -> Result<String, AllocError> {
+    match which {
+        Ordinal::Nth(number) => format!(in alloc; "{number}"),
+        Ordinal::Beyond => "beyond".to_string(alloc),
+    }
+}
+
+fn label_shown(alloc: Global, device: &Text, which: Ordinal) -> Result<String, AllocError> {
+    let device = device.as_str();
+    let which = ordinal_shown(alloc, which)?;
+    format!(in alloc; "[{device}][{which}]")
+}
+
+fn fates_shown(alloc: Global, fates: &Many<Fate>) -> Result<String, AllocError> {
+    let mut all = String::new(alloc);
+    for fate in fates.as_slice() {
+        let (what, which) = match fate {
+            Fate::DropRequest(which) => ("request", *which),
+            Fate::DropReply(which) => ("reply", *which),
+        };
+        let which = ordinal_shown(alloc, which)?;
+        all.push_str(format!(in alloc; "<{what} {which}>")?.as_str())?;
+    }
+    Ok(all)
+}
+
+fn entry_shown(
+    alloc: Global,
+    command: &str,
+    names: [&Text; 3],
+    fates: &Many<Fate>,
+) -> Result<String, AllocError> {
+    let [device, identifier, password] = names;
+    let device = device.as_str();
+    let identifier = identifier.as_str();
+    let password = password.as_str();
+    let fates = fates_shown(alloc, fates)?;
+    format!(in alloc; "{command}[{device}][{identifier}][{password}]{fates}")
+}
+
+fn item_shown(alloc: Global, line: &Line) -> Result<String, AllocError> {
+    match line {
+        Line::Put {
+            device,
+            fates,
+            text,
+        } => {
+            let device = device.as_str();
+            let fates = fates_shown(alloc, fates)?;
+            let text = text.as_str();
+            format!(in alloc; "put[{device}]{fates}[{text}]")
+        }
+        Line::Edit {
+            device,
+            label,
+            fates,
+            text,
+        } => {
+            let item = label_shown(alloc, device, *label)?;
+            let fates = fates_shown(alloc, fates)?;
+            let text = text.as_str();
+            format!(in alloc; "edit{item}{fates}[{text}]")
+        }
+        Line::Delete {
+            device,
+            label,
+            fates,
+        } => {
+            let item = label_shown(alloc, device, *label)?;
+            let fates = fates_shown(alloc, fates)?;
+            format!(in alloc; "del{item}{fates}")
+        }
+        _ => "other".to_string(alloc),
+    }
+}
+
 fn shown(alloc: Global, line: &Line) -> Result<String, AllocError> {
     match line {
         Line::Seed(bytes) => {
@@ -46,20 +122,23 @@ fn shown(alloc: Global, line: &Line) -> Result<String, AllocError> {
             device,
             identifier,
             password,
-        } => {
+            fates,
+        } => entry_shown(alloc, "register", [device, identifier, password], fates),
+        Line::SignIn {
+            device,
+            identifier,
+            password,
+            fates,
+        } => entry_shown(alloc, "signin", [device, identifier, password], fates),
+        Line::Put { .. } | Line::Edit { .. } | Line::Delete { .. } => item_shown(alloc, line),
+        Line::Sync { device, fates } => {
             let device = device.as_str();
-            let identifier = identifier.as_str();
-            let password = password.as_str();
-            format!(in alloc; "register[{device}][{identifier}][{password}]")
+            let fates = fates_shown(alloc, fates)?;
+            format!(in alloc; "sync[{device}]{fates}")
         }
-        Line::Put { device, text } => {
-            let device = device.as_str();
-            let text = text.as_str();
-            format!(in alloc; "put[{device}][{text}]")
-        }
-        Line::Sync { device } => {
-            let device = device.as_str();
-            format!(in alloc; "sync[{device}]")
+        Line::Late { device, request } => {
+            let request = label_shown(alloc, device, *request)?;
+            format!(in alloc; "late{request}")
         }
         Line::Show => "show".to_string(alloc),
     }
@@ -93,7 +172,7 @@ fn is_answered(alloc: Global, row: &str) -> Result<bool, Fail> {
 #[test]
 fn reads_or_refuses(rt: HostRuntime) -> Result<(), Fail> {
     let mut rows = 0u32;
-    for table in [LAYOUT, SETTINGS, ACCOUNTS, TEXTS, FATES] {
+    for table in [LAYOUT, SETTINGS, ACCOUNTS, TEXTS, FATES, ITEMS, LOSSES] {
         for row in table.lines() {
             if !row.is_empty() {
                 assert!(rt; is_answered(rt.alloc(), row)?, "{row}");
@@ -101,6 +180,6 @@ fn reads_or_refuses(rt: HostRuntime) -> Result<(), Fail> {
             }
         }
     }
-    assert_eq!(rt; rows, 136);
+    assert_eq!(rt; rows, 217);
     Ok(())
 }

@@ -1,8 +1,11 @@
 // The forms of single words.
-ghost use Rattle.std.specs.Prelude.{◌≡◌, ◌<◌, ◌≤◌, ◌^◌, ◌↔◌, ◌&&◌, ◌||◌, ℕ, length, nat_le, slice_index, IfNone, IfSome, IsTrue};
+ghost use Rattle.std.specs.Prelude.{◌≡◌, ◌<◌, ◌≤◌, ◌^◌, ◌↔◌, ◌&&◌, ◌||◌, ℕ, length, nat_le, slice_index, IfNone, IfSome, IsTrue, MatchOption};
 ghost use Rattle.std.specs.Fmt.{decimal};
 ghost use Rattle.std.specs.List.{list_all};
-ghost use Rattle.sn_script.specs.Grammar.{is_digit, is_letter_or_digit, IsName, IsNumber, IsShort};
+ghost use Rattle.sn_script.specs.Grammar.{is_digit, is_letter_or_digit, IsLabel, IsName, IsNumber, IsOrdinal, IsShort};
+ghost use Rattle.sn_script.specs.declared.script.Ordinal.{Ordinal};
+
+use crate::script::Ordinal;
 
 pub fn is_digit(c: u8) -> bool
     ensures { result ≡ is_digit c }
@@ -64,5 +67,29 @@ pub fn number(word: &str) -> Option<u64>
         word.parse().ok()
     } else {
         None
+    }
+}
+
+/// Which one the word says: a decimal number, however long, without sign or leading zero.
+pub fn ordinal_of(word: &str) -> Option<Ordinal>
+    ensures { MatchOption result ((which : Ordinal) → ¬ (IsOrdinal word.now which)) (IsOrdinal word.now) }
+{
+    if let Some(number) = number(word) {
+        return Some(Ordinal::Nth(number));
+    }
+    if is_number(word.as_bytes()) {
+        Some(Ordinal::Beyond)
+    } else {
+        None
+    }
+}
+
+/// Which label the word is.
+pub fn label_of(word: &str) -> Option<Ordinal>
+    ensures { MatchOption result ((which : Ordinal) → ¬ (IsLabel word.now which)) (IsLabel word.now) }
+{
+    match word.strip_prefix('#') {
+        Some(number) => ordinal_of(number),
+        None => None,
     }
 }

@@ -11,7 +11,7 @@ use Rattle.sn_laws.specs.Lookups.{Bytes, is_of, last_of}
 use Rattle.sn_laws.specs.declared.ideal.Account.{Account}
 use Rattle.sn_laws.specs.declared.ideal.Body.{Body}
 use Rattle.sn_laws.specs.declared.ideal.Version.{Version}
-use Rattle.sn_report.specs.Labels.{Labels}
+use Rattle.sn_report.specs.Labels.{Labels, items_of}
 use Rattle.sn_report.specs.Showing.{account_lines, account_text, item_text, last_set_text, version_lines, version_text}
 use Rattle.sn_rows.specs.Table.{Rows}
 use Rattle.sn_rows.specs.declared.key.Key.TheVariants as key
@@ -203,22 +203,23 @@ item_added_on (Ok x) accounts labels front uuid row line lists now r is line_is 
 
 -- the lines of all items
 
-pub items_more : (accounts : List Account) (labels items : Labels) (index : ℕ) (uuid : Bytes) (lists : List (List Bytes)) → items ≡ labels
-    → index < length items → uuid ≡ get_or items index uuid → lists ≡ map (lines_so_far labels (take index labels ++ uuid ∷ [])) accounts
-    → lists ≡ map (lines_so_far labels (take (index + 1) labels)) accounts
+pub items_more : (accounts : List Account) (labels : Labels) (items : List Bytes) (index : ℕ) (uuid : Bytes) (lists : List (List Bytes))
+    → items ≡ items_of labels → index < length items → uuid ≡ get_or items index uuid
+    → lists ≡ map (lines_so_far labels (take index (items_of labels) ++ uuid ∷ [])) accounts
+    → lists ≡ map (lines_so_far labels (take (index + 1) (items_of labels))) accounts
 items_more accounts labels items index uuid lists same lt at is =
-    let within : index < length labels = subst (λ (us : List Bytes). index < length us) same lt in
-    let there : uuid ≡ get_or labels index uuid = subst (λ (us : List Bytes). uuid ≡ get_or us index uuid) same at in
-    is ∙ ap (λ (front : List Bytes). map (lines_so_far labels front) accounts) (sym (taken labels index uuid within there))
+    let within : index < length (items_of labels) = subst (λ (us : List Bytes). index < length us) same lt in
+    let there : uuid ≡ get_or (items_of labels) index uuid = subst (λ (us : List Bytes). uuid ≡ get_or us index uuid) same at in
+    is ∙ ap (λ (front : List Bytes). map (lines_so_far labels front) accounts) (sym (taken (items_of labels) index uuid within there))
 
-pub items_all : (accounts : List Account) (labels items : Labels) (index : ℕ) (lists : List (List Bytes)) → items ≡ labels → length items ≤ index
-    → lists ≡ map (lines_so_far labels (take index labels)) accounts
+pub items_all : (accounts : List Account) (labels : Labels) (items : List Bytes) (index : ℕ) (lists : List (List Bytes))
+    → items ≡ items_of labels → length items ≤ index → lists ≡ map (lines_so_far labels (take index (items_of labels))) accounts
     → flat_map (λ (list : List Bytes). list) lists ≡ flat_map (account_lines labels) accounts
 items_all accounts labels items index lists same all is =
-    let within : length labels ≤ index = subst (λ (us : List Bytes). length us ≤ index) same all in
+    let within : length (items_of labels) ≤ index = subst (λ (us : List Bytes). length us ≤ index) same all in
     ap (λ (ls : List (List Bytes)). flat_map (λ (list : List Bytes). list) ls)
-    (is ∙ ap (λ (front : List Bytes). map (lines_so_far labels front) accounts) (take_all index labels within))
-    ∙ flat_map-map (λ (list : List Bytes). list) (lines_so_far labels labels) accounts
+    (is ∙ ap (λ (front : List Bytes). map (lines_so_far labels front) accounts) (take_all index (items_of labels) within))
+    ∙ flat_map-map (λ (list : List Bytes). list) (lines_so_far labels (items_of labels)) accounts
 
 pub joined : {T E : Type 0} (result : Result T E) (before after xs ys : List Bytes) → OnOk result (after ≡ before ++ xs) → xs ≡ ys
     → OnOk result (after ≡ before ++ ys)

@@ -9,20 +9,19 @@ use Rattle.sn_laws.specs.declared.ideal.Account.{Account}
 use Rattle.sn_laws.specs.declared.ideal.Device.{Device}
 use Rattle.sn_laws.specs.declared.ideal.Draft.{Draft}
 use Rattle.sn_laws.specs.declared.ideal.Ideal.{Ideal}
-use Rattle.sn_report.specs.Labels.{Labels}
+use Rattle.sn_report.specs.Labels.{Labels, items_of}
 use Rattle.sn_report.specs.Showing.{device_lines, device_text, draft_lines, none_text, sets_text}
 use Rattle.sn_rows.specs.Table.{Rows}
 use Rattle.sn_shows.specs.Devices.{ShowsDevice, ShowsDeviceAs, ShowsDrafted, ShowsHolder, ShowsNothing}
 use Rattle.sn_shown.specs.Drafts.{ShowsDrafts}
 use Rattle.sn_shown.specs.Held.{IsHolding, numbers_of}
-use Rattle.sn_shown.specs.Shown.{AreDistinct}
 use Rattle.sn_shown.specs.declared.holding.Holding.{Holding}
 use Rattle.sn_shown.proofs.Finds.{one_found}
 use Rattle.sn_shown.proofs.HoldingLemmas.{Owned, has_account, owned_by}
 
 -- ---- a device without an account
 
-no_drafts : (labels : Labels) (s : Ideal) (name : Bytes) → ((uuid : Bytes) → draft_at s name uuid ≡ None) → (ls : Labels)
+no_drafts : (labels : Labels) (s : Ideal) (name : Bytes) → ((uuid : Bytes) → draft_at s name uuid ≡ None) → (ls : List Bytes)
     → flat_map (λ uuid. draft_lines labels (draft_at s name uuid)) ls ≡ []
 no_drafts labels s name none [] = refl
 no_drafts labels s name none (l ∷ ls) =
@@ -34,13 +33,12 @@ pub one_line : (rows : Rows) (labels : Labels) (s : Ideal) (name : Bytes) → Sh
 one_line rows labels s name shows e =
     let nothing : ShowsNothing rows s name = subst (λ (found : Option Device). ShowsDeviceAs rows s name found) e shows in
     sym
-    (ap (λ (found : Option Device). device_text name found ∷ flat_map (λ uuid. draft_lines labels (draft_at s name uuid)) labels) e
-    ∙ ap (λ (ls : List Bytes). none_text name ∷ ls) (no_drafts labels s name nothing.no_draft labels))
+    (ap (λ (found : Option Device). device_text name found ∷ flat_map (λ uuid. draft_lines labels (draft_at s name uuid)) (items_of labels)) e
+    ∙ ap (λ (ls : List Bytes). none_text name ∷ ls) (no_drafts labels s name nothing.no_draft (items_of labels)))
 
 -- ---- and one with one
 
-module _ (rows : Rows) (labels : Labels) (s : Ideal) (name : Bytes) (h : Holding) (shows : ShowsDevice rows s name) (is : IsHolding s name h)
-    (distinct : AreDistinct labels) where
+module _ (rows : Rows) (labels : Labels) (s : Ideal) (name : Bytes) (h : Holding) (shows : ShowsDevice rows s name) (is : IsHolding s name h) where
   owned : Owned rows s name is.device
   owned = owned_by rows s name is.device shows is.named
 
@@ -50,7 +48,7 @@ module _ (rows : Rows) (labels : Labels) (s : Ideal) (name : Bytes) (h : Holding
   holder : ShowsHolder rows s name is.device is.account
   holder = subst (λ (a : Account). ShowsHolder rows s name is.device a) same_account owned.holder
 
-  pub drafts_shown : ShowsDrafts rows labels h.present.set s name
+  pub drafts_shown : ShowsDrafts rows h.present.set s name
   drafts_shown =
       record {
         sets = is.account.sets;
@@ -59,7 +57,6 @@ module _ (rows : Rows) (labels : Labels) (s : Ideal) (name : Bytes) (h : Holding
         shown = λ n item stands.
             subst (λ (m : ℕ). ShowsDrafted is.account.sets m item (draft_at s name item.uuid)) is.greatest_is (holder.locals n item stands).draft;
         rows_of = holder.drafts;
-        distinct = distinct;
       }
 
   own_line : sets_text name h.present.set.params.identifier (numbers_of h) ≡ device_text name (device_named s name)
@@ -70,10 +67,10 @@ module _ (rows : Rows) (labels : Labels) (s : Ideal) (name : Bytes) (h : Holding
 
   pub with_account : {E : Type 0} (result : Result (Unit {0}) E) (before middle after : List Bytes) (line identifier : Bytes) (held : List ℕ)
       → line ≡ sets_text name identifier held → identifier ≡ h.present.set.params.identifier → held ≡ numbers_of h → middle ≡ before ++ line ∷ []
-      → OnOk result (after ≡ middle ++ flat_map (λ uuid. draft_lines labels (draft_at s name uuid)) labels)
+      → OnOk result (after ≡ middle ++ flat_map (λ uuid. draft_lines labels (draft_at s name uuid)) (items_of labels))
       → OnOk result (after ≡ before ++ device_lines labels s name)
   with_account result before middle after line identifier held line_is same held_are pushed added =
-      let drafts : List Bytes = flat_map (λ uuid. draft_lines labels (draft_at s name uuid)) labels in
+      let drafts : List Bytes = flat_map (λ uuid. draft_lines labels (draft_at s name uuid)) (items_of labels) in
       let own : line ≡ device_text name (device_named s name) =
       line_is ∙ ap (λ (t : Bytes). sets_text name t held) same ∙ ap (λ (ns : List ℕ). sets_text name h.present.set.params.identifier ns) held_are ∙ own_line in
       let lines : middle ++ drafts ≡ before ++ device_lines labels s name =

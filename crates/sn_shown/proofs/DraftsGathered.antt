@@ -1,6 +1,6 @@
 -- The drafts of a device, gathered by label from row to row.
-use Rattle.std.proofs.Common.{◌≡◌, ℕ, List, [], ◌∷◌, ◌++◌, Option, Some, None, Bool, true, false, refl, sym, ap, ◌∙◌, subst, inl, inr, ⊎_elim}
-use Rattle.std.specs.Prelude.{◌==◌, cond, if◌then◌else◌}
+use Rattle.std.proofs.Common.{◌≡◌, ℕ, List, [], ◌∷◌, ◌++◌, Option, Some, None, Bool, true, false, ◌⊎◌, refl, sym, ap, ◌∙◌, subst, inl, inr, ⊎_elim}
+use Rattle.std.specs.Prelude.{◌==◌, cond, filter, if◌then◌else◌, not}
 use Rattle.std.specs.BTreeMap.{BTreeMap, IsEmpty, IsOrdered, get, is_at, values}
 use Rattle.std.specs.List.{flat_map}
 use Rattle.std.specs.Map.{lookup}
@@ -12,7 +12,7 @@ use Rattle.sn_laws.specs.Lookups.{Bytes, draft_at, is_draft}
 use Rattle.sn_laws.specs.declared.ideal.Draft.{Draft}
 use Rattle.sn_laws.specs.declared.ideal.Ideal.{Ideal}
 use Rattle.sn_laws.proofs.Facts.{found_passes, or_left, or_right, same_number, same_text, text_same}
-use Rattle.sn_report.specs.Labels.{Labels, is_labelled, label_from}
+use Rattle.sn_report.specs.Labels.{Labels, is_labelled, items_of, label_from}
 use Rattle.sn_report.specs.Showing.{draft_lines, latest_text}
 use Rattle.sn_row_map.specs.Ranges.{AreRowsOf, rows_behind, rows_of}
 use Rattle.sn_row_map.specs.RowMaps.{row_in}
@@ -30,8 +30,8 @@ use Rattle.sn_string.specs.declared.params.KeySet.{KeySet}
 use Rattle.sn_shown.specs.Drafts.{AddsLine, ShowsDrafts, labelled_line, line_of, with_line}
 use Rattle.sn_shown.specs.Rows.{local_in}
 use Rattle.sn_shown.proofs.Finds.{never, one_found}
-use Rattle.sn_shown.proofs.LabelPlaces.{HasLabel, at_label, label_of, line_at, one_label}
-use Rattle.sn_shown.proofs.LineOrder.{in_order, lines, own_key, same_key}
+use Rattle.sn_shown.proofs.LabelPlaces.{HasLabel, at_label, label_of, line_at, lines, one_label}
+use Rattle.sn_shown.proofs.LineOrder.{in_order, own_key, same_key}
 use Rattle.sn_shown.proofs.WalkLemmas.{PassedOrAhead, walk_begins, walk_ends, walk_goes_on}
 
 -- a labelled line
@@ -45,12 +45,24 @@ labelled_parts labels name uuid found x h = at (is_labelled labels uuid) refl h
     at true e k = (e, k)
     at false e k = absurd (cc)
 
-labelled_one : (ls : Labels) (u : Bytes) → One (λ (l : Bytes). l ≡ u) ls → is_labelled ls u ≡ true
+-- one of those that pass a test is one of all
+one_of_all : (P : Bytes → Type 0) (test : Bytes → Bool) (xs : List Bytes) → One P (filter test xs) → One P xs
+one_of_all P test [] one = one
+one_of_all P test (x ∷ xs) one = at (test x) (λ k. one_of_all P test xs k) one
+  where
+    at : (b : Bool) → (One P (filter test xs) → One P xs) → One P (cond b (x ∷ filter test xs) (filter test xs)) → P x ⊎ One P xs
+    at true later (inl e) = inl e
+    at true later (inr k) = inr (later k)
+    at false later k = inr (later k)
+
+labelled_one : (ls : Labels) (u : Bytes) → One (λ (l : Bytes). l ≡ u) (items_of ls) → is_labelled ls u ≡ true
 labelled_one [] u one = absurd one
 labelled_one (l ∷ ls) u one =
     ⊎_elim
     (λ (e : l ≡ u). or_left (bytes_eq l u) (is_labelled ls u) (text_same l u e))
-    (λ (later : One (λ (x : Bytes). x ≡ u) ls). or_right (bytes_eq l u) (is_labelled ls u) (labelled_one ls u later))
+    (λ (later : One (λ (x : Bytes). x ≡ u) (filter (λ other. not (bytes_eq l other)) (items_of ls))).
+    or_right (bytes_eq l u) (is_labelled ls u)
+    (labelled_one ls u (one_of_all (λ (x : Bytes). x ≡ u) (λ other. not (bytes_eq l other)) (items_of ls) later)))
     one
 
 -- a line is that of an item with a draft
@@ -120,7 +132,7 @@ local_or_not A (value.Item row) own other = other refl
 local_or_not A (value.Owner row) own other = other refl
 local_or_not A (value.Set row) own other = other refl
 
-module _ (map : RowMap) (labels : Labels) (set : KeySet) (s : Ideal) (name : Bytes) (shows : ShowsDrafts (row_in map) labels set s name) where
+module _ (map : RowMap) (labels : Labels) (set : KeySet) (s : Ideal) (name : Bytes) (shows : ShowsDrafts (row_in map) set s name) where
   abbrev line : Bytes → Option Bytes
   line uuid = labelled_line labels name uuid (draft_at s name uuid)
 
@@ -238,7 +250,7 @@ module _ (map : RowMap) (labels : Labels) (set : KeySet) (s : Ideal) (name : Byt
         at_none : get nat_cmp m q ≡ None → (o : Option Bytes) → line_at line 1 labels q ≡ o → get nat_cmp m q ≡ o
         at_none none None e = none
         at_none none (Some x) e =
-            let has : HasLabel line 1 labels q x = label_of line 1 labels q x shows.distinct e in
+            let has : HasLabel line 1 labels q x = label_of line 1 labels q x e in
             let d = drafted has.uuid x has.line_is in
             let row : HasRow (row_in map) has.uuid = shows.rows_of has.uuid d.0 d.1 in
             let passed : HasLine labels s name m (key.Local row.number) (value.Local row.item) =
@@ -269,12 +281,12 @@ module _ (map : RowMap) (labels : Labels) (set : KeySet) (s : Ideal) (name : Byt
             let parts = draft_parts uuid d e in
             ap (λ (n : Bytes). latest_text labels n uuid d.latest ∷ []) (sym parts.0) ∙ ap (λ (u : Bytes). latest_text labels d.device u d.latest ∷ []) (sym parts.1)
 
-    each_same : (ls : Labels) → ((u : Bytes) → One (λ (l : Bytes). l ≡ u) ls → is_labelled labels u ≡ true)
+    each_same : (ls : List Bytes) → ((u : Bytes) → One (λ (l : Bytes). l ≡ u) ls → is_labelled labels u ≡ true)
         → flat_map (λ u. lines (line u)) ls ≡ flat_map (λ u. draft_lines labels (draft_at s name u)) ls
     each_same [] all = refl
     each_same (l ∷ ls) all =
         ap (λ (xs : List Bytes). xs ++ flat_map (λ u. lines (line u)) ls) (same_line l (all l (inl refl)))
         ∙ ap (λ (xs : List Bytes). draft_lines labels (draft_at s name l) ++ xs) (each_same ls (λ u one. all u (inr one)))
 
-    pub all_gathered : values m ≡ flat_map (λ uuid. draft_lines labels (draft_at s name uuid)) labels
-    all_gathered = in_order line 1 labels m.entries (gathered.ordered, found_all) ∙ each_same labels (labelled_one labels)
+    pub all_gathered : values m ≡ flat_map (λ uuid. draft_lines labels (draft_at s name uuid)) (items_of labels)
+    all_gathered = in_order line 1 labels m.entries (gathered.ordered, found_all) ∙ each_same (items_of labels) (labelled_one labels)

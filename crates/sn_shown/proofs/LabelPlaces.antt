@@ -1,18 +1,25 @@
--- What stands at the place of a label, and that no item of a replay has two labels.
-use Rattle.std.proofs.Common.{◌≡◌, ℕ, ◌+◌, ◌<◌, ◌≤◌, List, [], ◌∷◌, ◌++◌, Option, Some, None, Bool, true, false, refl, sym, ap, ◌∙◌, arith}
-use Rattle.std.specs.Prelude.{◌||◌, ◌==◌, cond}
+-- What stands at the place of a label: an item's line at its least label, and nothing at a later one.
+use Rattle.std.proofs.Common.{◌≡◌, ℕ, ◌+◌, ◌<◌, ◌≤◌, List, [], ◌∷◌, ◌++◌, Option, Some, None, Bool, true, false, refl, ap, ◌∙◌, arith}
+use Rattle.std.specs.Prelude.{◌||◌, ◌==◌, cond, filter, not}
+use Rattle.std.specs.List.{flat_map}
 use Rattle.std.specs.Str.{bytes_eq}
-use Rattle.sn_laws.proofs.Facts.{clash, is_false, number_same, or_left, or_right, same_number, same_text, text_same}
+use Rattle.sn_laws.proofs.Facts.{is_false, number_same, or_left, or_right, same_number, same_text, text_same}
 use Rattle.sn_laws.specs.Lookups.{Bytes}
-use Rattle.sn_laws.specs.declared.moves.Move.{Move}
-use Rattle.sn_laws.specs.declared.moves.Move.TheVariants.{Register, Join, Edit, Drop, Post, Unpost, Accept, Rewrap, Settle, SettlePosted, Fork, Rename, GiveWay, Change, Retire}
-use Rattle.sn_report.specs.Labels.{Labels, is_labelled, label_from, labelled, labels_after, labels_of}
-use Rattle.sn_shown.specs.Shown.{AreDistinct}
+use Rattle.sn_report.specs.Labels.{Labels, is_labelled, label_from}
 
--- what f has of the item with this label, where the first in the list is number n
+-- the value of an optional line
+abbrev pub lines : Option Bytes → List Bytes
+lines None = []
+lines (Some line) = line ∷ []
+
+-- what f has of other items
+abbrev pub without : Bytes → (Bytes → Option Bytes) → Bytes → Option Bytes
+without l f uuid = cond (bytes_eq l uuid) None (f uuid)
+
+-- what f has of the item whose least label this is, where the first in the list is number n
 abbrev pub line_at : (Bytes → Option Bytes) → ℕ → Labels → ℕ → Option Bytes
 line_at f n [] q = None
-line_at f n (l ∷ ls) q = cond (n == q) (f l) (line_at f (n + 1) ls q)
+line_at f n (l ∷ ls) q = cond (n == q) (f l) (line_at (without l f) (n + 1) ls q)
 
 unequal : (a b : ℕ) → a < b → (b == a) ≡ false
 unequal a b lt = is_false (b == a) (λ e. let same : b ≡ a = same_number b a e in absurd (omega (arith, same)))
@@ -21,7 +28,7 @@ unequal a b lt = is_false (b == a) (λ e. let same : b ≡ a = same_number b a e
 pub none_below : (f : Bytes → Option Bytes) (n : ℕ) (ls : Labels) (q : ℕ) → q < n → line_at f n ls q ≡ None
 none_below f n [] q lt = refl
 none_below f n (l ∷ ls) q lt =
-    ap (λ (b : Bool). cond b (f l) (line_at f (n + 1) ls q)) (unequal q n lt) ∙ none_below f (n + 1) ls q (omega (arith, lt))
+    ap (λ (b : Bool). cond b (f l) (line_at (without l f) (n + 1) ls q)) (unequal q n lt) ∙ none_below (without l f) (n + 1) ls q (omega (arith, lt))
 
 pub label_low : (n : ℕ) (ls : Labels) (uuid : Bytes) → n ≤ label_from n ls uuid
 label_low n [] uuid = omega arith
@@ -31,25 +38,28 @@ label_low n (l ∷ ls) uuid = at (bytes_eq l uuid) (label_low (n + 1) ls uuid)
     at true h = omega arith
     at false h = omega (arith, h)
 
--- an item with a label stands at its label
+-- an item with a label stands at its least label
 pub at_label : (f : Bytes → Option Bytes) (n : ℕ) (ls : Labels) (uuid : Bytes) → is_labelled ls uuid ≡ true
     → line_at f n ls (label_from n ls uuid) ≡ f uuid
 at_label f n [] uuid h = absurd (cc)
-at_label f n (l ∷ ls) uuid h = at (bytes_eq l uuid) refl h (λ k. at_label f (n + 1) ls uuid k)
+at_label f n (l ∷ ls) uuid h = at (bytes_eq l uuid) refl h (λ k. at_label (without l f) (n + 1) ls uuid k)
   where
-    later : line_at f (n + 1) ls (label_from (n + 1) ls uuid) ≡ f uuid
-        → cond (n == label_from (n + 1) ls uuid) (f l) (line_at f (n + 1) ls (label_from (n + 1) ls uuid)) ≡ f uuid
+    other : bytes_eq l uuid ≡ false → without l f uuid ≡ f uuid
+    other e = ap (λ (b : Bool). cond b None (f uuid)) e
+
+    later : line_at (without l f) (n + 1) ls (label_from (n + 1) ls uuid) ≡ f uuid
+        → cond (n == label_from (n + 1) ls uuid) (f l) (line_at (without l f) (n + 1) ls (label_from (n + 1) ls uuid)) ≡ f uuid
     later found =
         let low : n + 1 ≤ label_from (n + 1) ls uuid = label_low (n + 1) ls uuid in
         let apart : (n == label_from (n + 1) ls uuid) ≡ false =
         is_false (n == label_from (n + 1) ls uuid) (λ e. let same : n ≡ label_from (n + 1) ls uuid = same_number n (label_from (n + 1) ls uuid) e in absurd (omega (arith, same, low))) in
-        ap (λ (b : Bool). cond b (f l) (line_at f (n + 1) ls (label_from (n + 1) ls uuid))) apart ∙ found
+        ap (λ (b : Bool). cond b (f l) (line_at (without l f) (n + 1) ls (label_from (n + 1) ls uuid))) apart ∙ found
 
     at : (b : Bool) → bytes_eq l uuid ≡ b → (b || is_labelled ls uuid) ≡ true
-        → (is_labelled ls uuid ≡ true → line_at f (n + 1) ls (label_from (n + 1) ls uuid) ≡ f uuid)
-        → cond (n == cond b n (label_from (n + 1) ls uuid)) (f l) (line_at f (n + 1) ls (cond b n (label_from (n + 1) ls uuid))) ≡ f uuid
-    at true e h found = ap (λ (b : Bool). cond b (f l) (line_at f (n + 1) ls n)) (number_same n n refl) ∙ ap f (same_text l uuid e)
-    at false e h found = later (found h)
+        → (is_labelled ls uuid ≡ true → line_at (without l f) (n + 1) ls (label_from (n + 1) ls uuid) ≡ without l f uuid)
+        → cond (n == cond b n (label_from (n + 1) ls uuid)) (f l) (line_at (without l f) (n + 1) ls (cond b n (label_from (n + 1) ls uuid))) ≡ f uuid
+    at true e h found = ap (λ (b : Bool). cond b (f l) (line_at (without l f) (n + 1) ls n)) (number_same n n refl) ∙ ap f (same_text l uuid e)
+    at false e h found = later (found h ∙ other e)
 
 -- items with one label are one
 pub one_label : (n : ℕ) (ls : Labels) (a b : Bytes) → is_labelled ls a ≡ true → is_labelled ls b ≡ true
@@ -67,10 +77,16 @@ pub record HasLabel (f : Bytes → Option Bytes) (n : ℕ) (ls : Labels) (q : �
   pub there : is_labelled ls uuid ≡ true
   pub at : label_from n ls uuid ≡ q
 
-pub label_of : (f : Bytes → Option Bytes) (n : ℕ) (ls : Labels) (q : ℕ) (line : Bytes) → AreDistinct ls → line_at f n ls q ≡ Some line
-    → HasLabel f n ls q line
-label_of f n [] q line distinct h = absurd (cc)
-label_of f n (l ∷ ls) q line distinct h = at (n == q) refl h (λ k. label_of f (n + 1) ls q line distinct.1 k)
+another : (f : Bytes → Option Bytes) (l uuid line : Bytes) → without l f uuid ≡ Some line → (bytes_eq l uuid ≡ false) × (f uuid ≡ Some line)
+another f l uuid line h = at (bytes_eq l uuid) refl h
+  where
+    at : (b : Bool) → bytes_eq l uuid ≡ b → cond b None (f uuid) ≡ Some line → (bytes_eq l uuid ≡ false) × (f uuid ≡ Some line)
+    at true e k = absurd (cc)
+    at false e k = (e, k)
+
+pub label_of : (f : Bytes → Option Bytes) (n : ℕ) (ls : Labels) (q : ℕ) (line : Bytes) → line_at f n ls q ≡ Some line → HasLabel f n ls q line
+label_of f n [] q line h = absurd (cc)
+label_of f n (l ∷ ls) q line h = at (n == q) refl h (λ k. label_of (without l f) (n + 1) ls q line k)
   where
     own : n ≡ q → f l ≡ Some line → HasLabel f n (l ∷ ls) q line
     own e k =
@@ -82,69 +98,29 @@ label_of f n (l ∷ ls) q line distinct h = at (n == q) refl h (λ k. label_of f
           at = ap (λ (b : Bool). cond b n (label_from (n + 1) ls l)) self ∙ e;
         }
 
-    later : HasLabel f (n + 1) ls q line → HasLabel f n (l ∷ ls) q line
+    later : HasLabel (without l f) (n + 1) ls q line → HasLabel f n (l ∷ ls) q line
     later has =
-        let apart : bytes_eq l has.uuid ≡ false =
-        is_false (bytes_eq l has.uuid) (λ e. clash (is_labelled ls l) (ap (is_labelled ls) (same_text l has.uuid e) ∙ has.there) distinct.0) in
+        let apart = another f l has.uuid line has.line_is in
         record {
           uuid = has.uuid;
-          line_is = has.line_is;
+          line_is = apart.1;
           there = or_right (bytes_eq l has.uuid) (is_labelled ls has.uuid) has.there;
-          at = ap (λ (b : Bool). cond b n (label_from (n + 1) ls has.uuid)) apart ∙ has.at;
+          at = ap (λ (b : Bool). cond b n (label_from (n + 1) ls has.uuid)) apart.0 ∙ has.at;
         }
 
-    at : (b : Bool) → (n == q) ≡ b → cond b (f l) (line_at f (n + 1) ls q) ≡ Some line
-        → (line_at f (n + 1) ls q ≡ Some line → HasLabel f (n + 1) ls q line) → HasLabel f n (l ∷ ls) q line
+    at : (b : Bool) → (n == q) ≡ b → cond b (f l) (line_at (without l f) (n + 1) ls q) ≡ Some line
+        → (line_at (without l f) (n + 1) ls q ≡ Some line → HasLabel (without l f) (n + 1) ls q line) → HasLabel f n (l ∷ ls) q line
     at true e k found = own (same_number n q e) k
     at false e k found = later (found k)
 
--- the labels of a replay
-
-or_false : (a b : Bool) → (a || b) ≡ false → (a ≡ false) × (b ≡ false)
-or_false true b h = absurd (cc)
-or_false false b h = (refl, h)
-
-both_false : (a b : Bool) → a ≡ false → b ≡ false → (a || b) ≡ false
-both_false true b e k = absurd (cc)
-both_false false b e k = k
-
-still_none : (ls : Labels) (uuid l : Bytes) → is_labelled ls l ≡ false → bytes_eq uuid l ≡ false → is_labelled (ls ++ uuid ∷ []) l ≡ false
-still_none [] uuid l h e = both_false (bytes_eq uuid l) false e refl
-still_none (x ∷ ls) uuid l h e =
-    let parts = or_false (bytes_eq x l) (is_labelled ls l) h in
-    both_false (bytes_eq x l) (is_labelled (ls ++ uuid ∷ []) l) parts.0 (still_none ls uuid l parts.1 e)
-
-distinct_more : (ls : Labels) (uuid : Bytes) → AreDistinct ls → is_labelled ls uuid ≡ false → AreDistinct (ls ++ uuid ∷ [])
-distinct_more [] uuid distinct h = (refl, tt)
-distinct_more (l ∷ ls) uuid distinct h =
-    let parts = or_false (bytes_eq l uuid) (is_labelled ls uuid) h in
-    let apart : bytes_eq uuid l ≡ false = is_false (bytes_eq uuid l) (λ e. clash (bytes_eq l uuid) (text_same l uuid (sym (same_text uuid l e))) parts.0) in
-    (still_none ls uuid l distinct.0 apart, distinct_more ls uuid distinct.1 parts.1)
-
-distinct_labelled : (ls : Labels) (uuid : Bytes) → AreDistinct ls → AreDistinct (labelled ls uuid)
-distinct_labelled ls uuid distinct = at (is_labelled ls uuid) refl
+-- the lines of all others are those of the rest of a list
+pub lines_without : (f : Bytes → Option Bytes) (l : Bytes) (ls : List Bytes)
+    → flat_map (λ u. lines (without l f u)) ls ≡ flat_map (λ u. lines (f u)) (filter (λ u. not (bytes_eq l u)) ls)
+lines_without f l [] = refl
+lines_without f l (x ∷ ls) = at (bytes_eq l x) (lines_without f l ls)
   where
-    at : (b : Bool) → is_labelled ls uuid ≡ b → AreDistinct (cond b ls (ls ++ uuid ∷ []))
-    at true e = distinct
-    at false e = distinct_more ls uuid distinct e
-
-distinct_after : (ls : Labels) (m : Move) → AreDistinct ls → AreDistinct (labels_after ls m)
-distinct_after ls (Edit device uuid kind base latest) distinct = distinct_labelled ls uuid distinct
-distinct_after ls (Register identifier set) distinct = distinct
-distinct_after ls (Join device identifier number) distinct = distinct
-distinct_after ls (Post device uuid) distinct = distinct
-distinct_after ls (Accept device uuid stamp under) distinct = distinct
-distinct_after ls (Settle device uuid) distinct = distinct
-distinct_after ls (Drop device uuid) distinct = distinct
-distinct_after ls (Unpost device uuid) distinct = distinct
-distinct_after ls (Rewrap uuid stamp under) distinct = distinct
-distinct_after ls (SettlePosted device uuid stamp) distinct = distinct
-distinct_after ls (Fork device uuid other) distinct = distinct_labelled ls other distinct
-distinct_after ls (Rename device uuid other) distinct = distinct_labelled ls other distinct
-distinct_after ls (GiveWay device uuid) distinct = distinct
-distinct_after ls (Change identifier number set) distinct = distinct
-distinct_after ls (Retire device number) distinct = distinct
-
-pub distinct_of : (ls : Labels) (moves : List Move) → AreDistinct ls → AreDistinct (labels_of ls moves)
-distinct_of ls [] distinct = distinct
-distinct_of ls (m ∷ moves) distinct = distinct_of (labels_after ls m) moves (distinct_after ls m distinct)
+    at : (b : Bool) → flat_map (λ u. lines (without l f u)) ls ≡ flat_map (λ u. lines (f u)) (filter (λ u. not (bytes_eq l u)) ls)
+        → lines (cond b None (f x)) ++ flat_map (λ u. lines (without l f u)) ls
+        ≡ flat_map (λ u. lines (f u)) (cond (not b) (x ∷ filter (λ u. not (bytes_eq l u)) ls) (filter (λ u. not (bytes_eq l u)) ls))
+    at true h = h
+    at false h = ap (λ (xs : List Bytes). lines (f x) ++ xs) h

@@ -1,12 +1,10 @@
 -- What holds of all legal lists of moves.
-use Rattle.std.proofs.Common.{List, []}
+use Rattle.std.proofs.Common.{List}
 use Rattle.sn_laws.specs.Runs.{Legal, end}
 use Rattle.sn_laws.specs.declared.moves.Move.{Move}
 use Rattle.sn_laws.proofs.Facts.{devices_all_hold, nonces_differ}
-use Rattle.sn_report.specs.Labels.{labels_of}
 use Rattle.sn_shows.proofs.ServersApart.{accounts_apart}
-use Rattle.sn_shown.specs.Shown.{AreDistinct, IsRegular}
-use Rattle.sn_shown.proofs.LabelPlaces.{distinct_of}
+use Rattle.sn_shown.specs.Shown.{IsRegular}
 
 pub regular : (moves : List Move) → Legal moves → IsRegular (end moves)
 regular moves legal =
@@ -15,6 +13,3 @@ regular moves legal =
       nonces = nonces_differ moves legal;
       held = λ name d named. devices_all_hold moves name d legal named;
     }
-
-pub distinct : (moves : List Move) → AreDistinct (labels_of [] moves)
-distinct moves = distinct_of [] moves tt

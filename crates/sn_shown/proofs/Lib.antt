@@ -12,4 +12,6 @@ pub mod OpenedDrafts
 pub mod OpenedItems
 pub mod PlaceLemmas
 pub mod SetLemmas
+pub mod VersionsHeld
+pub mod VersionsHeldBy
 pub mod WalkLemmas

@@ -14,16 +14,14 @@ use Rattle.sn_rows.specs.declared.value.Value.TheVariants as value
 use Rattle.sn_shows.specs.Devices.{HasRow, ShowsDrafted}
 use Rattle.sn_shows.specs.Sets.{set_at}
 use Rattle.sn_string.specs.declared.params.KeySet.{KeySet}
-use Rattle.sn_shown.specs.Shown.{AreDistinct}
 
 -- the rows show the drafts of a device, each sealed under this set
-pub record ShowsDrafts (rows : Rows) (labels : Labels) (set : KeySet) (s : Ideal) (name : Bytes) : Type 0 where
+pub record ShowsDrafts (rows : Rows) (set : KeySet) (s : Ideal) (name : Bytes) : Type 0 where
   pub sets : List KeySet
   pub number : ℕ
   pub set_is : set_at number sets ≡ Some set
   pub shown : (n : ℕ) (item : LocalItem) → rows (key.Local n) ≡ Some (value.Local item) → ShowsDrafted sets number item (draft_at s name item.uuid)
   pub rows_of : (uuid : Bytes) (d : Draft) → draft_at s name uuid ≡ Some d → HasRow rows uuid
-  pub distinct : AreDistinct labels
 
 -- the line of an item's draft on a device, where it has one
 abbrev pub line_of : Labels → Bytes → Bytes → Option Draft → Option Bytes

@@ -1,5 +1,5 @@
--- What `show` goes by: rows of both ends that show a state, and labels.
-use Rattle.std.specs.Prelude.{◌≡◌, ℕ, List, [], ◌∷◌, false, Some}
+-- What `show` goes by: rows of both ends that show a state.
+use Rattle.std.specs.Prelude.{◌≡◌, ℕ, List, Some}
 use Rattle.sn_laws.specs.Each.{Each, One}
 use Rattle.sn_laws.specs.Lookups.{Bytes, account_of, device_named, last_of}
 use Rattle.sn_laws.specs.Reached.{HoldsSets, NoncesApart}
@@ -8,7 +8,6 @@ use Rattle.sn_laws.specs.declared.ideal.Body.TheVariants.{Under}
 use Rattle.sn_laws.specs.declared.ideal.Device.{Device}
 use Rattle.sn_laws.specs.declared.ideal.Ideal.{Ideal}
 use Rattle.sn_laws.specs.declared.ideal.Version.{Version}
-use Rattle.sn_report.specs.Labels.{Labels, is_labelled}
 use Rattle.sn_rows.specs.Table.{Rows}
 use Rattle.sn_shows.specs.Devices.{ShowsDevice}
 use Rattle.sn_shows.specs.Laws.{AreApart}
@@ -37,15 +36,9 @@ abbrev pub AreHeld : Ideal → List Bytes → Type 0
 AreHeld s names = (a : Account) (uuid : Bytes) (v : Version) (text : Bytes) (number : ℕ) → One (λ b. b ≡ a) s.accounts
     → last_of uuid a.versions ≡ Some v → v.body ≡ Under text number → IsHeld s names a number
 
--- no item has two labels in the list: so it is of each list of labels that moves make
-abbrev pub AreDistinct : Labels → Type 0
-AreDistinct [] = Unit {0}
-AreDistinct (l ∷ ls) = (is_labelled ls l ≡ false) × AreDistinct ls
-
 -- the rows of the server and of each device show the state, and these devices hold what its last versions are sealed under
-pub record EndsShow (server : Rows) (devices : Bytes → Rows) (labels : Labels) (names : List Bytes) (s : Ideal) : Type 0 where
+pub record EndsShow (server : Rows) (devices : Bytes → Rows) (names : List Bytes) (s : Ideal) : Type 0 where
   pub regular : IsRegular s
   pub accounts : ShowsServer server s.accounts
   pub each : (name : Bytes) → ShowsDevice (devices name) s name
   pub held : AreHeld s names
-  pub distinct : AreDistinct labels

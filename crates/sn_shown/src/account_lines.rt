@@ -36,7 +36,8 @@ pub(crate) fn add_accounts(
         → OnOk result (lines.new ≡ lines.old ++ flat_map (account_lines labels.now) s.accounts) }
 {
     let mut lists = first_lists(alloc, server)?;
-    'items: for uuid in labels.as_slice() {
+    let labelled = labels.items(alloc)?;
+    'items: for uuid in labelled.as_slice() {
         add_item(alloc, server, numbers, sets, labels, &mut lists, uuid)?;
     }
     add_lists(lines, lists)

@@ -9,7 +9,7 @@ ghost use Rattle.sn_row_map.specs.RowMaps.{row_in};
 ghost use Rattle.sn_shows.specs.Devices.{ShowsDevice};
 ghost use Rattle.sn_shown.specs.Held.{AreNumbers, IsHolding};
 ghost use Rattle.sn_shown.specs.Rows.{rows_in};
-ghost use Rattle.sn_shown.specs.Shown.{AreDistinct, IsRegular};
+ghost use Rattle.sn_shown.specs.Shown.{IsRegular};
 
 use crate::draft_lines::add_drafts;
 use crate::ends::Devices;
@@ -31,7 +31,7 @@ pub(crate) fn add_devices<D: Devices>(
     devices: &D,
 ) -> Result<(), AllocError>
     ensures { (s : Ideal) → IsRegular s → ((name : Bytes) → ShowsDevice (rows_in (D.rows_of devices.now name)) s name)
-        → AreNumbers numbers.now s.accounts → AreDistinct labels.now
+        → AreNumbers numbers.now s.accounts
         → OnOk result (lines.new ≡ lines.old ++ flat_map (device_lines labels.now s) names.now) }
 {
     'names: for name in names {
@@ -51,7 +51,7 @@ fn add_device<D: Devices>(
     name: &str,
 ) -> Result<(), AllocError>
     ensures { (s : Ideal) → IsRegular s → AreNumbers numbers.now s.accounts
-        → ShowsDevice (rows_in (D.rows_of devices.now name.now)) s name.now → AreDistinct labels.now
+        → ShowsDevice (rows_in (D.rows_of devices.now name.now)) s name.now
         → OnOk result (lines.new ≡ lines.old ++ device_lines labels.now s name.now) }
 {
     let Some(rows) = devices.rows(name) else {
@@ -80,7 +80,7 @@ fn add_holder(
     holding: &Holding,
     name: &str,
 ) -> Result<(), AllocError>
-    ensures { (s : Ideal) → ShowsDevice (row_in rows.now) s name.now → IsHolding s name.now holding.now → AreDistinct labels.now
+    ensures { (s : Ideal) → ShowsDevice (row_in rows.now) s name.now → IsHolding s name.now holding.now
         → OnOk result (lines.new ≡ lines.old ++ device_lines labels.now s name.now) }
 {
     let numbers = holding.numbers(alloc)?;

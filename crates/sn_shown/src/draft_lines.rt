@@ -7,7 +7,7 @@ ghost use Rattle.sn_laws.specs.Lookups.{draft_at};
 ghost use Rattle.sn_laws.specs.declared.ideal.Content.{Content};
 ghost use Rattle.sn_laws.specs.declared.ideal.Draft.{Draft};
 ghost use Rattle.sn_laws.specs.declared.ideal.Ideal.{Ideal};
-ghost use Rattle.sn_report.specs.Labels.{label_from};
+ghost use Rattle.sn_report.specs.Labels.{items_of, label_from};
 ghost use Rattle.sn_report.specs.Showing.{draft_lines};
 ghost use Rattle.sn_row_map.specs.RowMaps.{row_in};
 ghost use Rattle.sn_rows.specs.declared.device_rows.LocalItem.{LocalItem};
@@ -37,8 +37,8 @@ pub(crate) fn add_drafts(
     set: &KeySet,
     name: &str,
 ) -> Result<(), AllocError>
-    ensures { (s : Ideal) → ShowsDrafts (row_in rows.now) labels.now set.now s name.now
-        → OnOk result (lines.new ≡ lines.old ++ flat_map (λ uuid. draft_lines labels.now (draft_at s name.now uuid)) labels.now) }
+    ensures { (s : Ideal) → ShowsDrafts (row_in rows.now) set.now s name.now
+        → OnOk result (lines.new ≡ lines.old ++ flat_map (λ uuid. draft_lines labels.now (draft_at s name.now uuid)) (items_of labels.now)) }
 {
     let drafts = drafts_by_label(alloc, labels, rows, set, name)?;
     add_values(lines, drafts)
@@ -52,8 +52,8 @@ fn drafts_by_label(
     set: &KeySet,
     name: &str,
 ) -> Result<BTreeMap<u64, Text>, AllocError>
-    ensures { (s : Ideal) → ShowsDrafts (row_in rows.now) labels.now set.now s name.now
-        → IfOk result (λ drafts. values drafts ≡ flat_map (λ uuid. draft_lines labels.now (draft_at s name.now uuid)) labels.now) }
+    ensures { (s : Ideal) → ShowsDrafts (row_in rows.now) set.now s name.now
+        → IfOk result (λ drafts. values drafts ≡ flat_map (λ uuid. draft_lines labels.now (draft_at s name.now uuid)) (items_of labels.now)) }
 {
     let mut drafts = BTreeMap::new(alloc);
     let mut found = rows.first(RowKind::Local);

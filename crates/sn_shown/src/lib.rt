@@ -6,6 +6,7 @@ mod device_lines;
 mod draft_lines;
 pub mod ends;
 mod held;
+pub mod held_laws;
 mod holding;
 mod item_lines;
 pub mod laws;

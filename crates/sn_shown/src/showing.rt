@@ -18,8 +18,9 @@ use sn_string::{Many, Text};
 use std::alloc::{AllocError, Global};
 
 /// The lines that show what both ends hold, from the server's rows and those of the devices of these
-/// names: each account, in the order in which they began, with its items in order of label, and then
-/// each device, in the order of the names, with its drafts. Each string is opened once.
+/// names: each account, in the order in which they began, with its items in order of their least
+/// labels, and then each device, in the order of the names, with its drafts. Each string is opened
+/// once, also where an item has several labels.
 pub fn show<D: Devices>(
     alloc: Global,
     labels: &Labels,
@@ -27,7 +28,7 @@ pub fn show<D: Devices>(
     server: &RowMap,
     devices: &D,
 ) -> Result<Many<Text>, AllocError>
-    ensures { (s : Ideal) → EndsShow (row_in server.now) (λ name. rows_in (D.rows_of devices.now name)) labels.now names.now s
+    ensures { (s : Ideal) → EndsShow (row_in server.now) (λ name. rows_in (D.rows_of devices.now name)) names.now s
         → IfOk result (λ lines. lines ≡ show_lines labels.now names.now s) }
 {
     let numbers = Numbers::of_rows(alloc, server)?;

@@ -7,7 +7,7 @@ use Rattle.sn_status.specs.declared.refusal.FormRefusal.TheVariants as form
 use Rattle.sn_status.specs.declared.refusal.ItemRefusal.{ItemRefusal}
 use Rattle.sn_status.specs.declared.refusal.ItemRefusal.TheVariants as item
 use Rattle.sn_status.specs.declared.refusal.Refusal.{Refusal}
-use Rattle.sn_status.specs.declared.refusal.Refusal.TheVariants.{InputLong, InputUtf8, Form, Item, Line, PasswordLine, Client}
+use Rattle.sn_status.specs.declared.refusal.Refusal.TheVariants.{InputLong, InputUtf8, Form, Item, Line, NotAllowed, PasswordLine, Client}
 use Rattle.sn_status.specs.declared.status.Status.{Status}
 use Rattle.sn_status.specs.declared.status.Status.TheVariants as status
 use Rattle.sn_status.specs.declared.status.Unfit.{Unfit}
@@ -56,6 +56,7 @@ refusal_text (InputUtf8 place) = codes "cli.2 InputUtf8 " ++ decimal place
 refusal_text (Form refusal) = form_text refusal
 refusal_text (Item refusal) = item_text refusal
 refusal_text (Line number) = codes "replay.1 Line " ++ decimal number
+refusal_text (NotAllowed number) = codes "replay.2 NotAllowed " ++ decimal number
 refusal_text (PasswordLine length) = codes "cli.3 PasswordLine " ++ decimal length
 refusal_text (Client refusal) = client_text refusal
 

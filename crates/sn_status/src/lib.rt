@@ -6,6 +6,7 @@ mod lines;
 mod refusal;
 mod status;
 
+pub use client_lines::{client_line, place_line};
 pub use lines::tell;
 pub use refusal::{ClientRefusal, FormRefusal, ItemRefusal, Refusal, form_refusal, item_refusal};
 pub use status::{Status, Unfit};

@@ -129,6 +129,7 @@ fn refusal_line(alloc: Global, refusal: &Refusal) -> Result<String, AllocError>
         Refusal::Form(refusal) => form_line(alloc, refusal)?,
         Refusal::Item(refusal) => item_line(alloc, refusal)?,
         Refusal::Line { number } => format!(in alloc; "replay.1 Line {number}")?,
+        Refusal::NotAllowed { number } => format!(in alloc; "replay.2 NotAllowed {number}")?,
         Refusal::PasswordLine { length } => format!(in alloc; "cli.3 PasswordLine {length}")?,
         Refusal::Client(refusal) => client_line(alloc, refusal)?,
     };

@@ -19,6 +19,8 @@ pub enum Refusal {
     Item(ItemRefusal),
     /// The input is no script; its first line that is out of the grammar, counted from 1.
     Line { number: u64 },
+    /// The script's line of this number names an item or a request that there isn't yet.
+    NotAllowed { number: u64 },
     /// The input's first line, a password, hasn't 1 to 1024 bytes; its length.
     PasswordLine { length: usize },
     /// The device refuses the call.

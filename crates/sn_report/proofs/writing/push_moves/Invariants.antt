@@ -5,6 +5,7 @@ use Rattle.sn_report.proofs.writing.push_moves.Given as goal
 
 abbrev pub invariant-moves : goal.invariant-moves
 invariant-moves l = record {
-  labels : labels_of l.labels (drop l.made-index l.moves) ≡ labels_of l.fn.labels l.moves;
-  text : string_bytes l.text ++ moves_text l.number l.labels (drop l.made-index l.moves) ≡ string_bytes l.fn.text ++ moves_text l.number l.fn.labels l.moves;
+  labels : labels_of l.puts l.labels (drop l.made-index l.moves) ≡ labels_of l.puts l.fn.labels l.moves;
+  text : string_bytes l.text ++ moves_text l.number l.puts l.labels (drop l.made-index l.moves)
+      ≡ string_bytes l.fn.text ++ moves_text l.number l.puts l.fn.labels l.moves;
 }

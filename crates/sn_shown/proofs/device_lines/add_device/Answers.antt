@@ -13,7 +13,7 @@ use Rattle.sn_shown.proofs.HoldingLemmas.{no_rows}
 use Rattle.sn_shown.proofs.device_lines.add_device.Goals as goal
 
 pub returns-in_default : goal.returns-in_default
-returns-in_default g c = λ s regular are shows distinct.
+returns-in_default g c = λ s regular are shows.
     let rows = rows_in (g.D.Devices.rows_of c.args.devices.now c.args.name.now) in
     let none = no_rows s c.args.name.now rows shows
     (ap (λ (o : Option RowMap). rows_in o key.Owner) (sym c.rows.ensures ∙ ap option_copied c.in_default.is)) in
@@ -21,7 +21,7 @@ returns-in_default g c = λ s regular are shows distinct.
     (one_line rows c.args.labels.now s c.args.name.now shows none) c.add_none.ensures
 
 pub returns-in_default-2 : goal.returns-in_default-2
-returns-in_default-2 g c = λ s regular are shows distinct.
+returns-in_default-2 g c = λ s regular are shows.
     let rows = rows_in (g.D.Devices.rows_of c.args.devices.now c.args.name.now) in
     let shows_rows = subst (λ (o : Option RowMap). ShowsDevice (rows_in o) s c.args.name.now) (sym c.rows.ensures ∙ ap option_copied c.in-Some.is) shows in
     let none = subst (λ (h : Option Holding). IsHoldingOf s c.args.name.now h) c.in_default-2.is
@@ -30,7 +30,7 @@ returns-in_default-2 g c = λ s regular are shows distinct.
     (one_line rows c.args.labels.now s c.args.name.now shows none) c.add_none-in_default-2.ensures
 
 pub returns : goal.returns
-returns g c = λ s regular are shows distinct.
+returns g c = λ s regular are shows.
     let shows_rows = subst (λ (o : Option RowMap). ShowsDevice (rows_in o) s c.args.name.now) (sym c.rows.ensures ∙ ap option_copied c.in-Some.is) shows in
     c.add_holder.ensures s shows_rows
-    (subst (λ (h : Option Holding). IsHoldingOf s c.args.name.now h) c.in-Some-2.is (c.in_ok-holding.ensures s c.args.name.now regular are shows_rows)) distinct
+    (subst (λ (h : Option Holding). IsHoldingOf s c.args.name.now h) c.in-Some-2.is (c.in_ok-holding.ensures s c.args.name.now regular are shows_rows))

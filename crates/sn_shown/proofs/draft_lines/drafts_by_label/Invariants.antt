@@ -9,7 +9,7 @@ use Rattle.sn_shown.proofs.WalkLemmas.{ahead}
 use Rattle.sn_shown.proofs.draft_lines.drafts_by_label.Given as goal
 
 abbrev pub invariant-items : goal.invariant-items
-invariant-items l = (s : Ideal) → ShowsDrafts (row_in l.rows) l.labels l.set s l.name → IsGathered l.rows l.labels s l.name l.drafts (lent l.found)
+invariant-items l = (s : Ideal) → ShowsDrafts (row_in l.rows) l.set s l.name → IsGathered l.rows l.labels s l.name l.drafts (lent l.found)
 
 abbrev pub decreases-items : goal.decreases-items
 decreases-items l = length (ahead l.rows (lent l.found))

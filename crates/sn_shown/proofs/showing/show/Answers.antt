@@ -11,6 +11,6 @@ returns g c = λ s shown.
     let served : IsServed (row_in c.args.server.now) s = record { regular = shown.regular; accounts = shown.accounts } in
     let are = c.in_ok-numbers.ensures s served in
     let sets = c.in_ok-sets.ensures s shown.regular shown.each shown.held are in
-    c.in_ok-add_devices.ensures s shown.regular shown.each are shown.distinct
+    c.in_ok-add_devices.ensures s shown.regular shown.each are
     ∙ ap (λ (xs : List Bytes). xs ++ flat_map (device_lines c.args.labels.now s) c.args.names.now)
     (c.in_ok-add_accounts.ensures s served are sets ∙ ap (λ (xs : List Bytes). xs ++ flat_map (account_lines c.args.labels.now) s.accounts) c.new-lines.ensures)

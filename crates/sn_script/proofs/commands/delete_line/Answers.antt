@@ -1,0 +1,26 @@
+use Rattle.std.proofs.Common.{◌-◌, Bor, List, ℕ, [], drop, get_or, length, map, take}
+use Rattle.sn_script.specs.Grammar.{AreLosses, IsLabel}
+use Rattle.sn_script.specs.declared.script.Fate.{Fate}
+use Rattle.sn_script.proofs.CommandFacts.{delete_is, no_delete_label, two_words}
+use Rattle.sn_script.proofs.Ordinals.{absent, present}
+use Rattle.sn_script.proofs.commands.delete_line.Goals as goal
+
+pub returns-in_default-label_of : goal.returns-in_default-label_of
+returns-in_default-label_of c =
+    let words = c.args.words.now in
+    let d : Bor (List ℕ) = record { ref_ptr = (0, 0); now = [] } in
+    let rest : List (List ℕ) = map (λ w. w.now) (take (length words - 2) (drop 2 words)) in
+    let parts = two_words (λ w. w.now) words d c.in-len2-up.len_at_least in
+    no_delete_label (map (λ w. w.now) words) (get_or words 0 d).now (get_or words 1 d).now rest parts
+    (absent (IsLabel (get_or words 1 d).now) c.label_of.result c.label_of.ensures c.in_default-label_of.not-Some)
+
+pub returns-in_ok-of-in-Some-2 : goal.returns-in_ok-of-in-Some-2
+returns-in_ok-of-in-Some-2 c =
+    let words = c.args.words.now in
+    let d : Bor (List ℕ) = record { ref_ptr = (0, 0); now = [] } in
+    let rest : List (List ℕ) = map (λ w. w.now) (take (length words - 2) (drop 2 words)) in
+    let parts = two_words (λ w. w.now) words d c.in-len2-up.len_at_least in
+    delete_is (map (λ w. w.now) words) (get_or words 0 d).now (get_or words 1 d).now c.in_ok-of-in-Some-2.field-0 rest c.in-Some.label c.in-Some-2.fates
+    parts (c.is_name.ensures.0 c.if-not-is_name.false) c.in_ok-of-in-Some-2.ensures c.in-Some.ensures
+    (present ((fates : List Fate) → ¬ (AreLosses rest fates)) (AreLosses rest) c.in_ok-fates-in-len2-up.field-0 c.in-Some-2.fates
+    c.in_ok-fates-in-len2-up.ensures c.in-Some-2.is)
