@@ -1,0 +1,3 @@
+pub mod CarriedLemmas
+pub mod CourseLemmas
+pub mod SetLemmas

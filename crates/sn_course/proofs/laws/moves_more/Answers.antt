@@ -1,0 +1,5 @@
+use Rattle.sn_course.proofs.CourseLemmas.{moves_more}
+use Rattle.sn_course.proofs.laws.moves_more.Goals as goal
+
+pub returns : goal.returns
+returns c = moves_more

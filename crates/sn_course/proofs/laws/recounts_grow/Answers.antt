@@ -1,0 +1,5 @@
+use Rattle.sn_course.proofs.CourseLemmas.{recounts_grow}
+use Rattle.sn_course.proofs.laws.recounts_grow.Goals as goal
+
+pub returns : goal.returns
+returns c = recounts_grow c.reads_then.ensures.rows

@@ -1,0 +1,134 @@
+-- The event of a line: what both ends did, the moves that this says, and how it ended.
+use Rattle.std.specs.Prelude.{◌≡◌, List, [], ◌++◌, Bool, false, true, Option, Some, None}
+use Rattle.sn_client.specs.Runs.{Act, Call, Halt, answered, broken, content, delete, edit, list, passwd, put, refused, register, sign_in, sync}
+use Rattle.sn_client.specs.declared.error.ClientError.{ClientError}
+use Rattle.sn_client.specs.declared.error.ClientError.TheVariants as client
+use Rattle.sn_events.specs.Events.{AreServedAt, status_of}
+use Rattle.sn_events.specs.Fates.{AreByLosses}
+use Rattle.sn_laws.specs.Lookups.{Bytes}
+use Rattle.sn_laws.specs.Runs.{end}
+use Rattle.sn_laws.specs.declared.ideal.Ideal.{Ideal}
+use Rattle.sn_report.specs.Labels.{Labels}
+use Rattle.sn_report.specs.Showing.{show_lines}
+use Rattle.sn_report.specs.declared.report.Event.{Event}
+use Rattle.sn_report.specs.declared.report.Last.{Last}
+use Rattle.sn_report.specs.declared.report.Last.TheVariants as last
+use Rattle.sn_rows.specs.Table.{Rows}
+use Rattle.sn_rows.specs.declared.change.Change.{Change}
+use Rattle.sn_script.specs.declared.script.Line.{Line}
+use Rattle.sn_script.specs.declared.script.Line.TheVariants as line
+use Rattle.sn_script.specs.declared.script.Ordinal.{Ordinal}
+use Rattle.sn_status.specs.declared.refusal.ClientRefusal.TheVariants as refusal
+use Rattle.sn_sync.specs.declared.answer.Answer.{Answer}
+use Rattle.sn_world.specs.Calls.{Fate, served}
+use Rattle.sn_world.specs.Sessions.{LeadsLine, MayCome, again, calls}
+use Rattle.sn_world.specs.Synced.{IsSynced}
+use Rattle.sn_world.specs.World.{Made, World}
+use Rattle.sn_course.specs.Courses.{Course, Reported, nth_made}
+use Rattle.sn_course.specs.Lines.{call_of, device_of, fates_of, losses_of}
+use Rattle.sn_course.specs.Settings.{words_of}
+
+-- ---- how an event ends
+
+-- a call that was refused so ends with this line; one in want of memory ends the replay
+abbrev pub EndsRefused : ClientError → Last → Type 0
+EndsRefused client.NoAccount l = l ≡ last.Refused refusal.NoAccount
+EndsRefused (client.NoItem uuid) l = l ≡ last.Refused (refusal.NoItem uuid)
+EndsRefused (client.Closed nonce) l = l ≡ last.Refused (refusal.Closed nonce)
+EndsRefused (client.TooLong length) l = l ≡ last.Refused (refusal.TooLong length)
+EndsRefused client.NotObject l = l ≡ last.Refused refusal.NotObject
+EndsRefused (client.Refused status tag) l = l ≡ last.Server status tag
+EndsRefused (client.BadAnswer place) l = l ≡ last.BadAnswer place
+EndsRefused client.RoundsUsed l = l ≡ last.Refused refusal.RoundsUsed
+EndsRefused (client.NoFreshUuid drawn) l = l ≡ last.Refused (refusal.NoFreshUuid drawn)
+EndsRefused client.WrongPassword l = l ≡ last.Refused refusal.WrongPassword
+EndsRefused (client.OtherAccount identifier) l = l ≡ last.Refused (refusal.OtherAccount identifier)
+EndsRefused (client.HasAccount identifier) l = l ≡ last.Refused (refusal.HasAccount identifier)
+EndsRefused (client.Cost cost) l = l ≡ last.Refused (refusal.Cost cost)
+EndsRefused (client.NumbersUsed next) l = l ≡ last.Refused (refusal.NumbersUsed next)
+EndsRefused (client.Rekey error) l = l ≡ last.Refused (refusal.Rekey error)
+EndsRefused (client.TooLarge size) l = l ≡ last.Refused (refusal.TooLarge size)
+EndsRefused client.LinkFault l = l ≡ last.Link
+EndsRefused client.Memory l = ⊥
+
+abbrev pub EndsSo : Halt → Last → Type 0
+EndsSo (answered given left) l = l ≡ last.Done
+EndsSo (refused why) l = EndsRefused why l
+EndsSo (broken what changes) l = ⊥
+
+-- a sync that ends well leaves its device with just the undeleted last versions of its account, and no draft
+abbrev pub EndsWell : Call → Bytes → Rows → Ideal → Last → Type 0
+EndsWell sync name rows s l = l ≡ last.Done → IsSynced rows s name
+EndsWell (register identifier password cost) name rows s l = Unit {0}
+EndsWell (sign_in identifier password) name rows s l = Unit {0}
+EndsWell (put kind text) name rows s l = Unit {0}
+EndsWell (edit uuid text) name rows s l = Unit {0}
+EndsWell (delete uuid) name rows s l = Unit {0}
+EndsWell list name rows s l = Unit {0}
+EndsWell (content uuid) name rows s l = Unit {0}
+EndsWell (passwd password cost) name rows s l = Unit {0}
+
+-- ---- what both ends did
+
+-- The device made this call, from the line's words, at the line's moment, and lost what the line says: a line of the world. The event has its moves.
+pub record Called (secret : Bytes) (c : Course) (r : Reported) (name : Bytes) (call : Call) (e : Event) (next : World) : Type 0 where
+  pub acts : List Act
+  pub fates : List Fate
+  pub halt : Halt
+  pub comes : MayCome secret c.world (end c.moves) (calls name 1 call (words_of r.settings r.number) acts fates halt true)
+  pub leads : LeadsLine secret c.world (end c.moves) (calls name 1 call (words_of r.settings r.number) acts fates halt true)
+  pub next_is : next ≡ leads.next
+  pub moves_are : e.moves ≡ leads.moves
+  pub by_losses : AreByLosses (losses_of (fates_of r.asks)) 1 acts fates
+  pub at : AreServedAt r.settings.clock fates
+  pub ended : EndsSo halt e.last
+  pub well : EndsWell call name (next.devices name) (end (c.moves ++ e.moves)) e.last
+
+-- The request that is meant was served once more, at the line's moment, and nobody heard the answer: a line of the world.
+pub record CameAgain (secret : Bytes) (c : Course) (r : Reported) (device : Bytes) (which : Ordinal) (e : Event) (next : World) : Type 0 where
+  pub m : Made
+  pub meant : nth_made device c.world.made which ≡ Some m
+  pub changes : List Change
+  pub given : Answer
+  pub comes : MayCome secret c.world (end c.moves) (again m.device m.request (served r.settings.clock changes given false))
+  pub leads : LeadsLine secret c.world (end c.moves) (again m.device m.request (served r.settings.clock changes given false))
+  pub begins_is : leads.begins ≡ m.begins
+  pub next_is : next ≡ leads.next
+  pub moves_are : e.moves ≡ leads.moves
+  pub ended : e.last ≡ last.Answer (status_of given)
+
+-- both ends stay as they are
+pub record IsShown (c : Course) (e : Event) (next : World) : Type 0 where
+  pub next_is : next ≡ c.world
+  pub moves_are : e.moves ≡ []
+  pub ended : e.last ≡ last.Done
+
+abbrev pub CallsOf : Bytes → Course → Reported → Option Bytes → Option Call → Event → World → Type 0
+CallsOf secret c r (Some name) (Some call) e next = Called secret c r name call e next
+CallsOf secret c r (Some name) None e next = ⊥
+CallsOf secret c r None call e next = ⊥
+
+-- by the line
+abbrev pub HappensAs : Line → Bytes → Course → Reported → Event → World → Type 0
+HappensAs (line.Late device which) secret c r e next = CameAgain secret c r device which e next
+HappensAs line.Show secret c r e next = IsShown c e next
+HappensAs other secret c r e next = CallsOf secret c r (device_of other) (call_of c.labels r.settings other) e next
+
+-- ---- the event
+
+-- whether the line puts a new item
+abbrev pub puts_item : Line → Bool
+puts_item (line.Put device fates text) = true
+puts_item other = false
+
+-- what `show` prints: a function of the state, of the labels and of the devices that have begun
+abbrev pub shown_by : Line → Labels → List Bytes → Ideal → List Bytes
+shown_by line.Show labels names s = show_lines labels names s
+shown_by other labels names s = []
+
+-- the event is the line's
+pub record Fits (secret : Bytes) (c : Course) (r : Reported) (e : Event) (next : World) : Type 0 where
+  pub number : e.number ≡ r.number
+  pub puts : e.puts ≡ puts_item r.asks
+  pub happens : HappensAs r.asks secret c r e next
+  pub shown : e.shown ≡ shown_by r.asks c.labels c.names (end c.moves)

@@ -1,0 +1,6 @@
+pub mod Courses
+pub mod Fits
+pub mod Headline
+pub mod Laws
+pub mod Lines
+pub mod Settings
