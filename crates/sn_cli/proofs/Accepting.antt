@@ -13,12 +13,13 @@ use Rattle.sn_client.specs.Runs.{Call}
 use Rattle.sn_cli.specs.Inputs.{MOST_INPUT, HasText, IsOneLine}
 use Rattle.sn_cli.specs.Runs.{Accepts, IsInputRefusal, IsRefusal, Meets, RunsOver}
 use Rattle.sn_cli.specs.Shown.{IsShown}
+use Rattle.sn_course.specs.Headline.{IsNotAllowed}
 use Rattle.sn_status.specs.declared.refusal.FormRefusal.{FormRefusal}
 use Rattle.sn_status.specs.declared.refusal.FormRefusal.TheVariants as form
 use Rattle.sn_status.specs.declared.refusal.ItemRefusal.{ItemRefusal}
 use Rattle.sn_status.specs.declared.refusal.ItemRefusal.TheVariants as item
 use Rattle.sn_status.specs.declared.refusal.Refusal.{Refusal}
-use Rattle.sn_status.specs.declared.refusal.Refusal.TheVariants.{InputLong, InputUtf8, Form, Item, Line, PasswordLine, Client}
+use Rattle.sn_status.specs.declared.refusal.Refusal.TheVariants.{InputLong, InputUtf8, Form, Item, Line, NotAllowed, PasswordLine, Client}
 use Rattle.sn_status.specs.declared.status.Status.{Status}
 use Rattle.sn_status.specs.declared.status.Status.TheVariants.{Done, Usage, Refused, DiskFault, LinkFault, ReadFault, WriteFault, Memory, Foreign, Server, BadAnswer}
 use Rattle.sn_io.specs.Streams.{GivesPart, HasGiven}
@@ -27,9 +28,11 @@ use Rattle.sn_items.specs.Laws.{SealedOpens}
 use Rattle.sn_items.specs.Refusals.{HasCause}
 use Rattle.sn_items.specs.declared.error.ItemError.{ItemError}
 use Rattle.sn_items.specs.declared.error.ItemError.TheVariants as item_errors
-use Rattle.sn_replay.specs.declared.bench.PlainBench.{PlainBench}
+use Rattle.sn_disk.specs.declared.mem_shelf.MemShelf.{MemShelf}
 use Rattle.sn_script.specs.Scripts.{AreLinesFrom, IsLineAt, IsScript, lines_of}
+use Rattle.sn_script.specs.Laws.{HasOneScript}
 use Rattle.sn_script.specs.declared.script.Line.{Line as ScriptLine}
+use Rattle.sn_script.specs.declared.script.Script.{Script}
 use Rattle.sn_string.specs.Grammar.{parts_of}
 use Rattle.sn_string.specs.Laws.{IsReadBack}
 use Rattle.sn_string.specs.Refusals.{Refuses}
@@ -68,6 +71,8 @@ not_refused calls_for refuses (Item refusal) i j o p text has none ran =
     none (Item refusal) (subst (λ t. refuses t (Item refusal)) (same_input i j text ran.text has.is ran.read.given) ran.cause)
 not_refused calls_for refuses (Line number) i j o p text has none ran =
     none (Line number) (subst (λ t. refuses t (Line number)) (same_input i j text ran.text has.is ran.read.given) ran.cause)
+not_refused calls_for refuses (NotAllowed number) i j o p text has none ran =
+    none (NotAllowed number) (subst (λ t. refuses t (NotAllowed number)) (same_input i j text ran.text has.is ran.read.given) ran.cause)
 not_refused calls_for refuses (PasswordLine count) i j o p text has none ran =
     none (PasswordLine count) (subst (λ t. refuses t (PasswordLine count)) (same_input i j text ran.text has.is ran.read.given) ran.cause)
 not_refused calls_for refuses (Client refusal) i j o p text has none ran =
@@ -107,6 +112,7 @@ open_apart law line input plain calls InputLong refuses = refuses
 open_apart law line input plain calls (InputUtf8 place) refuses = refuses
 open_apart law line input plain calls (Form refusal) refuses = refuses
 open_apart law line input plain calls (Line number) refuses = refuses
+open_apart law line input plain calls (NotAllowed number) refuses = refuses
 open_apart law line input plain calls (PasswordLine count) refuses = refuses
 open_apart law line input plain calls (Client refusal) refuses = refuses
 open_apart law line input plain calls (Item refusal) refuses =
@@ -149,6 +155,7 @@ show_apart law text output shown (Form refusal) refuses =
     no_form_want refusal (law text shown.reading shown.reads (Err (form_error refusal)) (may_refuse text refusal refuses))
 show_apart law text output shown (Item refusal) refuses = refuses
 show_apart law text output shown (Line number) refuses = refuses
+show_apart law text output shown (NotAllowed number) refuses = refuses
 show_apart law text output shown (PasswordLine count) refuses = refuses
 show_apart law text output shown (Client refusal) refuses = refuses
 
@@ -166,16 +173,21 @@ line_there (t ∷ ts) (l ∷ ls) from zero n text are there is =
 line_there (t ∷ ts) (l ∷ ls) from (suc place) n text are there is =
     line_there ts ls (suc from) place n text are.1 there (omega (arith, is))
 
-replay_apart : (text : List ℕ) (lines : List ScriptLine) → IsScript text lines → (refusal : Refusal) → ReplayRefuses text refusal → ⊥
-replay_apart text lines script InputLong refuses = refuses
-replay_apart text lines script (InputUtf8 place) refuses = refuses
-replay_apart text lines script (Form refusal) refuses = refuses
-replay_apart text lines script (Item refusal) refuses = refuses
-replay_apart text lines script (PasswordLine count) refuses = refuses
-replay_apart text lines script (Client refusal) refuses = refuses
-replay_apart text lines script (Line number) refuses =
-    let found = line_there (lines_of text) lines 0 refuses.place refuses.place refuses.wrong_text script refuses.there (omega arith) in
+replay_apart : HasOneScript → (text : List ℕ) (script : Script) → IsScript text script.lines → ((number : ℕ) → ¬ (IsNotAllowed script number))
+    → (refusal : Refusal) → ReplayRefuses text refusal → ⊥
+replay_apart one text script is allowed InputLong refuses = refuses
+replay_apart one text script is allowed (InputUtf8 place) refuses = refuses
+replay_apart one text script is allowed (Form refusal) refuses = refuses
+replay_apart one text script is allowed (Item refusal) refuses = refuses
+replay_apart one text script is allowed (PasswordLine count) refuses = refuses
+replay_apart one text script is allowed (Client refusal) refuses = refuses
+replay_apart one text script is allowed (Line number) refuses =
+    let found = line_there (lines_of text) script.lines 0 refuses.place refuses.place refuses.wrong_text is refuses.there (omega arith) in
     refuses.wrong found.0 found.1
+replay_apart one text script is allowed (NotAllowed number) (other, other_is, refused) =
+    let lines : other.lines ≡ script.lines = one text other.lines script.lines other_is is in
+    let same : other ≡ script = ap (λ (ls : List ScriptLine). record { lines = ls }) lines in
+    allowed number (subst (λ (s : Script). IsNotAllowed s number) same refused)
 
 -- ---- every command
 
@@ -183,35 +195,35 @@ no_usage : (words : List (List ℕ)) (text : List ℕ) → IsUsage words → Acc
 no_usage words text usage (inl (line, is)) = usage.no_seal line is
 no_usage words text usage (inr (inl (line, plain, is, calls))) = usage.no_open line is
 no_usage words text usage (inr (inr (inl (output, is, shown)))) = usage.no_show is
-no_usage words text usage (inr (inr (inr (lines, is, script)))) = usage.no_replay is
+no_usage words text usage (inr (inr (inr (script, is, text_is, allowed)))) = usage.no_replay is
 
-none_refused : SealedOpens → IsReadBack → (words : List (List ℕ)) (serves : ServeLine → Status → Type 0) (ends : List ℕ → Call → Option (List ℕ) → CallEnd → Type 0) (untouched left link_left shelf_left : Type 0) (refusal : Refusal) (b c : PlainBench) (i j o p : Option (List ℕ))
+none_refused : SealedOpens → IsReadBack → HasOneScript → (words : List (List ℕ)) (serves : ServeLine → Status → Type 0) (ends : List ℕ → Call → Option (List ℕ) → CallEnd → Type 0) (untouched left link_left shelf_left : Type 0) (refusal : Refusal) (b c : MemShelf) (i j o p : Option (List ℕ))
     (s t : Option (List (List ℕ))) (text : List ℕ) → HasText i text → Accepts words text → Meets words serves ends untouched left link_left shelf_left (Refused refusal) b c i j o p s t → ⊥
-none_refused opens reads words serves ends untouched left link_left shelf_left refusal b c i j o p s t text has (inl (line, is)) met =
+none_refused opens reads one words serves ends untouched left link_left shelf_left refusal b c i j o p s t text has (inl (line, is)) met =
     let runs = met.seal line is in
     not_refused (SealCallsFor line runs.seed) SealRefuses refusal i j o p text has (λ r refuses. refuses) runs.ran
-none_refused opens reads words serves ends untouched left link_left shelf_left refusal b c i j o p s t text has (inr (inl (line, plain, is, calls))) met =
+none_refused opens reads one words serves ends untouched left link_left shelf_left refusal b c i j o p s t text has (inr (inl (line, plain, is, calls))) met =
     not_refused (OpenCallsFor line) (OpenRefuses line) refusal i j o p text has (open_apart opens line text plain calls) (met.open_ line is)
-none_refused opens reads words serves ends untouched left link_left shelf_left refusal b c i j o p s t text has (inr (inr (inl (output, is, shown)))) met =
+none_refused opens reads one words serves ends untouched left link_left shelf_left refusal b c i j o p s t text has (inr (inr (inl (output, is, shown)))) met =
     not_refused IsShown ShowRefuses refusal i j o p text has (show_apart reads text output shown) (met.show is)
-none_refused opens reads words serves ends untouched left link_left shelf_left refusal b c i j o p s t text has (inr (inr (inr (lines, is, script)))) met =
-    not_refused (ReplayCallsFor c) ReplayRefuses refusal i j o p text has (replay_apart text lines script) (met.replay is)
+none_refused opens reads one words serves ends untouched left link_left shelf_left refusal b c i j o p s t text has (inr (inr (inr (script, is, text_is, allowed)))) met =
+    not_refused (ReplayCallsFor c) ReplayRefuses refusal i j o p text has (replay_apart one text script text_is allowed) (met.replay is)
 
-pub accepted : SealedOpens → IsReadBack → (words : List (List ℕ)) (serves : ServeLine → Status → Type 0) (ends : List ℕ → Call → Option (List ℕ) → CallEnd → Type 0) (untouched left link_left shelf_left : Type 0) (status : Status) (b c : PlainBench) (i j o p : Option (List ℕ))
+pub accepted : SealedOpens → IsReadBack → HasOneScript → (words : List (List ℕ)) (serves : ServeLine → Status → Type 0) (ends : List ℕ → Call → Option (List ℕ) → CallEnd → Type 0) (untouched left link_left shelf_left : Type 0) (status : Status) (b c : MemShelf) (i j o p : Option (List ℕ))
     (s t : Option (List (List ℕ))) → Meets words serves ends untouched left link_left shelf_left status b c i j o p s t → (text : List ℕ) → HasText i text → Accepts words text
     → IsRefusal status → ⊥
-accepted opens reads words serves ends untouched left link_left shelf_left Done b c i j o p s t met text has accepts refusal = refusal
-accepted opens reads words serves ends untouched left link_left shelf_left Usage b c i j o p s t met text has accepts refusal = no_usage words text met.spelled accepts
-accepted opens reads words serves ends untouched left link_left shelf_left (Refused r) b c i j o p s t met text has accepts refusal =
-    none_refused opens reads words serves ends untouched left link_left shelf_left r b c i j o p s t text has accepts met
-accepted opens reads words serves ends untouched left link_left shelf_left ReadFault b c i j o p s t met text has accepts refusal = refusal
-accepted opens reads words serves ends untouched left link_left shelf_left WriteFault b c i j o p s t met text has accepts refusal = refusal
-accepted opens reads words serves ends untouched left link_left shelf_left Memory b c i j o p s t met text has accepts refusal = refusal
-accepted opens reads words serves ends untouched left link_left shelf_left DiskFault b c i j o p s t met text has accepts refusal = refusal
-accepted opens reads words serves ends untouched left link_left shelf_left LinkFault b c i j o p s t met text has accepts refusal = refusal
-accepted opens reads words serves ends untouched left link_left shelf_left (Foreign unfit) b c i j o p s t met text has accepts refusal = refusal
-accepted opens reads words serves ends untouched left link_left shelf_left (Server number tag) b c i j o p s t met text has accepts refusal = refusal
-accepted opens reads words serves ends untouched left link_left shelf_left (BadAnswer place) b c i j o p s t met text has accepts refusal = refusal
+accepted opens reads one words serves ends untouched left link_left shelf_left Done b c i j o p s t met text has accepts refusal = refusal
+accepted opens reads one words serves ends untouched left link_left shelf_left Usage b c i j o p s t met text has accepts refusal = no_usage words text met.spelled accepts
+accepted opens reads one words serves ends untouched left link_left shelf_left (Refused r) b c i j o p s t met text has accepts refusal =
+    none_refused opens reads one words serves ends untouched left link_left shelf_left r b c i j o p s t text has accepts met
+accepted opens reads one words serves ends untouched left link_left shelf_left ReadFault b c i j o p s t met text has accepts refusal = refusal
+accepted opens reads one words serves ends untouched left link_left shelf_left WriteFault b c i j o p s t met text has accepts refusal = refusal
+accepted opens reads one words serves ends untouched left link_left shelf_left Memory b c i j o p s t met text has accepts refusal = refusal
+accepted opens reads one words serves ends untouched left link_left shelf_left DiskFault b c i j o p s t met text has accepts refusal = refusal
+accepted opens reads one words serves ends untouched left link_left shelf_left LinkFault b c i j o p s t met text has accepts refusal = refusal
+accepted opens reads one words serves ends untouched left link_left shelf_left (Foreign unfit) b c i j o p s t met text has accepts refusal = refusal
+accepted opens reads one words serves ends untouched left link_left shelf_left (Server number tag) b c i j o p s t met text has accepts refusal = refusal
+accepted opens reads one words serves ends untouched left link_left shelf_left (BadAnswer place) b c i j o p s t met text has accepts refusal = refusal
 
 -- ---- a device
 
@@ -227,6 +239,7 @@ taken ends untouched line (Refused (InputUtf8 place)) i j o p text runs has pass
 taken ends untouched line (Refused (Form cause)) i j o p text runs has password refusal = runs
 taken ends untouched line (Refused (Item cause)) i j o p text runs has password refusal = runs
 taken ends untouched line (Refused (Line number)) i j o p text runs has password refusal = runs
+taken ends untouched line (Refused (NotAllowed number)) i j o p text runs has password refusal = runs
 taken ends untouched line (Refused (PasswordLine count)) i j o p text runs has password refusal =
     runs.read.none (subst (λ t. IsPassword (first_line t)) (sym (same_input i j text runs.read.text has.is runs.read.read.given)) (password runs.read.takes))
 taken ends untouched line (Refused (Client cause)) i j o p text runs has password refusal = refusal

@@ -17,7 +17,7 @@ use Rattle.sn_calls.specs.Parts.{IsLinkFault}
 use Rattle.sn_cli.specs.Runs.{AreWordsOf, IsSilent}
 use Rattle.sn_status.specs.declared.refusal.ClientRefusal.{ClientRefusal}
 use Rattle.sn_status.specs.declared.refusal.ClientRefusal.TheVariants as client
-use Rattle.sn_status.specs.declared.refusal.Refusal.TheVariants.{InputLong, InputUtf8, Form, Item, Line, PasswordLine, Client}
+use Rattle.sn_status.specs.declared.refusal.Refusal.TheVariants.{InputLong, InputUtf8, Form, Item, Line, NotAllowed, PasswordLine, Client}
 use Rattle.sn_status.specs.declared.status.Status.{Status}
 use Rattle.sn_status.specs.declared.status.Status.TheVariants.{Done, Usage, Refused, DiskFault, LinkFault, ReadFault, WriteFault, Memory, Foreign, Server, BadAnswer}
 use Rattle.sn_status.specs.declared.status.Unfit.{Unfit}
@@ -83,6 +83,7 @@ leads_to_memory ended (Refused (InputUtf8 place)) tells leads = absurd leads
 leads_to_memory ended (Refused (Form refusal)) tells leads = absurd leads
 leads_to_memory ended (Refused (Item refusal)) tells leads = absurd leads
 leads_to_memory ended (Refused (Line number)) tells leads = absurd leads
+leads_to_memory ended (Refused (NotAllowed number)) tells leads = absurd leads
 leads_to_memory ended (Refused (PasswordLine count)) tells leads = absurd leads
 leads_to_memory ended (Refused (Client refusal)) tells leads = subst MayWant (sym leads) (no_link_fault refusal)
 leads_to_memory ended DiskFault tells leads = absurd tells
@@ -104,6 +105,7 @@ module _ (ends : List ℕ → Call → Option (List ℕ) → CallEnd → Type 0)
   unread (Refused (Form refusal)) takes stops kept silent = absurd stops
   unread (Refused (Item refusal)) takes stops kept silent = absurd stops
   unread (Refused (Line number)) takes stops kept silent = absurd stops
+  unread (Refused (NotAllowed number)) takes stops kept silent = absurd stops
   unread (Refused (PasswordLine count)) takes stops kept silent = absurd stops
   unread (Refused (Client refusal)) takes stops kept silent = absurd stops
   unread DiskFault takes stops kept silent = absurd stops
@@ -140,6 +142,7 @@ module _ (ends : List ℕ → Call → Option (List ℕ) → CallEnd → Type 0)
   failed_so (Refused (Form refusal)) ended called leads silent = absurd leads
   failed_so (Refused (Item refusal)) ended called leads silent = absurd leads
   failed_so (Refused (Line number)) ended called leads silent = absurd leads
+  failed_so (Refused (NotAllowed number)) ended called leads silent = absurd leads
   failed_so (Refused (PasswordLine count)) ended called leads silent = absurd leads
   failed_so (Refused (Client refusal)) ended called leads silent = record { ended = ended; called = called; leads = leads; silent = silent }
   failed_so DiskFault ended called leads silent = record { ended = ended; called = called; leads = leads; silent = silent }
@@ -182,6 +185,7 @@ module _ (ends : List ℕ → Call → Option (List ℕ) → CallEnd → Type 0)
   device_to_memory (Refused (Form refusal)) tells runs = absurd runs
   device_to_memory (Refused (Item refusal)) tells runs = absurd runs
   device_to_memory (Refused (Line number)) tells runs = absurd runs
+  device_to_memory (Refused (NotAllowed number)) tells runs = absurd runs
   device_to_memory (Refused (PasswordLine count)) tells runs =
       stopped_to_memory (HasNoPassword ends untouched line i j o p count)
       (λ read. inr (takes_input line.task read.takes, read_at_most i j read.text read.read)) runs
@@ -204,6 +208,7 @@ module _ (ends : List ℕ → Call → Option (List ℕ) → CallEnd → Type 0)
   words_of_device words (Refused (Form refusal)) spelled runs = absurd runs
   words_of_device words (Refused (Item refusal)) spelled runs = absurd runs
   words_of_device words (Refused (Line number)) spelled runs = absurd runs
+  words_of_device words (Refused (NotAllowed number)) spelled runs = absurd runs
   words_of_device words (Refused (PasswordLine count)) spelled runs = inr (inr (inr (inr (line, spelled, takes_input line.task runs.read.takes))))
   words_of_device words (Refused (Client refusal)) spelled runs = (line, spelled)
   words_of_device words DiskFault spelled runs = inr (line, spelled)

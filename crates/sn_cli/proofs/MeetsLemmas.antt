@@ -17,13 +17,13 @@ use Rattle.sn_cli.specs.Shown.{IsShown}
 use Rattle.sn_command.specs.Syntax.{AsksForHelp, AsksForVersion, Takes}
 use Rattle.sn_status.specs.declared.refusal.ClientRefusal.{ClientRefusal}
 use Rattle.sn_status.specs.declared.refusal.Refusal.{Refusal}
-use Rattle.sn_status.specs.declared.refusal.Refusal.TheVariants.{InputLong, InputUtf8, Form, Item, Line, PasswordLine, Client}
+use Rattle.sn_status.specs.declared.refusal.Refusal.TheVariants.{InputLong, InputUtf8, Form, Item, Line, NotAllowed, PasswordLine, Client}
 use Rattle.sn_client.specs.Runs.{Call}
 use Rattle.sn_serve.specs.declared.ends.Served.{Served}
 use Rattle.sn_serve.specs.declared.ends.Served.TheVariants as served
 use Rattle.sn_status.specs.declared.status.Status.{Status}
 use Rattle.sn_status.specs.declared.status.Status.TheVariants.{Done, Usage, Refused, DiskFault, LinkFault, ReadFault, WriteFault, Memory, Foreign, Server, BadAnswer}
-use Rattle.sn_replay.specs.declared.bench.PlainBench.{PlainBench}
+use Rattle.sn_disk.specs.declared.mem_shelf.MemShelf.{MemShelf}
 use Rattle.sn_cli.proofs.DeviceRuns.{device_to_memory, words_of_device}
 use Rattle.sn_command.proofs.OneDevice.{one_device, other_command}
 use Rattle.sn_command.proofs.OneLine.{one_command, one_open, one_seal, one_serve}
@@ -96,6 +96,7 @@ words_of_run calls_for refuses no_client words (Refused (InputUtf8 place)) i j o
 words_of_run calls_for refuses no_client words (Refused (Form refusal)) i j o p reading ran = reading
 words_of_run calls_for refuses no_client words (Refused (Item refusal)) i j o p reading ran = reading
 words_of_run calls_for refuses no_client words (Refused (Line number)) i j o p reading ran = reading
+words_of_run calls_for refuses no_client words (Refused (NotAllowed number)) i j o p reading ran = reading
 words_of_run calls_for refuses no_client words (Refused (PasswordLine count)) i j o p reading ran = reading
 words_of_run calls_for refuses no_client words (Refused (Client refusal)) i j o p reading ran = absurd (no_client refusal ran.text ran.cause)
 words_of_run calls_for refuses no_client words DiskFault i j o p reading ran = absurd ran
@@ -129,7 +130,7 @@ module _ (words : List (List ℕ)) (serves : ServeLine → Status → Type 0) (e
     pub link : link_left
     pub shelf : shelf_left
 
-  pub sealed : (line : SealLine) (status : Status) (b : PlainBench) (i j o p : Option (List ℕ)) (s t : Option (List (List ℕ))) → IsLeft → IsSealLine words line
+  pub sealed : (line : SealLine) (status : Status) (b : MemShelf) (i j o p : Option (List ℕ)) (s t : Option (List (List ℕ))) → IsLeft → IsSealLine words line
       → SealRuns line status i j o p s t → Meets words serves ends untouched left link_left shelf_left status b b i j o p s t
   sealed line status b i j o p s t same spelled runs = record {
     seal = λ other is. subst (λ l. SealRuns l status i j o p s t) (one_seal words line other spelled is) runs;
@@ -151,7 +152,7 @@ module _ (words : List (List ℕ)) (serves : ServeLine → Status → Type 0) (e
     no_script = λ of_input. refl;
   }
 
-  pub opened : (line : OpenLine) (status : Status) (b : PlainBench) (i j o p : Option (List ℕ)) (s : Option (List (List ℕ))) → IsLeft → IsOpenLine words line
+  pub opened : (line : OpenLine) (status : Status) (b : MemShelf) (i j o p : Option (List ℕ)) (s : Option (List (List ℕ))) → IsLeft → IsOpenLine words line
       → RunsOver (OpenCallsFor line) (OpenRefuses line) status i j o p → Meets words serves ends untouched left link_left shelf_left status b b i j o p s s
   opened line status b i j o p s same spelled runs = record {
     seal = λ other is. absurd (seal_or_open words is.command spelled.command);
@@ -173,7 +174,7 @@ module _ (words : List (List ℕ)) (serves : ServeLine → Status → Type 0) (e
     no_script = λ of_input. refl;
   }
 
-  pub shown : (status : Status) (b : PlainBench) (i j o p : Option (List ℕ)) (s : Option (List (List ℕ))) → IsLeft → IsShowLine words
+  pub shown : (status : Status) (b : MemShelf) (i j o p : Option (List ℕ)) (s : Option (List (List ℕ))) → IsLeft → IsShowLine words
       → RunsOver IsShown ShowRefuses status i j o p → Meets words serves ends untouched left link_left shelf_left status b b i j o p s s
   shown status b i j o p s same spelled runs = record {
     seal = λ other is. absurd (seal_or_show words is.command spelled);
@@ -195,7 +196,7 @@ module _ (words : List (List ℕ)) (serves : ServeLine → Status → Type 0) (e
     no_script = λ of_input. refl;
   }
 
-  pub replayed : (status : Status) (b c : PlainBench) (i j o p : Option (List ℕ)) (s : Option (List (List ℕ))) → IsLeft → IsReplayLine words
+  pub replayed : (status : Status) (b c : MemShelf) (i j o p : Option (List ℕ)) (s : Option (List (List ℕ))) → IsLeft → IsReplayLine words
       → RunsOver (ReplayCallsFor c) ReplayRefuses status i j o p → (IsOfInput status → c ≡ b) → Meets words serves ends untouched left link_left shelf_left status b c i j o p s s
   replayed status b c i j o p s same spelled runs kept = record {
     seal = λ other is. absurd (seal_or_replay words is.command spelled);
@@ -230,7 +231,7 @@ module _ (words : List (List ℕ)) (serves : ServeLine → Status → Type 0) (e
   words_of_answer (Server number tag) o p asks wrote = absurd wrote
   words_of_answer (BadAnswer place) o p asks wrote = absurd wrote
 
-  pub answered : (status : Status) (b : PlainBench) (i o p : Option (List ℕ)) (s : Option (List (List ℕ))) → IsLeft → Asks words → WritesText status o p
+  pub answered : (status : Status) (b : MemShelf) (i o p : Option (List ℕ)) (s : Option (List (List ℕ))) → IsLeft → Asks words → WritesText status o p
       → Meets words serves ends untouched left link_left shelf_left status b b i i o p s s
   answered status b i o p s same asks wrote = record {
     seal = λ line is. absurd (not_asked words is.command.takes asks);
@@ -252,7 +253,7 @@ module _ (words : List (List ℕ)) (serves : ServeLine → Status → Type 0) (e
     no_script = λ of_input. refl;
   }
 
-  pub faulty : (b : PlainBench) (i o : Option (List ℕ)) (s : Option (List (List ℕ))) → IsLeft → IsUsage words → Meets words serves ends untouched left link_left shelf_left Usage b b i i o o s s
+  pub faulty : (b : MemShelf) (i o : Option (List ℕ)) (s : Option (List (List ℕ))) → IsLeft → IsUsage words → Meets words serves ends untouched left link_left shelf_left Usage b b i i o o s s
   faulty b i o s same usage = record {
     seal = λ line is. absurd (usage.no_seal line is);
     open_ = λ line is. absurd (usage.no_open line is);
@@ -273,7 +274,7 @@ module _ (words : List (List ℕ)) (serves : ServeLine → Status → Type 0) (e
     no_script = λ of_input. refl;
   }
 
-  pub wanted : (b : PlainBench) (i o : Option (List ℕ)) (s : Option (List (List ℕ))) → IsLeft → untouched → ((line : ServeLine) → serves line Memory)
+  pub wanted : (b : MemShelf) (i o : Option (List ℕ)) (s : Option (List (List ℕ))) → IsLeft → untouched → ((line : ServeLine) → serves line Memory)
       → Meets words serves ends untouched left link_left shelf_left Memory b b i i o o s s
   wanted b i o s same kept nothing = record {
     seal = λ line is. record { seed = []; drew = inl refl; ran = none_read i (MOST_INPUT + 1) };
@@ -296,7 +297,7 @@ module _ (words : List (List ℕ)) (serves : ServeLine → Status → Type 0) (e
   }
 
   -- a status for whose line memory was wanting
-  to_memory : (status : Status) → TellsValues status → (b c : PlainBench) (i j o p : Option (List ℕ)) (s t : Option (List (List ℕ)))
+  to_memory : (status : Status) → TellsValues status → (b c : MemShelf) (i j o p : Option (List ℕ)) (s t : Option (List (List ℕ)))
       → ((line : ServeLine) → serves line status → serves line Memory)
       → Meets words serves ends untouched left link_left shelf_left status b c i j o p s t
       → Meets words serves ends untouched left link_left shelf_left Memory b c i j o p s t
@@ -320,7 +321,7 @@ module _ (words : List (List ℕ)) (serves : ServeLine → Status → Type 0) (e
     no_script = λ of_input. absurd of_input;
   }
 
-  pub told : (status after : Status) (b c : PlainBench) (i j o p : Option (List ℕ)) (s t : Option (List (List ℕ)))
+  pub told : (status after : Status) (b c : MemShelf) (i j o p : Option (List ℕ)) (s t : Option (List (List ℕ)))
       → (TellsValues status → (line : ServeLine) → serves line status → serves line Memory)
       → IsTold status after → Meets words serves ends untouched left link_left shelf_left status b c i j o p s t
       → Meets words serves ends untouched left link_left shelf_left after b c i j o p s t
@@ -331,7 +332,7 @@ module _ (words : List (List ℕ)) (serves : ServeLine → Status → Type 0) (e
       (to_memory status tells b c i j o p s t (turns tells) met)
 
   -- a run of a device's command
-  pub called_so : (line : DeviceLine) (status : Status) (b : PlainBench) (i j o p : Option (List ℕ)) (s t : Option (List (List ℕ))) → left
+  pub called_so : (line : DeviceLine) (status : Status) (b : MemShelf) (i j o p : Option (List ℕ)) (s t : Option (List (List ℕ))) → left
       → IsDeviceLine words line → DeviceRuns ends untouched line i j o p status
       → Meets words serves ends untouched left link_left shelf_left status b b i j o p s t
   called_so line status b i j o p s t same spelled runs = record {
@@ -357,7 +358,7 @@ module _ (words : List (List ℕ)) (serves : ServeLine → Status → Type 0) (e
 -- a run of `serve`
 pub served_so : (words : List (List ℕ)) (served_ends : ServeLine → Served → Type 0) (unserved_so : Type 0)
     (ends : List ℕ → Call → Option (List ℕ) → CallEnd → Type 0) (untouched left link_left shelf_left : Type 0) (line : ServeLine) (status : Status)
-    (b : PlainBench) (i o p : Option (List ℕ)) (s t : Option (List (List ℕ))) → link_left → IsServeLine words line
+    (b : MemShelf) (i o p : Option (List ℕ)) (s t : Option (List (List ℕ))) → link_left → IsServeLine words line
     → ServeRuns (served_ends line) unserved_so status
     → Meets words (λ l. ServeRuns (served_ends l) unserved_so) ends untouched left link_left shelf_left status b b i i o p s t
 served_so words served_ends unserved_so ends untouched left link_left shelf_left line status b i o p s t same spelled ran = record {

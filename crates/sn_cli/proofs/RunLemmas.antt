@@ -8,7 +8,7 @@ use Rattle.sn_status.specs.Lines.{TellsValues}
 use Rattle.sn_cli.specs.Outputs.{Writes}
 use Rattle.sn_cli.specs.Runs.{Draws, RunsOver, SealRuns}
 use Rattle.sn_status.specs.declared.refusal.Refusal.{Refusal}
-use Rattle.sn_status.specs.declared.refusal.Refusal.TheVariants.{InputLong, InputUtf8, Form, Item, Line, PasswordLine, Client}
+use Rattle.sn_status.specs.declared.refusal.Refusal.TheVariants.{InputLong, InputUtf8, Form, Item, Line, NotAllowed, PasswordLine, Client}
 use Rattle.sn_status.specs.declared.status.Status.{Status}
 use Rattle.sn_status.specs.declared.status.Status.TheVariants.{Done, Usage, Refused, DiskFault, LinkFault, ReadFault, WriteFault, Memory, Foreign, Server, BadAnswer}
 use Rattle.sn_io.specs.Streams.{Gains, GivesAtMost, GivesPart, HasGiven}
@@ -23,6 +23,7 @@ stopped calls_for refuses (Refused (InputUtf8 place)) i j o p stops = stops
 stopped calls_for refuses (Refused (Form refusal)) i j o p stops = absurd stops
 stopped calls_for refuses (Refused (Item refusal)) i j o p stops = absurd stops
 stopped calls_for refuses (Refused (Line number)) i j o p stops = absurd stops
+stopped calls_for refuses (Refused (NotAllowed number)) i j o p stops = absurd stops
 stopped calls_for refuses (Refused (PasswordLine count)) i j o p stops = absurd stops
 stopped calls_for refuses (Refused (Client refusal)) i j o p stops = absurd stops
 stopped calls_for refuses DiskFault i j o p stops = absurd stops
@@ -102,6 +103,7 @@ refused_to_memory calls_for refuses (InputUtf8 place) i j o p ran = whole_at_mos
 refused_to_memory calls_for refuses (Form refusal) i j o p ran = read_at_most i j ran.text ran.read
 refused_to_memory calls_for refuses (Item refusal) i j o p ran = read_at_most i j ran.text ran.read
 refused_to_memory calls_for refuses (Line number) i j o p ran = read_at_most i j ran.text ran.read
+refused_to_memory calls_for refuses (NotAllowed number) i j o p ran = read_at_most i j ran.text ran.read
 refused_to_memory calls_for refuses (PasswordLine count) i j o p ran = read_at_most i j ran.text ran.read
 refused_to_memory calls_for refuses (Client refusal) i j o p ran = read_at_most i j ran.text ran.read
 

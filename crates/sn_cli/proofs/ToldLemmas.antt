@@ -6,7 +6,7 @@ use Rattle.sn_client.specs.Runs.{Call}
 use Rattle.sn_disk.specs.Shelf.{Slot}
 use Rattle.sn_disk.specs.declared.disk.Disk.{Ghosts}
 use Rattle.sn_net.specs.Connections.{Event}
-use Rattle.sn_replay.specs.declared.bench.PlainBench.{PlainBench}
+use Rattle.sn_disk.specs.declared.mem_shelf.MemShelf.{MemShelf}
 use Rattle.sn_serve.specs.Serving.{Handed, ServeEnds}
 use Rattle.sn_status.specs.Lines.{IsTold, TellsValues}
 use Rattle.sn_status.specs.declared.status.Status.{Status}
@@ -17,7 +17,7 @@ module _ {S D P O C R : Type 0} (g : Ghosts D) (shelf_told : Type 0) (slot : S �
     (held : O → Option (List ℕ)) (given : C → Option (List ℕ)) (drawn : R → Option (List (List ℕ))) (old new : Handed S P O C R) where
   -- the status that is told stands for what was done
   pub told_so : (words : List (List ℕ)) (ends : List ℕ → Call → Option (List ℕ) → CallEnd → Type 0) (untouched left link_left shelf_left : Type 0)
-      (status after : Status) (b c : PlainBench) (i j o p : Option (List ℕ)) (s t : Option (List (List ℕ))) → IsTold status after
+      (status after : Status) (b c : MemShelf) (i j o p : Option (List ℕ)) (s t : Option (List (List ℕ))) → IsTold status after
       → Meets words (Serves g shelf_told slot shelf_faults goes bound held given drawn old new) ends untouched left link_left shelf_left status b c i j o p s t
       → Meets words (Serves g shelf_told slot shelf_faults goes bound held given drawn old new) ends untouched left link_left shelf_left after b c i j o p s t
   told_so words ends untouched left link_left shelf_left status after b c i j o p s t same met =

@@ -5,14 +5,14 @@ use Rattle.sn_command.specs.CommandLine.{SealLine, OpenLine}
 use Rattle.sn_status.specs.Errors.{form_error, item_error}
 use Rattle.sn_cli.specs.Inputs.{IsOneLine}
 use Rattle.sn_status.specs.declared.refusal.Refusal.{Refusal}
-use Rattle.sn_status.specs.declared.refusal.Refusal.TheVariants.{InputLong, InputUtf8, Form, Item, Line, PasswordLine, Client}
+use Rattle.sn_status.specs.declared.refusal.Refusal.TheVariants.{InputLong, InputUtf8, Form, Item, Line, NotAllowed, PasswordLine, Client}
 use Rattle.sn_items.specs.Draws.{drawn}
 use Rattle.sn_items.specs.Opens.{Opens}
 use Rattle.sn_items.specs.Refusals.{HasCause}
 use Rattle.sn_items.specs.Seals.{IsSealed}
 use Rattle.sn_items.specs.declared.error.ItemError.{ItemError}
-use Rattle.sn_replay.specs.Headline.{Carries}
-use Rattle.sn_replay.specs.declared.bench.PlainBench.{PlainBench}
+use Rattle.sn_course.specs.Headline.{Carries, IsNotAllowed, shelf_slots}
+use Rattle.sn_disk.specs.declared.mem_shelf.MemShelf.{MemShelf}
 use Rattle.sn_report.specs.Text.{report_text}
 use Rattle.sn_report.specs.declared.report.Report.{Report}
 use Rattle.sn_script.specs.Scripts.{IsScript, IsFirstWrong}
@@ -64,6 +64,7 @@ OpenRefuses line input (InputUtf8 place) = ⊥
 OpenRefuses line input (Form refusal) = ⊥
 OpenRefuses line input (Item refusal) = IsUnopened line input (item_error refusal)
 OpenRefuses line input (Line number) = ⊥
+OpenRefuses line input (NotAllowed number) = ⊥
 OpenRefuses line input (PasswordLine length) = ⊥
 OpenRefuses line input (Client refusal) = ⊥
 
@@ -74,23 +75,25 @@ ShowRefuses text (InputUtf8 place) = ⊥
 ShowRefuses text (Form refusal) = Refuses (parts_of text) (form_error refusal)
 ShowRefuses text (Item refusal) = ⊥
 ShowRefuses text (Line number) = ⊥
+ShowRefuses text (NotAllowed number) = ⊥
 ShowRefuses text (PasswordLine length) = ⊥
 ShowRefuses text (Client refusal) = ⊥
 
--- `replay` calls for the report that the text's script carries at this bench
-pub record ReplayCallsFor (bench : PlainBench) (text output : List ℕ) : Type 0 where
+-- `replay` calls for the report that the text's script carries over the disks that it leaves on this bench
+pub record ReplayCallsFor (bench : MemShelf) (text output : List ℕ) : Type 0 where
   pub script : Script
   pub is : IsScript text script.lines
   pub report : Report
-  pub carries : Carries script bench report
+  pub carries : Carries script (shelf_slots bench) report
   pub spelled : output ≡ report_text report
 
--- or the text is no script: the number of its first line out of the grammar
+-- or the text is no script: the number of its first line out of the grammar; or it is one, and the line of this number is the first that may not come
 abbrev pub ReplayRefuses : List ℕ → Refusal → Type 0
 ReplayRefuses text InputLong = ⊥
 ReplayRefuses text (InputUtf8 place) = ⊥
 ReplayRefuses text (Form refusal) = ⊥
 ReplayRefuses text (Item refusal) = ⊥
 ReplayRefuses text (Line number) = IsFirstWrong text number
+ReplayRefuses text (NotAllowed number) = (script : Script) × IsScript text script.lines × IsNotAllowed script number
 ReplayRefuses text (PasswordLine length) = ⊥
 ReplayRefuses text (Client refusal) = ⊥

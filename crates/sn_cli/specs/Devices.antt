@@ -8,7 +8,7 @@ use Rattle.sn_cli.specs.CallEnds.{LeadsTo, output_of}
 use Rattle.sn_cli.specs.DeviceCalls.{IsPassword, ReadsFor, TakesPassword, call_for, first_line, server_for}
 use Rattle.sn_command.specs.DeviceLines.{DeviceLine, TakesInput}
 use Rattle.sn_cli.specs.Inputs.{MOST_INPUT, ReadsText, StopsReading}
-use Rattle.sn_status.specs.declared.refusal.Refusal.TheVariants.{InputLong, InputUtf8, Form, Item, Line, PasswordLine, Client}
+use Rattle.sn_status.specs.declared.refusal.Refusal.TheVariants.{InputLong, InputUtf8, Form, Item, Line, NotAllowed, PasswordLine, Client}
 use Rattle.sn_status.specs.declared.status.Status.{Status}
 use Rattle.sn_status.specs.declared.status.Status.TheVariants.{Done, Usage, Refused, DiskFault, LinkFault, ReadFault, WriteFault, Memory, Foreign, Server, BadAnswer}
 use Rattle.sn_client.specs.Runs.{Call}
@@ -69,6 +69,7 @@ module _ (ends : List ℕ → Call → Option (List ℕ) → CallEnd → Type 0)
   DeviceRuns (Refused (Form refusal)) = ⊥
   DeviceRuns (Refused (Item refusal)) = ⊥
   DeviceRuns (Refused (Line number)) = ⊥
+  DeviceRuns (Refused (NotAllowed number)) = ⊥
   DeviceRuns (Refused (PasswordLine count)) = HasStopped (HasNoPassword count)
   DeviceRuns (Refused (Client refusal)) = HasFailed (Refused (Client refusal))
   DeviceRuns DiskFault = HasFailed DiskFault

@@ -9,6 +9,7 @@ use Rattle.sn_cli.specs.Inputs.{ReadsText, StopsReading}
 use Rattle.sn_command.specs.Named.{USUAL_COST}
 use Rattle.sn_cli.specs.Outputs.{Writes}
 use Rattle.sn_cli.specs.Shown.{IsShown}
+use Rattle.sn_course.specs.Headline.{IsNotAllowed}
 use Rattle.sn_status.specs.declared.refusal.Refusal.{Refusal}
 use Rattle.sn_status.specs.declared.refusal.Refusal.TheVariants.{InputLong, InputUtf8, Client}
 use Rattle.sn_status.specs.declared.status.Status.{Status}
@@ -24,12 +25,12 @@ use Rattle.sn_disk.specs.declared.disk.Disk.{Ghosts}
 use Rattle.sn_io.specs.Streams.{Gains}
 use Rattle.sn_net.specs.Connections.{Event}
 use Rattle.sn_net.specs.Exchanges.{Exchange}
-use Rattle.sn_replay.specs.declared.bench.PlainBench.{PlainBench}
+use Rattle.sn_disk.specs.declared.mem_shelf.MemShelf.{MemShelf}
 use Rattle.sn_script.specs.Scripts.{IsScript}
 use Rattle.sn_serve.specs.Serving.{Handed, ServeEnds}
 use Rattle.sn_serve.specs.declared.ends.Served.{Served}
 use Rattle.sn_serve.specs.declared.ends.Served.TheVariants as served
-use Rattle.sn_script.specs.declared.script.Line.{Line}
+use Rattle.sn_script.specs.declared.script.Script.{Script}
 
 -- the whole input was read as a text, which calls for an output, and that was appended
 pub record WritesOf (calls_for : List ℕ → List ℕ → Type 0) (status : Status) (input_before input_after out_before out_after : Option (List ℕ)) : Type 0 where
@@ -130,7 +131,7 @@ Accepts words text =
     ((line : SealLine) × IsSealLine words line)
     ⊎ ((line : OpenLine) × (plain : List ℕ) × IsOpenLine words line × OpenCallsFor line text plain)
     ⊎ ((output : List ℕ) × IsShowLine words × IsShown text output)
-    ⊎ ((lines : List Line) × IsReplayLine words × IsScript text lines)
+    ⊎ ((script : Script) × IsReplayLine words × IsScript text script.lines × ((number : ℕ) → ¬ (IsNotAllowed script number)))
 
 -- a status that refuses what was given, or wants another line
 abbrev pub IsRefusal : Status → Type 0
@@ -242,7 +243,7 @@ module _ {S D L R : Type 0} (g : Ghosts D) (told : Type 0) (slot : S → List �
 -- `ends` how a device's call ended, and `untouched` that what it is handed is as it was. `left` says that of what serves
 -- alone, `link_left` of the link, and `shelf_left` of the shelf.
 pub record Meets (words : List (List ℕ)) (serves : ServeLine → Status → Type 0) (ends : List ℕ → Call → Option (List ℕ) → CallEnd → Type 0)
-    (untouched left link_left shelf_left : Type 0) (status : Status) (bench_before bench_after : PlainBench)
+    (untouched left link_left shelf_left : Type 0) (status : Status) (bench_before bench_after : MemShelf)
     (input_before input_after out_before out_after : Option (List ℕ)) (seeds_before seeds_after : Option (List (List ℕ))) : Type 0 where
   pub seal : (line : SealLine) → IsSealLine words line
       → SealRuns line status input_before input_after out_before out_after seeds_before seeds_after

@@ -24,7 +24,7 @@ use outside::DrawnSeed;
 use program::run;
 use rand_chacha::ChaCha20Rng;
 use rand_core::Rng;
-use sn_replay::PlainBench;
+use sn_disk::MemShelf;
 use sn_status::{Status, tell};
 use sn_system::{FileShelf, Input, Output, SystemClock, TcpLink, TcpPort};
 use std::io;
@@ -48,7 +48,7 @@ fn run_on_streams(rt: &HostRuntime, words: &[String]) -> Status {
         rt.alloc(),
         words,
         &mut FileShelf::new(rt),
-        &mut PlainBench::new(rt.alloc()),
+        &mut MemShelf::new(rt.alloc(), Vec::new(rt.alloc())),
         &mut TcpPort::new(rt),
         &mut TcpLink::new(rt),
         &mut Input::new(rt.reader()),

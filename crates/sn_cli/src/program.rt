@@ -3,7 +3,8 @@ ghost use Rattle.std.specs.Prelude.{◌≡◌, ◌⊎◌, List, ℕ};
 ghost use Rattle.std.specs.Io.KnownBytes.{Keeps};
 ghost use Rattle.sn_io.specs.Causes.{Rose};
 ghost use Rattle.sn_io.specs.Streams.{Tells};
-ghost use Rattle.sn_replay.specs.Benches.{IsFresh};
+ghost use Rattle.sn_disk.specs.MemShelf.{shelf_slot};
+ghost use Rattle.sn_disk.specs.Shelf.{unknown};
 ghost use Rattle.sn_calls.specs.Ends.{handed as handed_call};
 ghost use Rattle.sn_serve.specs.Serving.{handed};
 ghost use Rattle.sn_cli.specs.Calls.{OpenCallsFor, OpenRefuses, ReplayCallsFor, ReplayRefuses, ShowRefuses};
@@ -25,22 +26,22 @@ use crate::sealing::seal_input;
 use crate::serving::serve_store;
 use crate::showing::show_input;
 use sn_command::{Command, LineError, command_of};
-use sn_disk::{Disk, Shelf};
+use sn_disk::{Disk, MemShelf, Shelf};
 use sn_io::{Seeds, Sink, Source};
 use sn_items::sealed_opens;
 use sn_net::{Clock, Link, Port};
-use sn_replay::PlainBench;
+use sn_script::laws::one_script;
 use sn_status::{Status, tell};
 use sn_string::laws::read_back;
 use std::alloc::Global;
 
 /// Carries out the command that the words spell, over the shelf, the bench, the port, the link, the input, the two
-/// outputs, the clock and the seeds that are handed in. `shelf` has the stores, `bench` both ends of a replay.
+/// outputs, the clock and the seeds that are handed in. `shelf` has the stores, `bench`, which has no disks yet, gets those of a replay.
 pub fn run<S: Shelf, P: Port, L: Link, I: Source, O: Sink, E: Sink, C: Clock, R: Seeds>(
     alloc: Global,
     words: &[String],
     shelf: &mut S,
-    bench: &mut PlainBench,
+    bench: &mut MemShelf,
     port: &mut P,
     link: &mut L,
     input: &mut I,
@@ -49,7 +50,7 @@ pub fn run<S: Shelf, P: Port, L: Link, I: Source, O: Sink, E: Sink, C: Clock, R:
     clock: &mut C,
     seeds: &mut R,
 ) -> Status
-    requires fresh { IsFresh bench.old }
+    requires fresh { (name : List ℕ) → shelf_slot bench.old name ≡ unknown }
 
     // What each line calls for of its input, and how much of it was appended.
     ensures seal { (line : SealLine) → IsSealLine (texts words.now) line → SealRuns line result
@@ -103,6 +104,7 @@ pub fn run<S: Shelf, P: Port, L: Link, I: Source, O: Sink, E: Sink, C: Clock, R:
 {
     sealed_opens();
     read_back();
+    one_script();
     let status = answer(
         alloc, words, shelf, bench, port, link, input, out, clock, seeds,
     );
@@ -114,7 +116,7 @@ fn answer<S: Shelf, P: Port, L: Link, I: Source, O: Sink, C: Clock, R: Seeds>(
     alloc: Global,
     words: &[String],
     shelf: &mut S,
-    bench: &mut PlainBench,
+    bench: &mut MemShelf,
     port: &mut P,
     link: &mut L,
     input: &mut I,
@@ -122,7 +124,7 @@ fn answer<S: Shelf, P: Port, L: Link, I: Source, O: Sink, C: Clock, R: Seeds>(
     clock: &mut C,
     seeds: &mut R,
 ) -> Status
-    requires fresh { IsFresh bench.old }
+    requires fresh { (name : List ℕ) → shelf_slot bench.old name ≡ unknown }
     ensures met { Meets (texts words.now)
         (Serves ⟦<S::D as Disk>⟧ S.told S.slot S.fault_count P.goes P.bound O.held C.given R.given
         (handed shelf.old port.old out.old clock.old seeds.old) (handed shelf.new port.new out.new clock.new seeds.new))

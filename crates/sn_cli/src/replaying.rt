@@ -1,33 +1,34 @@
 // `replay`.
-ghost use Rattle.std.specs.Prelude.{◌≡◌, IfOk};
+ghost use Rattle.std.specs.Prelude.{◌≡◌, List, ℕ, IfErr, IfOk, IsErrOf};
 ghost use Rattle.std.specs.Io.KnownBytes.{Keeps};
 ghost use Rattle.sn_io.specs.Causes.{Rose};
-ghost use Rattle.sn_replay.specs.Benches.{IsFresh};
-ghost use Rattle.sn_replay.specs.Headline.{Carries};
-ghost use Rattle.sn_replay.specs.Playing.{IsRead};
-ghost use Rattle.sn_report.specs.Text.{report_text};
-ghost use Rattle.sn_report.specs.declared.report.Report.{Report};
+ghost use Rattle.sn_disk.specs.MemShelf.{shelf_slot};
+ghost use Rattle.sn_disk.specs.Shelf.{unknown};
+ghost use Rattle.sn_replay.specs.Lines.{IsRead, IsReplayRefusal};
+ghost use Rattle.sn_replay.specs.declared.error.ReplayError.TheVariants as refused;
+ghost use Rattle.sn_script.specs.Scripts.{IsScript};
 ghost use Rattle.sn_cli.specs.Calls.{ReplayCallsFor, ReplayRefuses};
 ghost use Rattle.sn_cli.specs.Runs.{IsOfInput, IsSilent, RunsOver};
 
 use crate::input::input_text;
 use crate::output::write_out;
+use sn_disk::MemShelf;
 use sn_io::{Sink, Source};
-use sn_replay::{PlainBench, replay};
+use sn_replay::{ReplayError, replay};
 use sn_report::report_text;
 use sn_script::{Script, ScriptError, read_script};
 use sn_status::{Refusal, Status};
 use sn_string::Text;
-use std::alloc::{AllocError, Global};
+use std::alloc::Global;
 
-/// Carries the input's script out at the bench, and writes the report.
+/// Carries the input's script out over disks that it leaves on the bench, and writes the report.
 pub fn replay_input<I: Source, O: Sink>(
     alloc: Global,
-    bench: &mut PlainBench,
+    bench: &mut MemShelf,
     input: &mut I,
     out: &mut O,
 ) -> Status
-    requires fresh { IsFresh bench.old }
+    requires fresh { (name : List ℕ) → shelf_slot bench.old name ≡ unknown }
     ensures ran { RunsOver (ReplayCallsFor bench.new) ReplayRefuses result
         (I.left input.old) (I.left input.new) (O.held out.old) (O.held out.new) }
     ensures unplayed { IsOfInput result → bench.new ≡ bench.old }
@@ -42,19 +43,25 @@ pub fn replay_input<I: Source, O: Sink>(
     match read_script(alloc, &text) {
         Ok(script) => match report_of(alloc, &script, bench) {
             Ok(report) => write_out(out, report.as_str().as_bytes()),
-            Err(AllocError) => Status::Memory,
+            Err(ReplayError::NotAllowed { number }) => Status::Refused(Refusal::NotAllowed {
+                number,
+            }),
+            Err(ReplayError::Memory) => Status::Memory,
         },
         Err(ScriptError::Line { number }) => Status::Refused(Refusal::Line { number }),
         Err(ScriptError::Memory) => Status::Memory,
     }
 }
 
-// The text of the report that the script carries at the bench.
-fn report_of(alloc: Global, script: &Script, bench: &mut PlainBench) -> Result<Text, AllocError>
+// The text of the report that the script carries over the disks that it leaves.
+fn report_of(alloc: Global, script: &Script, bench: &mut MemShelf) -> Result<Text, ReplayError>
     requires read { IsRead script.now }
-    requires fresh { IsFresh bench.old }
-    ensures { IfOk result (λ text. (report : Report) × Carries script.now bench.new report × (text ≡ report_text report)) }
+    requires fresh { (name : List ℕ) → shelf_slot bench.old name ≡ unknown }
+    ensures carries { (input : List ℕ) → IsScript input script.now.lines → IfOk result (λ text. ReplayCallsFor bench.new input text) }
+    ensures refused { IfErr result (IsReplayRefusal script.now) }
+    ensures untouched { (number : ℕ) → IsErrOf result (refused.NotAllowed number) → bench.new ≡ bench.old }
 {
     let report = replay(alloc, script, bench)?;
-    report_text(alloc, &report)
+    let text = report_text(alloc, &report)?;
+    Ok(text)
 }

@@ -5,7 +5,6 @@ use crate::program::run;
 use sn_disk::MemShelf;
 use sn_io::{MemSeeds, MemSink, MemSource};
 use sn_net::{MemClock, MemLink, MemPort};
-use sn_replay::PlainBench;
 use sn_status::Status;
 use std::alloc::Global;
 use std::test::Fail;
@@ -698,7 +697,7 @@ fn outcome_of(alloc: Global, case: &Case) -> Result<Outcome, Fail> {
     let mut out = MemSink::new(alloc, 50, failing_writes);
     let mut err = MemSink::new(alloc, 7, Vec::new(alloc));
     let mut seeds = MemSeeds::new(Vec::new(alloc));
-    let mut bench = PlainBench::new(alloc);
+    let mut bench = MemShelf::new(alloc, Vec::new(alloc));
     let mut shelf = MemShelf::new(alloc, Vec::new(alloc));
     let mut port = MemPort::new(alloc, Vec::new(alloc), 4711, Vec::new(alloc));
     let mut link = MemLink::new(alloc, Vec::new(alloc), Vec::new(alloc));

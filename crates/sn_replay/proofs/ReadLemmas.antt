@@ -6,15 +6,19 @@ use Rattle.sn_script.specs.Scripts.{AreLinesFrom, lines_of}
 use Rattle.sn_script.specs.declared.script.Line.{Line}
 use Rattle.sn_script.specs.declared.script.Line.TheVariants as line
 use Rattle.sn_script.specs.declared.script.Script.{Script}
-use Rattle.sn_replay.specs.Playing.{IsBounded, IsRead}
+use Rattle.sn_replay.specs.Lines.{IsBounded, IsRead}
 
 line_bounded : (ws : List Word) (l : Line) → IsLine ws l → IsBounded l
 line_bounded ws (line.Seed bytes) h = tt
 line_bounded ws (line.Cost n) h = h.1
 line_bounded ws (line.Clock n) h = tt
-line_bounded ws (line.Register device identifier password) h = h.2
-line_bounded ws (line.Put device text) h = tt
-line_bounded ws (line.Sync device) h = tt
+line_bounded ws (line.Register device identifier password fates) h = h.2.identified
+line_bounded ws (line.SignIn device identifier password fates) h = h.2.identified
+line_bounded ws (line.Put device fates text) h = tt
+line_bounded ws (line.Edit device label fates text) h = tt
+line_bounded ws (line.Delete device label fates) h = tt
+line_bounded ws (line.Sync device fates) h = tt
+line_bounded ws (line.Late device request) h = tt
 line_bounded ws line.Show h = tt
 
 lines_bounded : (place : ℕ) (texts : List (List ℕ)) (lines : List Line) → AreLinesFrom place texts lines → Each IsBounded lines

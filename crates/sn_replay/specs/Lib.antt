@@ -1,7 +1,5 @@
-pub mod Benches
-pub mod Courses
-pub mod DraftsShown
-pub mod Headline
+pub mod Coming
+pub mod Keeping
 pub mod Lines
+pub mod Mirrored
 pub mod Playing
-pub mod Shown

@@ -1,68 +1,79 @@
--- What the steps of a line make of the bench: its device begins, the call is made there, and the event is told.
-use Rattle.std.specs.Prelude.{◌≡◌, ◌≢◌, ℕ, List, [], length, Some, IsSome}
-use Rattle.std.specs.BTreeMap.{get_by_text}
+-- What the lines of a script are to a replay.
+use Rattle.std.specs.Prelude.{◌≡◌, ℕ, ◌≤◌, List, Bool, true, false, Some}
+use Rattle.rand_chacha.specs.ChaCha.{ChaCha}
+use Rattle.sn_client.specs.Runs.{IsNewSet}
+use Rattle.sn_course.specs.Courses.{Course, Reported}
+use Rattle.sn_course.specs.Headline.{IsNotAllowed, MayStand}
+use Rattle.sn_course.specs.Lines.{losses_of}
+use Rattle.sn_course.specs.Settings.{words_of}
+use Rattle.sn_course.specs.declared.settings.Settings.{Settings}
+use Rattle.sn_events.specs.declared.setting.Setting.{Setting}
 use Rattle.sn_laws.specs.Lookups.{Bytes}
-use Rattle.sn_laws.specs.declared.ideal.Ideal.{Ideal}
-use Rattle.sn_laws.specs.declared.moves.Move.{Move}
-use Rattle.sn_report.specs.Labels.{labels_of}
-use Rattle.sn_report.specs.declared.report.DeviceMark.{DeviceMark}
-use Rattle.sn_report.specs.declared.report.Event.{Event}
-use Rattle.sn_report.specs.declared.report.Last.{Last}
+use Rattle.sn_script.specs.Scripts.{IsScript}
+use Rattle.sn_script.specs.declared.script.Fate.{Fate}
 use Rattle.sn_script.specs.declared.script.Line.{Line}
-use Rattle.sn_ends.specs.Answers.{IsAnswered}
-use Rattle.sn_ends.specs.Index.{IsIndex}
-use Rattle.sn_ends.specs.declared.device.PlainDevice.{PlainDevice}
-use Rattle.sn_ends.specs.declared.settings.Settings.{Settings}
-use Rattle.sn_replay.specs.Benches.{record_of, server_record, server_rows}
-use Rattle.sn_replay.specs.Headline.{Course, names_with}
-use Rattle.sn_replay.specs.Playing.{IsAt}
-use Rattle.sn_replay.specs.declared.bench.PlainBench.{PlainBench}
-use Rattle.sn_replay.specs.declared.known.Known.{Known}
+use Rattle.sn_script.specs.declared.script.Line.TheVariants as line
+use Rattle.sn_script.specs.declared.script.Script.{Script}
+use Rattle.sn_string.specs.Bounds.{IsIdentifier}
+use Rattle.sn_string.specs.declared.params.KeySet.{KeySet}
+use Rattle.sn_telling.specs.declared.calling.Calling.{Calling}
+use Rattle.sn_telling.specs.declared.calling.Calling.TheVariants as calling
+use Rattle.sn_replay.specs.declared.error.ReplayError.{ReplayError}
+use Rattle.sn_replay.specs.declared.error.ReplayError.TheVariants as refusal
+use Rattle.sn_replay.specs.declared.settings.Moment.{Moment}
 
--- the course when a line's device has begun
-abbrev pub with_name : Course → Bytes → Course
-with_name c name = record { names = names_with c.names (Some name); moves = c.moves; marks = c.marks }
+-- the script is one that was read from a text
+pub record IsRead (script : Script) : Type 0 where
+  pub text : List ℕ
+  pub is : IsScript text script.lines
 
--- the device has begun, and no record changed
-pub record Begins (bench after : PlainBench) (known_after : Known) (c : Course) (name : Bytes) : Type 0 where
-  pub at : IsAt after known_after (with_name c name)
-  pub server_same : server_record after ≡ server_record bench
-  pub records_same : (other : Bytes) → record_of after other ≡ record_of bench other
-  pub here : IsSome (get_by_text after.devices name)
+-- what a call at both ends asks of a line
+abbrev pub IsBounded : Line → Type 0
+IsBounded (line.Register device identifier password fates) = IsIdentifier identifier
+IsBounded (line.SignIn device identifier password fates) = IsIdentifier identifier
+IsBounded (line.Cost n) = 1 ≤ n
+IsBounded other = Unit {0}
 
--- some course has the bench as it is, and the device has begun
-pub record HasDevice (bench : PlainBench) (known : Known) (name : Bytes) : Type 0 where
-  pub course : Course
-  pub at : IsAt bench known course
-  pub here : IsSome (get_by_text bench.devices name)
+-- a line that is no setting reports
+abbrev pub reports : Line → Bool
+reports (line.Seed bytes) = false
+reports (line.Cost n) = false
+reports (line.Clock n) = false
+reports (line.Register device identifier password fates) = true
+reports (line.SignIn device identifier password fates) = true
+reports (line.Put device fates text) = true
+reports (line.Edit device label fates text) = true
+reports (line.Delete device label fates) = true
+reports (line.Sync device fates) = true
+reports (line.Late device request) = true
+reports line.Show = true
 
--- no device but this one is another than it was
-pub record AtDevice (bench after : PlainBench) (name : Bytes) (device device_after : PlainDevice) : Type 0 where
-  pub was : get_by_text bench.devices name ≡ Some device
-  pub now_is : get_by_text after.devices name ≡ Some device_after
-  pub others : (other : Bytes) → other ≢ name → get_by_text after.devices other ≡ get_by_text bench.devices other
+-- with its number and the settings that it finds
+abbrev pub reported_at : Moment → Line → Reported
+reported_at at l = record { number = at.number; settings = at.settings; asks = l }
 
--- the call at this device is what the line asks for
-pub record IsCalled (bench after : PlainBench) (known known_after : Known) (settings : Settings) (number : ℕ) (s : Ideal) (asks : Line) (name : Bytes)
-    (moves : List Move) (ends : Last) : Type 0 where
-  pub device : PlainDevice
-  pub device_after : PlainDevice
-  pub at : AtDevice bench after name device device_after
-  pub answered : IsAnswered settings number known.labels s asks name (server_record bench) (server_record after) (record_of bench) (record_of after)
-      device_after.settled moves ends
-  pub index : IsIndex after.server.numbers (server_rows after)
-  pub labels_are : known_after.labels ≡ labels_of known.labels moves
-  pub names_are : known_after.names ≡ known.names
+-- what is set for its event
+abbrev pub setting_at : Settings → List Fate → Setting
+setting_at settings fates = record { now = settings.clock; losses = losses_of fates }
 
--- the event of a line that has a device
-abbrev pub event_at : PlainBench → ℕ → Bytes → List Move → Last → Event
-event_at bench number name moves ends =
-    let device_mark : DeviceMark = record { name = name; mark = length (record_of bench name) } in
-    record {
-      number = number;
-      moves = moves;
-      shown = [];
-      last = ends;
-      server_mark = length (server_record bench);
-      device_mark = Some device_mark;
-    }
+-- ---- the set of a registration
+
+abbrev pub DrawsSet : ChaCha → Bytes → Bytes → ℕ → KeySet → Type 0
+DrawsSet words identifier password cost set = (left : ChaCha) × IsNewSet words identifier password cost set left
+
+-- the call is a registration, with the set that the line's words give
+abbrev pub IsRegistering : Moment → Bytes → Bytes → Calling → Type 0
+IsRegistering at identifier password call = (set : KeySet) × (call ≡ calling.Register identifier (Some set))
+    × DrawsSet (words_of at.settings at.number) identifier password at.settings.cost set
+
+-- ---- refusals
+
+-- where the course stands so, the line of this number may not come
+abbrev pub IsRefusalAt : ℕ → Course → Line → ReplayError → Type 0
+IsRefusalAt number c l (refusal.NotAllowed n) = (n ≡ number) × ¬ (MayStand c l)
+IsRefusalAt number c l refusal.Memory = Unit {0}
+
+-- why a script isn't replayed, want of memory aside
+abbrev pub IsReplayRefusal : Script → ReplayError → Type 0
+IsReplayRefusal script (refusal.NotAllowed number) = IsNotAllowed script number
+IsReplayRefusal script refusal.Memory = Unit {0}

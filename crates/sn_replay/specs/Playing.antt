@@ -1,79 +1,188 @@
 -- What holds between the lines of a script, and what a line makes of it. Nothing above the run speaks of it.
-use Rattle.std.specs.Prelude.{◌≡◌, ℕ, ◌≤◌, List, [], ◌∷◌, length, Option, Some, None, is_some}
-use Rattle.std.specs.BTreeMap.{get_by_text}
-use Rattle.std.specs.List.{flat_map, list_any}
-use Rattle.std.specs.Str.{bytes_eq}
+use Rattle.std.specs.Prelude.{◌≡◌, ◌≢◌, ℕ, ◌+◌, ◌≤◌, List, [], ◌∷◌, ◌++◌, length, Option, Some, None, true}
+use Rattle.std.specs.List.{AllZip}
+use Rattle.rand_chacha.specs.ChaCha.{ChaCha}
+use Rattle.sn_client.specs.Runs.{Act, Call, Halt, asked, commits as committed}
+use Rattle.sn_course.specs.Courses.{Course, Reported, made_by, past, reporting, start}
+use Rattle.sn_course.specs.Fits.{Called, EndsSo, EndsWell, Fits, HappensAs, puts_item, shown_by}
+use Rattle.sn_course.specs.Headline.{Goes, MayStand, OpensWith, Opens, PasswordsApart, Recounts, SecretOf, Slots, moves_in}
+use Rattle.sn_course.specs.Laws.{Grow, IsSetOf, settings_behind}
+use Rattle.sn_course.specs.Lines.{device_of}
+use Rattle.sn_course.specs.Settings.{AreFirst, words_of}
+use Rattle.sn_course.specs.declared.settings.Settings.{Settings}
+use Rattle.sn_events.specs.Slots.{device_slot, server_slot, slot_mark}
+use Rattle.sn_events.specs.Standing.{Stands}
+use Rattle.sn_events.specs.declared.ends.Ends.{Ends}
+use Rattle.sn_items.specs.Draws.{drawn}
+use Rattle.sn_journal.specs.declared.owner.Owner.TheVariants.{Device as DeviceOwner, Server as ServerOwner}
+use Rattle.sn_laws.specs.Each.{Each, One}
 use Rattle.sn_laws.specs.Lookups.{Bytes}
 use Rattle.sn_laws.specs.Runs.{Legal, end}
+use Rattle.sn_laws.specs.declared.moves.Move.{Move}
+use Rattle.sn_laws.specs.declared.moves.Move.TheVariants.{Accept, Change, Register}
 use Rattle.sn_report.specs.declared.report.Event.{Event}
-use Rattle.sn_rows.specs.Table.{rows_of_batches}
-use Rattle.sn_script.specs.Scripts.{IsScript}
+use Rattle.sn_report.specs.declared.report.Last.{Last}
+use Rattle.sn_row_map.specs.RowMaps.{row_in}
 use Rattle.sn_script.specs.declared.script.Line.{Line}
-use Rattle.sn_script.specs.declared.script.Line.TheVariants as line
 use Rattle.sn_script.specs.declared.script.Script.{Script}
-use Rattle.sn_string.specs.Bounds.{IsIdentifier}
-use Rattle.sn_ends.specs.Answers.{AllHeld, HasOpen}
-use Rattle.sn_ends.specs.Index.{IsIndex}
-use Rattle.sn_ends.specs.Stands.{Stands}
-use Rattle.sn_ends.specs.declared.device.PlainDevice.{PlainDevice}
-use Rattle.sn_ends.specs.declared.settings.Settings.{Settings}
-use Rattle.sn_replay.specs.Benches.{record_of, server_record, server_rows}
-use Rattle.sn_replay.specs.Courses.{EventsWithin, Grows, course_after, settings_behind}
-use Rattle.sn_replay.specs.Headline.{Course, Fits, Recounts, Reported, at_first, labels_after_moves, past, reporting}
-use Rattle.sn_replay.specs.declared.bench.PlainBench.{PlainBench}
+use Rattle.sn_string.specs.declared.params.KeySet.{KeySet}
+use Rattle.sn_tail.specs.Shelves.{SlotReads}
+use Rattle.sn_telling.specs.Calling.{IsAskedOf, IsCallingOf}
+use Rattle.sn_telling.specs.Laws.{IsWhole}
+use Rattle.sn_telling.specs.declared.calling.Asked.{Asked}
+use Rattle.sn_telling.specs.declared.calling.Calling.{Calling}
+use Rattle.sn_world.specs.Calls.{BeginsBy, Fate}
+use Rattle.sn_world.specs.Delivered.{FitsDevices}
+use Rattle.sn_world.specs.Holds.{TokensDiffer}
+use Rattle.sn_world.specs.Sessions.{LeadsLine, MayCome, calls}
+use Rattle.sn_world.specs.World.{Made, World}
+use Rattle.sn_replay.specs.Keeping.{IsKeptOf, asked_of, puts_of, requests_of}
+use Rattle.sn_replay.specs.Lines.{reports}
+pub use Rattle.sn_replay.specs.Lines.{IsRead, IsReplayRefusal}
+use Rattle.sn_replay.specs.Mirrored.{mirrored}
+use Rattle.sn_replay.specs.declared.error.ReplayError.{ReplayError}
+use Rattle.sn_replay.specs.declared.error.ReplayError.TheVariants as refusal
 use Rattle.sn_replay.specs.declared.known.Known.{Known}
+use Rattle.sn_replay.specs.declared.known.Told.{Told}
+use Rattle.sn_replay.specs.declared.run.State.{State}
+use Rattle.sn_replay.specs.declared.settings.Moment.{Moment}
 
--- the script is one that was read from a text
-pub record IsRead (script : Script) : Type 0 where
-  pub text : List ℕ
-  pub is : IsScript text script.lines
+-- ---- what is of the script
 
--- what a call at both ends asks of a line
-abbrev pub IsBounded : Line → Type 0
-IsBounded (line.Register device identifier password) = IsIdentifier identifier
-IsBounded (line.Cost n) = 1 ≤ n
-IsBounded (line.Seed bytes) = Unit {0}
-IsBounded (line.Clock n) = Unit {0}
-IsBounded (line.Put device text) = Unit {0}
-IsBounded (line.Sync device) = Unit {0}
-IsBounded line.Show = Unit {0}
+-- a set that a request would begin is that of a password of the script
+abbrev pub IsBeginsOf : Script → Option KeySet → Type 0
+IsBeginsOf script None = Unit {0}
+IsBeginsOf script (Some set) = IsSetOf script set
 
--- the bench, the labels and the devices that have begun are as the course has them
-pub record IsAt (bench : PlainBench) (known : Known) (c : Course) : Type 0 where
+-- a request is of a device that has begun
+pub record IsMadeOf (script : Script) (names : List Bytes) (m : Made) : Type 0 where
+  pub among : One (λ n. n ≡ m.device) names
+  pub begins : IsBeginsOf script m.begins
+
+-- an account begins with a set of the script, and none gets another; a version is of a device that has begun
+abbrev pub IsMoveOf : Script → List Bytes → Move → Type 0
+IsMoveOf script names (Register identifier set) = IsSetOf script set
+IsMoveOf script names (Accept device uuid stamp under) = One (λ n. n ≡ device) names
+IsMoveOf script names (Change identifier number set) = ⊥
+IsMoveOf script names m = Unit {0}
+
+-- ---- between two lines
+
+abbrev pub ends_slots : Ends → Slots
+ends_slots ends = record { server = server_slot ends; devices = λ name. device_slot ends name }
+
+-- both ends, and what was seen of them, are as the course has them
+pub record IsAt (script : Script) (secret : Bytes) (known : Known) (c : Course) : Type 0 where
   pub legal : Legal c.moves
-  pub stands : Stands (server_record bench) (record_of bench) known.labels (end c.moves)
-  pub held : AllHeld (end c.moves)
-  pub labels_are : known.labels ≡ labels_after_moves c.moves
-  pub names_are : known.names ≡ c.names
-  pub marks_are : (name : Bytes) → c.marks name ≡ length (record_of bench name)
-  pub index : IsIndex bench.server.numbers (server_rows bench)
-  pub begun : (name : Bytes) → is_some (get_by_text bench.devices name) ≡ list_any (λ n. bytes_eq n name) c.names
-  pub open_are : (name : Bytes) (device : PlainDevice) → get_by_text bench.devices name ≡ Some device
-      → HasOpen (rows_of_batches device.store) device.settled
+  pub stands : Stands known.ends secret c.world (end c.moves)
+  pub fits : FitsDevices c.world
+  pub labels_are : known.seen.labels ≡ c.labels
+  pub names_are : known.seen.names ≡ c.names
+  pub server_is : row_in known.seen.server ≡ c.world.server
+  pub devices_are : (name : Bytes) → mirrored known.seen.devices name ≡ c.world.devices name
+  pub requests_are : (name : Bytes) → AllZip IsKeptOf (made_by name c.world.made) (requests_of known.seen.requests name)
+  pub made_are : Each (IsMadeOf script c.names) c.world.made
+  pub moves_are : Each (IsMoveOf script c.names) c.moves
+  pub marks_are : (name : Bytes) → c.marks name ≡ slot_mark (device_slot known.ends name)
+  pub marks_read : (name : Bytes) → SlotReads (device_slot known.ends name) DeviceOwner (c.marks name) (c.world.devices name)
 
--- some course has them so
-pub record HasCourse (bench : PlainBench) (known : Known) : Type 0 where
-  pub course : Course
-  pub at : IsAt bench known course
+-- ---- the event of a line
 
--- the event of a line fits it, and the course goes on behind it
-pub record Tells (bench after : PlainBench) (known_after : Known) (c : Course) (r : Reported) (e : Event) : Type 0 where
-  pub grows : Grows bench after
-  pub fits : Fits after c r e
-  pub at : IsAt after known_after (past c r.asks e)
-  pub mark : e.server_mark ≡ length (server_record after)
+-- it fits the line, the records grew, and the course goes on behind it
+pub record Tells (script : Script) (secret : Bytes) (known : Known) (c : Course) (r : Reported) (told : Told) : Type 0 where
+  pub next : World
+  pub grow : Grow (ends_slots known.ends) (ends_slots told.known.ends)
+  pub fits : Fits secret c r told.event next
+  pub at : IsAt script secret told.known (past c r.asks told.event next)
+  pub server_mark : told.event.server_mark ≡ slot_mark (server_slot told.known.ends)
+  pub server_reads : SlotReads (server_slot told.known.ends) ServerOwner told.event.server_mark next.server
 
--- a setting has no event and changes neither end
-abbrev pub TellsAll : PlainBench → PlainBench → Known → Known → Course → List Reported → Option Event → Type 0
-TellsAll bench after known known_after c [] found = (found ≡ None) × (after ≡ bench) × (known_after ≡ known)
-TellsAll bench after known known_after c (r ∷ rs) None = ⊥
-TellsAll bench after known known_after c (r ∷ rs) (Some e) = Tells bench after known_after c r e
+-- each request among the acts is this, where a registration would begin this set
+abbrev pub AreAskedSo : Option KeySet → Asked → List Act → Type 0
+AreAskedSo begins a [] = Unit {0}
+AreAskedSo begins a (committed what changes ∷ acts) = AreAskedSo begins a acts
+AreAskedSo begins a (asked r reply ∷ acts) = IsAskedOf r begins a × AreAskedSo begins a acts
 
--- after these lines: the events recount them, and the bench is as they leave it
-pub record IsPlayed (first : Settings) (lines : List Line) (bench : PlainBench) (settings : Settings) (known : Known) (events : List Event) : Type 0 where
-  pub settings_are : settings ≡ settings_behind first lines
-  pub cost : 1 ≤ settings.cost
-  pub within : EventsWithin bench at_first (reporting 1 first lines) events
-  pub recounts : Recounts bench at_first (reporting 1 first lines) events
-  pub at : IsAt bench known (course_after at_first (reporting 1 first lines) events)
-  pub moves_are : flat_map (λ e. e.moves) events ≡ (course_after at_first (reporting 1 first lines) events).moves
+-- the line asks this device for this call: what the event of such a line is, whatever the call
+pub record IsLineOf (script : Script) (secret : Bytes) (c : Course) (r : Reported) (name : Bytes) (call : Call) (calling : Calling) : Type 0 where
+  pub named : device_of r.asks ≡ Some name
+  pub happens : (e : Event) (next : World) → Called secret c r name call e next → HappensAs r.asks secret c r e next
+  pub shows : shown_by r.asks c.labels c.names (end c.moves) ≡ []
+  pub puts : puts_item r.asks ≡ puts_of calling
+  pub of_script : (begins : Option KeySet) → BeginsBy call begins → IsBeginsOf script begins
+  pub calls_so : (acts : List Act) (fates : List Fate) (halt : Halt)
+      → MayCome secret c.world (end c.moves) (calls name 1 call (words_of r.settings r.number) acts fates halt true)
+      → (leads : LeadsLine secret c.world (end c.moves) (calls name 1 call (words_of r.settings r.number) acts fates halt true)) → IsWhole halt
+      → IsCallingOf call leads.begins acts calling × AreAskedSo leads.begins (asked_of calling) acts
+  pub well : (acts : List Act) (fates : List Fate) (halt : Halt)
+      → MayCome secret c.world (end c.moves) (calls name 1 call (words_of r.settings r.number) acts fates halt true)
+      → (leads : LeadsLine secret c.world (end c.moves) (calls name 1 call (words_of r.settings r.number) acts fates halt true)) → (last : Last) → EndsSo halt last
+      → EndsWell call name (leads.next.devices name) (end (c.moves ++ leads.moves)) last
+
+-- ---- the beginning
+
+-- the server begins with a secret of these words
+pub record BeginsAt (script : Script) (secret : Bytes) (words : ChaCha) (known : Known) : Type 0 where
+  pub opened : World
+  pub opens : Opens secret words opened
+  pub at : IsAt script secret known (start opened)
+
+pub record Begins (words : ChaCha) (known : Known) : Type 0 where
+  pub secret : Bytes
+  pub left : ChaCha
+  pub drew : (secret, left) ≡ drawn 32 words
+  pub begun : (script : Script) → TokensDiffer secret → BeginsAt script secret words known
+
+-- what is known, or what it begins with
+abbrev pub KnownOr : Option Known → Moment → Known → Type 0
+KnownOr None at known = Begins (words_of at.settings at.number) known
+KnownOr (Some before) at known = known ≡ before
+
+-- ---- behind some lines
+
+-- the events recount the lines that report, and all is as they leave it
+pub record HasPlayed (script : Script) (secret : Bytes) (rs : List Reported) (known : Known) (events : List Event) : Type 0 where
+  pub opened : World
+  pub opens : OpensWith rs secret opened
+  pub last : Course
+  pub recounts : Recounts (ends_slots known.ends) secret (start opened) rs events last
+  pub at : IsAt script secret known last
+  pub moves_are : moves_in events ≡ last.moves
+  pub mark : last.server_mark ≡ slot_mark (server_slot known.ends)
+
+-- a line behind these, where it reports
+abbrev pub behind : Settings → List Line → Line → Reported
+behind first lines l = record { number = 1 + length lines; settings = settings_behind first lines; asks = l }
+
+-- before the first line that reports nothing has begun
+abbrev pub PlaysAs : Script → Bytes → List Reported → Option Known → List Event → Type 0
+PlaysAs script secret rs None events = (rs ≡ []) × (events ≡ []) × (secret ≡ [])
+PlaysAs script secret rs (Some known) events = (rs ≢ []) × SecretOf rs secret × (TokensDiffer secret → PasswordsApart script → HasPlayed script secret rs known events)
+
+pub record IsPlayed (script : Script) (first : Settings) (lines : List Line) (state : State) : Type 0 where
+  pub settings_are : state.settings ≡ settings_behind first lines
+  pub cost : 1 ≤ state.settings.cost
+  pub secret : Bytes
+  pub plays : PlaysAs script secret (reporting 1 first lines) state.known state.events
+
+-- from the first settings to the last line
+abbrev pub HasPlayedAll : Script → State → Type 0
+HasPlayedAll script state = (first : Settings) × AreFirst first × IsPlayed script first script.lines state
+
+-- the line behind these may not come
+pub record IsRefusedBehind (script : Script) (first : Settings) (lines : List Line) (l : Line) (number : ℕ) : Type 0 where
+  pub reports_so : reports l ≡ true
+  pub secret : Bytes
+  pub secret_is : SecretOf (reporting 1 first lines ++ behind first lines l ∷ []) secret
+  pub refused : TokensDiffer secret → PasswordsApart script
+      → (opened : World) × OpensWith (reporting 1 first lines ++ behind first lines l ∷ []) secret opened × (1 + length lines ≡ number)
+      × ((events : List Event) × (last : Course) × Goes secret (start opened) (reporting 1 first lines) events last × ¬ (MayStand last l))
+
+abbrev pub IsRefusalBehind : Script → Settings → List Line → Line → ReplayError → Type 0
+IsRefusalBehind script first lines l (refusal.NotAllowed number) = IsRefusedBehind script first lines l number
+IsRefusalBehind script first lines l refusal.Memory = Unit {0}
+
+-- the slots are those of the ends, where there are any
+abbrev pub AreSlotsOf : Option Known → Slots → Type 0
+AreSlotsOf None slots = Unit {0}
+AreSlotsOf (Some known) slots = slots ≡ ends_slots known.ends

@@ -1,123 +1,242 @@
-//! The calls of a line at its device.
+//! The event of each line that asks a device for a call.
 
-ghost use Rattle.std.specs.Prelude.{◌≤◌, ℕ, IfOk, OnOk};
-ghost use Rattle.sn_laws.specs.Runs.{end};
-ghost use Rattle.sn_replay.specs.Headline.{Course};
-ghost use Rattle.sn_replay.specs.Lines.{Begins, HasDevice, IsCalled};
-ghost use Rattle.sn_replay.specs.Playing.{HasCourse, IsAt};
+ghost use Rattle.std.specs.Prelude.{◌≡◌, ◌≤◌, IfErr, IfOk};
+ghost use Rattle.sn_course.specs.Courses.{Course};
+ghost use Rattle.sn_course.specs.Headline.{IsPasswordOf, PasswordsApart};
+ghost use Rattle.sn_laws.specs.Lookups.{Bytes};
+ghost use Rattle.sn_replay.specs.Lines.{IsRefusalAt, IsRegistering, reported_at, setting_at};
+ghost use Rattle.sn_replay.specs.Playing.{IsAt, Tells};
 ghost use Rattle.sn_script.specs.declared.script.Line.TheVariants as line;
+ghost use Rattle.sn_script.specs.declared.script.Script.{Script};
 ghost use Rattle.sn_string.specs.Bounds.{IsIdentifier};
+ghost use Rattle.sn_world.specs.Holds.{TokensDiffer};
 
-use crate::bench::PlainBench;
-use crate::known::Known;
-use sn_ends::events::{Told, put, register};
-use sn_ends::syncing::sync;
-use sn_ends::{PlainDevice, Settings};
+use crate::came::came_of;
+use crate::error::ReplayError;
+use crate::known::{Known, Told};
+use crate::labelled::labelled_item;
+use crate::losses::losses_of;
+use crate::new_set::new_set;
+use crate::settings::{Moment, line_words};
+use crate::told::told;
+use sn_course::{only_set_of_password, sets_stay};
+use sn_events::Setting;
+use sn_readable::runs_readable;
+use sn_script::{Fate, Ordinal};
 use sn_string::{Text, Twin};
+use sn_telling::{Calling, traces_tell};
+use sn_world::syncs_end;
 use std::alloc::{AllocError, Global};
 
-/// Begins a device with its first line: it has no rows then.
-pub(crate) fn begin(
-    alloc: Global,
-    bench: &mut PlainBench,
-    known: &mut Known,
-    device: &Text,
-) -> Result<(), AllocError>
-    ensures { (c : Course) → IsAt bench.old known.old c → OnOk result (Begins bench.old bench.new known.new c device.now) }
-{
-    if bench.devices.contains_key(device.as_str()) {
-        return Ok(());
-    }
-    let key = device.as_str().to_string(alloc)?;
-    let name = device.twin(alloc)?;
-    bench.devices.insert(key, PlainDevice::new(alloc))?;
-    known.names.push(name)?;
-    Ok(())
-}
+/// The type of each item that a script puts.
+const KIND: &str = "Note";
 
-/// Begins an account on the server, and has the device hold its set.
-pub(crate) fn register_at(
+/// A line that begins an account.
+pub(crate) fn register_line(
     alloc: Global,
-    bench: &mut PlainBench,
-    known: &Known,
-    settings: &Settings,
-    number: u64,
+    known: Known,
+    at: &Moment,
     device: &Text,
     identifier: &Text,
     password: &Text,
+    fates: &[Fate],
 ) -> Result<Told, AllocError>
-    requires here { HasDevice bench.old known.now device.now }
     requires identifier { IsIdentifier identifier.now }
-    requires cost { 1 ≤ settings.now.cost }
-    ensures { (c : Course) → IsAt bench.old known.now c
-        → IfOk result (λ told. IsCalled bench.old bench.new known.now known.now settings.now number (end c.moves)
-        (line.Register device.now identifier.now password.now) device.now told.moves told.last) }
+    requires cost { 1 ≤ at.now.settings.cost }
+    ensures { (script : Script) (secret : Bytes) (c : Course) → TokensDiffer secret → IsPasswordOf script password.now → IsAt script secret known c
+        → IfOk result (Tells script secret known c (reported_at at.now (line.Register device.now identifier.now password.now fates.now))) }
 {
-    let name = device.as_str();
-    let Some(held) = bench.devices.get_mut(name) else {
-        unreachable!();
+    runs_readable();
+    let Known { ends, seen } = known;
+    let calling = registering(alloc, at, identifier, password)?;
+    let mut words = line_words(at);
+    let outcome = ends.register(
+        setting_at(at, fates),
+        device.as_str(),
+        &mut words,
+        identifier.as_str(),
+        password.as_str(),
+        at.settings.cost,
+    )?;
+    told(alloc, seen, came_of(outcome)?, at.number, device, &calling)
+}
+
+/// A line that signs in to an account.
+pub(crate) fn sign_in_line(
+    alloc: Global,
+    known: Known,
+    at: &Moment,
+    device: &Text,
+    identifier: &Text,
+    password: &Text,
+    fates: &[Fate],
+) -> Result<Told, AllocError>
+    requires identifier { IsIdentifier identifier.now }
+    ensures { (script : Script) (secret : Bytes) (c : Course) → TokensDiffer secret → PasswordsApart script → IsPasswordOf script password.now
+        → IsAt script secret known c
+        → IfOk result (Tells script secret known c (reported_at at.now (line.SignIn device.now identifier.now password.now fates.now))) }
+{
+    runs_readable();
+    sets_stay();
+    only_set_of_password();
+    let Known { ends, seen } = known;
+    let calling = Calling::SignIn {
+        identifier: identifier.twin(alloc)?,
     };
-    let told = register(
-        alloc,
-        &mut bench.server,
-        held,
-        settings,
-        number,
-        name,
+    let mut words = line_words(at);
+    let outcome = ends.sign_in(
+        setting_at(at, fates),
+        device.as_str(),
+        &mut words,
         identifier.as_str(),
         password.as_str(),
     )?;
+    told(alloc, seen, came_of(outcome)?, at.number, device, &calling)
+}
+
+/// A line that puts a new item.
+pub(crate) fn put_line(
+    alloc: Global,
+    known: Known,
+    at: &Moment,
+    device: &Text,
+    fates: &[Fate],
+    text: &Text,
+) -> Result<Told, AllocError>
+    ensures { (script : Script) (secret : Bytes) (c : Course) → TokensDiffer secret → IsAt script secret known c
+        → IfOk result (Tells script secret known c (reported_at at.now (line.Put device.now fates.now text.now))) }
+{
+    let Known { ends, seen } = known;
+    let calling = Calling::Put {
+        kind: Text::fixed(KIND),
+        text: text.twin(alloc)?,
+    };
+    let mut words = line_words(at);
+    let outcome = ends.put(
+        setting_at(at, fates),
+        device.as_str(),
+        &mut words,
+        KIND,
+        text.as_str(),
+    )?;
+    told(alloc, seen, came_of(outcome)?, at.number, device, &calling)
+}
+
+/// A line that gives an item a new content.
+pub(crate) fn edit_line(
+    alloc: Global,
+    known: Known,
+    at: &Moment,
+    device: &Text,
+    label: Ordinal,
+    fates: &[Fate],
+    text: &Text,
+) -> Result<Told, ReplayError>
+    ensures told { (script : Script) (secret : Bytes) (c : Course) → TokensDiffer secret → IsAt script secret known c
+        → IfOk result (Tells script secret known c (reported_at at.now (line.Edit device.now label fates.now text.now))) }
+    ensures refused { (script : Script) (secret : Bytes) (c : Course) → IsAt script secret known c
+        → IfErr result (IsRefusalAt at.now.number c (line.Edit device.now label fates.now text.now)) }
+{
+    let Known { ends, seen } = known;
+    let Some(uuid) = labelled_item(&seen.labels, label) else {
+        return Err(ReplayError::NotAllowed { number: at.number });
+    };
+    let calling = Calling::Edit {
+        text: text.twin(alloc)?,
+    };
+    let mut words = line_words(at);
+    let outcome = ends.edit(
+        setting_at(at, fates),
+        device.as_str(),
+        &mut words,
+        uuid,
+        text.as_str(),
+    )?;
+    let told = told(alloc, seen, came_of(outcome)?, at.number, device, &calling)?;
     Ok(told)
 }
 
-/// Puts a new item on the device.
-pub(crate) fn put_at(
+/// A line that deletes an item.
+pub(crate) fn delete_line(
     alloc: Global,
-    bench: &mut PlainBench,
-    known: &mut Known,
-    settings: &Settings,
-    number: u64,
+    known: Known,
+    at: &Moment,
     device: &Text,
-    text: &Text,
-) -> Result<Told, AllocError>
-    requires here { HasDevice bench.old known.old device.now }
-    ensures { (c : Course) → IsAt bench.old known.old c
-        → IfOk result (λ told. IsCalled bench.old bench.new known.old known.new settings.now number (end c.moves)
-        (line.Put device.now text.now) device.now told.moves told.last) }
+    label: Ordinal,
+    fates: &[Fate],
+) -> Result<Told, ReplayError>
+    ensures told { (script : Script) (secret : Bytes) (c : Course) → TokensDiffer secret → IsAt script secret known c
+        → IfOk result (Tells script secret known c (reported_at at.now (line.Delete device.now label fates.now))) }
+    ensures refused { (script : Script) (secret : Bytes) (c : Course) → IsAt script secret known c
+        → IfErr result (IsRefusalAt at.now.number c (line.Delete device.now label fates.now)) }
 {
-    let name = device.as_str();
-    let Some(held) = bench.devices.get_mut(name) else {
-        unreachable!();
+    let Known { ends, seen } = known;
+    let Some(uuid) = labelled_item(&seen.labels, label) else {
+        return Err(ReplayError::NotAllowed { number: at.number });
     };
-    let told = put(
+    let outcome = ends.delete(setting_at(at, fates), device.as_str(), uuid)?;
+    let told = told(
         alloc,
-        held,
-        &mut known.labels,
-        settings,
-        number,
-        name,
-        text.as_str(),
+        seen,
+        came_of(outcome)?,
+        at.number,
+        device,
+        &Calling::Delete,
     )?;
     Ok(told)
 }
 
-/// Syncs the device.
-pub(crate) fn sync_at(
+/// A line that brings a device and the server together.
+pub(crate) fn sync_line(
     alloc: Global,
-    bench: &mut PlainBench,
-    known: &Known,
-    settings: &Settings,
+    known: Known,
+    at: &Moment,
     device: &Text,
+    fates: &[Fate],
 ) -> Result<Told, AllocError>
-    requires here { HasDevice bench.old known.now device.now }
-    ensures { (number : ℕ) (c : Course) → IsAt bench.old known.now c
-        → IfOk result (λ told. IsCalled bench.old bench.new known.now known.now settings.now number (end c.moves)
-        (line.Sync device.now) device.now told.moves told.last) }
+    ensures { (script : Script) (secret : Bytes) (c : Course) → TokensDiffer secret → IsAt script secret known c
+        → IfOk result (Tells script secret known c (reported_at at.now (line.Sync device.now fates.now))) }
 {
-    let name = device.as_str();
-    let Some(held) = bench.devices.get_mut(name) else {
-        unreachable!();
-    };
-    let told = sync(alloc, &mut bench.server, held, name, settings.clock)?;
-    Ok(told)
+    runs_readable();
+    traces_tell();
+    syncs_end();
+    let Known { ends, seen } = known;
+    let mut words = line_words(at);
+    let outcome = ends.sync(setting_at(at, fates), device.as_str(), &mut words)?;
+    told(
+        alloc,
+        seen,
+        came_of(outcome)?,
+        at.number,
+        device,
+        &Calling::Sync,
+    )
+}
+
+// A registration, with the set that it would begin.
+fn registering(
+    alloc: Global,
+    at: &Moment,
+    identifier: &Text,
+    password: &Text,
+) -> Result<Calling, AllocError>
+    requires identifier { IsIdentifier identifier.now }
+    requires cost { 1 ≤ at.now.settings.cost }
+    ensures { IfOk result (IsRegistering at.now identifier.now password.now) }
+{
+    let set = new_set(alloc, at, identifier, password)?;
+    Ok(Calling::Register {
+        identifier: identifier.twin(alloc)?,
+        set: Some(set),
+    })
+}
+
+// What is set for the event of a line.
+fn setting_at(at: &Moment, fates: &[Fate]) -> Setting
+    ensures { result ≡ setting_at at.now.settings fates.now }
+{
+    Setting {
+        now: at.settings.clock,
+        losses: losses_of(fates),
+    }
 }

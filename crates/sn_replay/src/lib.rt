@@ -1,18 +1,28 @@
-//! A replay of scripts over both ends in memory.
+//! A replay of scripts over both ends in memory: each line that reports is an event, with the moves that it says.
 #![tactic(auto)]
 
-mod account_sets;
-mod accounts_shown;
-pub mod bench;
+mod beginning;
 mod calls;
-pub mod course_laws;
-mod devices_shown;
-mod drafts_shown;
+mod came;
+pub mod error;
+mod kept;
 mod known;
+mod labelled;
+mod lasts;
+mod late;
 mod lines;
-mod opening;
+mod losses;
+mod mirrors;
+mod names;
+mod new_set;
 pub mod run;
-mod show;
+mod seen;
+mod settings;
+mod showing;
+mod told;
 
-pub use bench::PlainBench;
+pub use error::ReplayError;
 pub use run::replay;
+
+#[cfg(test)]
+mod tests;

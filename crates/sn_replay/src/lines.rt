@@ -1,186 +1,89 @@
 //! The event of each line.
 
-ghost use Rattle.std.specs.Prelude.{◌≡◌, ◌≤◌, ℕ, IfOk, length};
-ghost use Rattle.sn_ends.specs.declared.settings.Settings.{Settings};
-ghost use Rattle.sn_replay.specs.Benches.{record_of};
-ghost use Rattle.sn_replay.specs.Headline.{Course, reported};
-ghost use Rattle.sn_replay.specs.Lines.{event_at};
-ghost use Rattle.sn_replay.specs.Playing.{HasCourse, IsAt, IsBounded, Tells, TellsAll};
-ghost use Rattle.sn_script.specs.declared.script.Line.TheVariants as line;
-ghost use Rattle.sn_string.specs.Bounds.{IsIdentifier};
+ghost use Rattle.std.specs.Prelude.{◌≡◌, ◌≤◌, IfErr, IfOk, true};
+ghost use Rattle.sn_course.specs.Courses.{Course};
+ghost use Rattle.sn_course.specs.Headline.{PasswordsApart};
+ghost use Rattle.sn_laws.specs.Each.{One};
+ghost use Rattle.sn_laws.specs.Lookups.{Bytes};
+ghost use Rattle.sn_replay.specs.Lines.{IsBounded, IsRefusalAt, reported_at, reports};
+ghost use Rattle.sn_replay.specs.Playing.{IsAt, Tells};
+ghost use Rattle.sn_script.specs.declared.script.Script.{Script};
+ghost use Rattle.sn_world.specs.Holds.{TokensDiffer};
 
-use crate::bench::PlainBench;
-use crate::calls::{begin, put_at, register_at, sync_at};
-use crate::known::Known;
-use crate::show::show;
-use sn_ends::Settings;
-use sn_ends::events::Told;
-use sn_report::{DeviceMark, Event, Last};
+use crate::calls::{delete_line, edit_line, put_line, register_line, sign_in_line, sync_line};
+use crate::error::ReplayError;
+use crate::known::{Known, Told};
+use crate::late::late_line;
+use crate::settings::Moment;
+use crate::showing::show_line;
 use sn_script::Line;
-use sn_string::{Many, Text, Twin};
-use std::alloc::{AllocError, Global};
+use std::alloc::Global;
 
-/// Carries out a line at both ends, and gives its event; a setting has none.
-pub(crate) fn line_event(
+/// Carries out a line that reports at both ends, and gives its event.
+pub(crate) fn line_told(
     alloc: Global,
-    bench: &mut PlainBench,
-    known: &mut Known,
-    settings: &Settings,
-    number: u64,
+    known: Known,
+    at: &Moment,
     line: &Line,
-) -> Result<Option<Event>, AllocError>
-    requires course { HasCourse bench.old known.old }
+) -> Result<Told, ReplayError>
     requires bounded { IsBounded line.now }
-    requires cost { 1 ≤ settings.now.cost }
-    ensures { (c : Course) → IsAt bench.old known.old c
-        → IfOk result (TellsAll bench.old bench.new known.old known.new c (reported number settings.now line.now)) }
+    requires cost { 1 ≤ at.now.settings.cost }
+    requires reports { reports line.now ≡ true }
+    ensures told { (script : Script) (secret : Bytes) (c : Course) → TokensDiffer secret → PasswordsApart script → One (λ l. l ≡ line.now) script.lines
+        → IsAt script secret known c → IfOk result (Tells script secret known c (reported_at at.now line.now)) }
+    ensures refused { (script : Script) (secret : Bytes) (c : Course) → IsAt script secret known c → IfErr result (IsRefusalAt at.now.number c line.now) }
 {
     match line {
-        Line::Seed(_) => Ok(None),
-        Line::Cost(_) => Ok(None),
-        Line::Clock(_) => Ok(None),
+        Line::Seed(_) => unreachable!(),
+        Line::Cost(_) => unreachable!(),
+        Line::Clock(_) => unreachable!(),
         Line::Register {
             device,
             identifier,
             password,
+            fates,
         } => {
-            let event = register_line(
-                alloc, bench, known, settings, number, device, identifier, password,
-            )?;
-            Ok(Some(event))
+            let fates = fates.as_slice();
+            let told = register_line(alloc, known, at, device, identifier, password, fates)?;
+            Ok(told)
         }
-        Line::Put { device, text } => {
-            let event = put_line(alloc, bench, known, settings, number, device, text)?;
-            Ok(Some(event))
+        Line::SignIn {
+            device,
+            identifier,
+            password,
+            fates,
+        } => {
+            let fates = fates.as_slice();
+            let told = sign_in_line(alloc, known, at, device, identifier, password, fates)?;
+            Ok(told)
         }
-        Line::Sync { device } => {
-            let event = sync_line(alloc, bench, known, settings, number, device)?;
-            Ok(Some(event))
+        Line::Put {
+            device,
+            fates,
+            text,
+        } => {
+            let told = put_line(alloc, known, at, device, fates.as_slice(), text)?;
+            Ok(told)
         }
+        Line::Edit {
+            device,
+            label,
+            fates,
+            text,
+        } => edit_line(alloc, known, at, device, *label, fates.as_slice(), text),
+        Line::Delete {
+            device,
+            label,
+            fates,
+        } => delete_line(alloc, known, at, device, *label, fates.as_slice()),
+        Line::Sync { device, fates } => {
+            let told = sync_line(alloc, known, at, device, fates.as_slice())?;
+            Ok(told)
+        }
+        Line::Late { device, request } => late_line(alloc, known, at, device, *request),
         Line::Show => {
-            let event = show_line(alloc, bench, known, number)?;
-            Ok(Some(event))
+            let told = show_line(alloc, known, at)?;
+            Ok(told)
         }
-    }
-}
-
-// A line that begins an account.
-fn register_line(
-    alloc: Global,
-    bench: &mut PlainBench,
-    known: &mut Known,
-    settings: &Settings,
-    number: u64,
-    device: &Text,
-    identifier: &Text,
-    password: &Text,
-) -> Result<Event, AllocError>
-    requires course { HasCourse bench.old known.old }
-    requires identifier { IsIdentifier identifier.now }
-    requires cost { 1 ≤ settings.now.cost }
-    ensures { (c : Course) → IsAt bench.old known.old c
-        → IfOk result (Tells bench.old bench.new known.new c
-        (record { number = number; settings = settings.now; asks = line.Register device.now identifier.now password.now })) }
-{
-    begin(alloc, bench, known, device)?;
-    let told = register_at(
-        alloc, bench, known, settings, number, device, identifier, password,
-    )?;
-    let event = event_of(alloc, bench, number, device, told)?;
-    Ok(event)
-}
-
-// A line that puts a new item.
-fn put_line(
-    alloc: Global,
-    bench: &mut PlainBench,
-    known: &mut Known,
-    settings: &Settings,
-    number: u64,
-    device: &Text,
-    text: &Text,
-) -> Result<Event, AllocError>
-    requires course { HasCourse bench.old known.old }
-    ensures { (c : Course) → IsAt bench.old known.old c
-        → IfOk result (Tells bench.old bench.new known.new c
-        (record { number = number; settings = settings.now; asks = line.Put device.now text.now })) }
-{
-    begin(alloc, bench, known, device)?;
-    let told = put_at(alloc, bench, known, settings, number, device, text)?;
-    let event = event_of(alloc, bench, number, device, told)?;
-    Ok(event)
-}
-
-// A line that syncs a device.
-fn sync_line(
-    alloc: Global,
-    bench: &mut PlainBench,
-    known: &mut Known,
-    settings: &Settings,
-    number: u64,
-    device: &Text,
-) -> Result<Event, AllocError>
-    requires course { HasCourse bench.old known.old }
-    ensures { (c : Course) → IsAt bench.old known.old c
-        → IfOk result (Tells bench.old bench.new known.new c
-        (record { number = number; settings = settings.now; asks = line.Sync device.now })) }
-{
-    begin(alloc, bench, known, device)?;
-    let told = sync_at(alloc, bench, known, settings, device)?;
-    let event = event_of(alloc, bench, number, device, told)?;
-    Ok(event)
-}
-
-// A line that shows both ends.
-fn show_line(
-    alloc: Global,
-    bench: &PlainBench,
-    known: &Known,
-    number: u64,
-) -> Result<Event, AllocError>
-    ensures { (settings : Settings) (c : Course) → IsAt bench.now known.now c
-        → IfOk result (Tells bench.now bench.now known.now c (record { number = number; settings = settings; asks = line.Show })) }
-{
-    let shown = show(alloc, bench, known)?;
-    Ok(Event {
-        number,
-        moves: Many::new(alloc),
-        shown,
-        last: Last::Done,
-        server_mark: bench.server.store.mark(),
-        device_mark: None,
-    })
-}
-
-// The event of a line that was carried out at a device.
-fn event_of(
-    alloc: Global,
-    bench: &PlainBench,
-    number: u64,
-    device: &Text,
-    told: Told,
-) -> Result<Event, AllocError>
-    ensures { IfOk result (λ event. event ≡ event_at bench.now number device.now told.moves told.last) }
-{
-    let Told { moves, last } = told;
-    let name = device.twin(alloc)?;
-    let mark = mark_of(bench, device);
-    Ok(Event {
-        number,
-        moves,
-        shown: Many::new(alloc),
-        last,
-        server_mark: bench.server.store.mark(),
-        device_mark: Some(DeviceMark { name, mark }),
-    })
-}
-
-// How many batches the record of a device has; that of one that has not begun has none.
-fn mark_of(bench: &PlainBench, device: &Text) -> u64
-    ensures { result ≡ length (record_of bench.now device.now) }
-{
-    match bench.devices.get(device.as_str()) {
-        Some(device) => device.store.mark(),
-        None => 0,
     }
 }

@@ -1,63 +1,128 @@
 //! The run over a script.
 
-ghost use Rattle.std.specs.Prelude.{◌≡◌, IfOk};
-ghost use Rattle.sn_ends.specs.Settings.{settings_after};
-ghost use Rattle.sn_replay.specs.Benches.{IsFresh};
-ghost use Rattle.sn_replay.specs.Headline.{Carries};
-ghost use Rattle.sn_replay.specs.Playing.{IsRead};
+ghost use Rattle.std.specs.Prelude.{◌≡◌, ◌≤◌, ◌+◌, ◌++◌, ◌∷◌, [], ℕ, List, IfErr, IfOk, IsErrOf, OnOk, length};
+ghost use Rattle.sn_course.specs.Headline.{Carries, shelf_slots};
+ghost use Rattle.sn_course.specs.declared.settings.Settings.{Settings};
+ghost use Rattle.sn_disk.specs.MemShelf.{shelf_slot};
+ghost use Rattle.sn_disk.specs.Shelf.{unknown};
+ghost use Rattle.sn_laws.specs.Each.{One};
+ghost use Rattle.sn_replay.specs.Lines.{IsBounded, IsRead, IsReplayRefusal};
+ghost use Rattle.sn_replay.specs.Playing.{AreSlotsOf, HasPlayedAll, IsPlayed, IsRefusalBehind, KnownOr};
+ghost use Rattle.sn_replay.specs.declared.error.ReplayError.TheVariants as refusal;
+ghost use Rattle.sn_script.specs.declared.script.Line.{Line};
+ghost use Rattle.sn_script.specs.declared.script.Script.{Script};
 
-use crate::bench::PlainBench;
-use crate::known::Known;
-use crate::lines::line_event;
-use sn_ends::Settings;
-use sn_report::{Labels, Report};
+use crate::beginning::begin;
+use crate::error::ReplayError;
+use crate::known::{Known, Told};
+use crate::lines::line_told;
+use crate::settings::{Moment, after_line, first_settings, reports};
+use sn_course::{
+    Settings, carried_of_moves, moves_more, recounts_go, recounts_grow, recounts_more,
+    reporting_more,
+};
+use sn_disk::MemShelf;
+use sn_report::{Event, Report};
 use sn_script::{Line, Script};
 use sn_string::Many;
 use std::alloc::{AllocError, Global};
 
-/// Carries out a script at both ends, line by line, and reports what each line brought about.
-pub fn replay(alloc: Global, script: &Script, bench: &mut PlainBench) -> Result<Report, AllocError>
+/// Carries out a script at both ends, line by line, and reports what each line brought about. The disks of both are put on the
+/// shelf: the server's under `server`, and each device's under `device-` and its name.
+pub fn replay(alloc: Global, script: &Script, shelf: &mut MemShelf) -> Result<Report, ReplayError>
     requires read { IsRead script.now }
-    requires fresh { IsFresh bench.old }
-    ensures carries { IfOk result (Carries script.now bench.new) }
+    requires fresh { (name : List ℕ) → shelf_slot shelf.old name ≡ unknown }
+    ensures carries { IfOk result (Carries script.now (shelf_slots shelf.new)) }
+    ensures refused { IfErr result (IsReplayRefusal script.now) }
+    ensures untouched { (number : ℕ) → IsErrOf result (refusal.NotAllowed number) → shelf.new ≡ shelf.old }
 {
-    let mut known = Known {
-        labels: Labels::new(alloc),
-        names: Many::new(alloc),
-    };
-    let mut settings = Settings {
-        seed: [0; 32],
-        cost: 1,
-        clock: 0,
-    };
-    let mut events = Many::new(alloc);
-    'lines: for (index, line) in script.lines.as_slice().iter().enumerate() {
-        let number = index as u64 + 1;
-        if let Some(event) = line_event(alloc, bench, &mut known, &settings, number, line)? {
-            events.push(event)?;
-        }
-        settings = after_line(settings, line);
-    }
+    carried_of_moves();
+    let played = play(alloc, script)?;
+    let State { known, events, .. } = played;
+    put_away(known, shelf)?;
     Ok(Report { events })
 }
 
-// What a line leaves of the settings.
-fn after_line(settings: Settings, line: &Line) -> Settings
-    ensures { result ≡ settings_after settings line.now }
+// Puts the disks of both ends on the shelf, where there are any.
+fn put_away(known: Option<Known>, shelf: &mut MemShelf) -> Result<(), AllocError>
+    requires fresh { (name : List ℕ) → shelf_slot shelf.old name ≡ unknown }
+    ensures { OnOk result (AreSlotsOf known (shelf_slots shelf.new)) }
 {
-    match line {
-        Line::Seed(seed) => Settings {
-            seed: *seed,
-            ..settings
-        },
-        Line::Cost(cost) => Settings {
-            cost: *cost,
-            ..settings
-        },
-        Line::Clock(clock) => Settings {
-            clock: *clock,
-            ..settings
-        },
-        Line::Register { .. } | Line::Put { .. } | Line::Sync { .. } | Line::Show => settings,
+    match known {
+        Some(Known { ends, .. }) => ends.put_away(shelf),
+        None => Ok(()),
+    }
+}
+
+/// Where a replay stands between two lines: before the first line that reports nothing is known.
+#[derive(Drop)]
+pub(crate) struct State {
+    pub(crate) settings: Settings,
+    pub(crate) known: Option<Known>,
+    pub(crate) events: Many<Event>,
+}
+
+// Carries out all lines.
+fn play(alloc: Global, script: &Script) -> Result<State, ReplayError>
+    requires read { IsRead script.now }
+    ensures played { IfOk result (HasPlayedAll script.now) }
+    ensures refused { IfErr result (IsReplayRefusal script.now) }
+{
+    let mut state = State {
+        settings: first_settings(),
+        known: None,
+        events: Many::new(alloc),
+    };
+    'lines: for (index, line) in script.lines.as_slice().iter().enumerate() {
+        state = step(alloc, state, index as u64 + 1, line)?;
+    }
+    Ok(state)
+}
+
+// Carries out one line more.
+fn step(alloc: Global, state: State, number: u64, line: &Line) -> Result<State, ReplayError>
+    requires bounded { IsBounded line.now }
+    requires cost { 1 ≤ state.settings.cost }
+    ensures played { (script : Script) (first : Settings) (lines : List Line) → number ≡ 1 + length lines → One (λ l. l ≡ line.now) script.lines
+        → IsPlayed script first lines state → IfOk result (IsPlayed script first (lines ++ line.now ∷ [])) }
+    ensures refused { (script : Script) (first : Settings) (lines : List Line) → number ≡ 1 + length lines
+        → IsPlayed script first lines state → IfErr result (IsRefusalBehind script first lines line.now) }
+{
+    recounts_grow();
+    recounts_more();
+    recounts_go();
+    reporting_more();
+    moves_more();
+    let State {
+        settings,
+        known,
+        mut events,
+    } = state;
+    if !reports(line) {
+        let settings = after_line(settings, line);
+        return Ok(State {
+            settings,
+            known,
+            events,
+        });
+    }
+    let at = Moment { number, settings };
+    let known = known_or(alloc, known, &at)?;
+    let Told { known, event } = line_told(alloc, known, &at, line)?;
+    events.push(event)?;
+    Ok(State {
+        settings,
+        known: Some(known),
+        events,
+    })
+}
+
+// What is known; before the first line that reports, what it begins with.
+fn known_or(alloc: Global, known: Option<Known>, at: &Moment) -> Result<Known, AllocError>
+    ensures { IfOk result (KnownOr known at.now) }
+{
+    match known {
+        Some(known) => Ok(known),
+        None => begin(alloc, at),
     }
 }

@@ -1,6 +1,5 @@
-//! Tests of a server's rules, of the server and of serving it, and of an end without a disk, by the public calls of
-//! `sn_account`, `sn_server`, `sn_serve` and `sn_ends`. They stand above these crates, since a crate with tests of its own
-//! is proved twice. There is nothing else here.
+//! Tests of a server's rules, of the server and of serving it, by the public calls of `sn_account`, `sn_server` and
+//! `sn_serve`. They stand above these crates, since a crate with tests of its own is proved twice. There is nothing else here.
 #![tactic(auto)]
 
 #[cfg(test)]
@@ -11,8 +10,6 @@ mod changes;
 mod parts;
 #[cfg(test)]
 mod passwords;
-#[cfg(test)]
-mod plain_store;
 #[cfg(test)]
 mod requests;
 #[cfg(test)]

@@ -48,7 +48,7 @@ returns-clause-device g c =
 
 pub returns-clause-accepted : goal.returns-clause-accepted
 returns-clause-accepted g c =
-    accepted c.sealed_opens.ensures c.read_back.ensures (texts c.args.words.now) _ _ _ _ _ _ c.tell.result _ _ _ _ _ _ _ _
+    accepted c.sealed_opens.ensures c.read_back.ensures c.one_script.ensures (texts c.args.words.now) _ _ _ _ _ _ c.tell.result _ _ _ _ _ _ _ _
     (told_so g.S.D.Disk g.S.Shelf.told g.S.Shelf.slot g.S.Shelf.fault_count g.P.Port.goes g.P.Port.bound g.O.Sink.held g.C.Clock.given g.R.Seeds.given
     (handed c.args.shelf.now c.args.port.now c.args.out.now c.args.clock.now c.args.seeds.now)
     (handed c.answer-status.new.shelf c.answer-status.new.port c.answer-status.new.out c.answer-status.new.clock c.answer-status.new.seeds)

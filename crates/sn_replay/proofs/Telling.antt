@@ -1,0 +1,271 @@
+-- The event of a call tells what the call made of both ends.
+use Rattle.std.proofs.Common.{◌≡◌, ◌≢◌, ◌⊎◌, ℕ, List, [], ◌∷◌, ◌++◌, Bool, true, false, Option, Some, None, map, refl, sym, ap, ◌∙◌, subst, inl, inr, ⊎_elim}
+use Rattle.std.specs.Prelude.{if◌then◌else◌}
+use Rattle.std.specs.List.{AllZip}
+use Rattle.std.specs.Str.{bytes_eq}
+use Rattle.rand_chacha.specs.ChaCha.{ChaCha}
+use Rattle.sn_client.specs.Runs.{Act, Call, Halt, Run, answered, broken, refused, rows_done}
+use Rattle.sn_course.specs.Courses.{Course, Reported, made_by, marks_with, names_with, past}
+use Rattle.sn_course.specs.Fits.{Called, EndsSo, EndsWell, Fits}
+use Rattle.sn_course.specs.Lines.{device_of, fates_of}
+use Rattle.sn_course.specs.Settings.{words_of}
+use Rattle.sn_disk.specs.Shelf.{Slot}
+use Rattle.sn_disk.specs.declared.memory.MemDisk.{MemDisk}
+use Rattle.sn_events.specs.Calling.{host}
+use Rattle.sn_events.specs.Slots.{device_slot, slot_mark, slot_of_device}
+use Rattle.sn_events.specs.Standing.{Stands}
+use Rattle.sn_events.specs.declared.ends.Ends.{Ends}
+use Rattle.sn_journal.specs.declared.owner.Owner.TheVariants.{Device as DeviceOwner}
+use Rattle.sn_laws.proofs.Facts.{end_from-append, text_same}
+use Rattle.sn_laws.specs.Each.{Each}
+use Rattle.sn_laws.specs.Lookups.{Bytes, empty}
+use Rattle.sn_laws.specs.Moves.{after}
+use Rattle.sn_laws.specs.Runs.{Legal, LegalFrom, end, end_from}
+use Rattle.sn_laws.specs.declared.ideal.Ideal.{Ideal}
+use Rattle.sn_laws.specs.declared.moves.Move.{Move}
+use Rattle.sn_recorder.specs.Told.{AreTold}
+use Rattle.sn_report.specs.Labels.{Labels, labels_of}
+use Rattle.sn_report.specs.declared.report.DeviceMark.{DeviceMark}
+use Rattle.sn_report.specs.declared.report.Event.{Event}
+use Rattle.sn_row_map.specs.RowMaps.{row_in}
+use Rattle.sn_rows.specs.Table.{Rows}
+use Rattle.sn_script.specs.declared.script.Script.{Script}
+use Rattle.sn_string.specs.declared.params.KeySet.{KeySet}
+use Rattle.sn_tail.specs.Shelves.{SlotReads}
+use Rattle.sn_telling.specs.Calling.{IsCallingOf}
+use Rattle.sn_telling.specs.Laws.{CallsTell, IsWhole}
+use Rattle.sn_telling.specs.Telling.{told_moves}
+use Rattle.sn_telling.specs.declared.calling.Calling.{Calling}
+use Rattle.sn_world.specs.Calls.{Fate, call_steps, rows_served}
+use Rattle.sn_world.specs.Delivered.{TracesFit}
+use Rattle.sn_world.specs.Happens.{Happens}
+use Rattle.sn_world.specs.Holds.{TokensDiffer}
+use Rattle.sn_world.specs.Sessions.{calls, line_steps, made_behind, rows_ended, with_end}
+use Rattle.sn_world.specs.World.{Made, World}
+use Rattle.sn_replay.specs.Coming.{HasCame, IsEventOf, SeesMoves}
+use Rattle.sn_replay.specs.Keeping.{IsKeptOf, asked_of, kept_of, puts_of, requests_of}
+use Rattle.sn_replay.specs.Lines.{setting_at}
+use Rattle.sn_replay.specs.Mirrored.{mirrored}
+use Rattle.sn_replay.specs.Playing.{AreAskedSo, IsAt, IsBeginsOf, IsLineOf, IsMadeOf, IsMoveOf, Tells}
+use Rattle.sn_replay.specs.declared.came.Came.{Came}
+use Rattle.sn_replay.specs.declared.kept.Kept.{Kept}
+use Rattle.sn_replay.specs.declared.known.Known.{Known}
+use Rattle.sn_replay.specs.declared.known.Seen.{Seen}
+use Rattle.sn_replay.specs.declared.known.Told.{Told}
+use Rattle.sn_replay.proofs.MoveKinds.{IsMoveBy, of_script, told_by}
+use Rattle.sn_replay.proofs.Lists.{each_append}
+use Rattle.sn_replay.proofs.Making.{bytes_apart, each_made, made_grow, moves_grow, names_among, others_made, own_kept, same_or_apart}
+
+pub legal_append : (s : Ideal) (xs ys : List Move) → LegalFrom s xs → LegalFrom (end_from s xs) ys → LegalFrom s (xs ++ ys)
+legal_append s [] ys h k = k
+legal_append s (x ∷ xs) ys h k = (h.0, legal_append (after s x) xs ys h.1 k)
+
+-- ---- a call whose disk didn't fail
+
+pub ended_whole : (halt : Halt) (rows : Rows) → IsWhole halt → rows_ended halt true rows ≡ rows
+ended_whole (answered given left) rows whole = refl
+ended_whole (refused why) rows whole = refl
+ended_whole (broken what changes) rows whole = absurd whole
+
+pub steps_whole : (name : Bytes) (halt : Halt) (steps : List Happens) → IsWhole halt → with_end name halt true steps ≡ steps
+steps_whole name (answered given left) steps whole = refl
+steps_whole name (refused why) steps whole = refl
+steps_whole name (broken what changes) steps whole = absurd whole
+
+-- what a device is told by its name, and what every other device keeps
+pub by_name : (P : Bytes → Type 0) (name : Bytes) → P name → ((other : Bytes) → other ≢ name → P other) → (other : Bytes) → P other
+by_name P name own others other =
+    ⊎_elim (λ (e : other ≡ name). subst P (sym e) own) (λ (k : other ≢ name). others other k) (same_or_apart other name)
+
+module _ (tell : CallsTell) (fit : TracesFit) (script : Script) (secret : Bytes) (differ : TokensDiffer secret) (c : Course) (r : Reported) (name : Bytes)
+    (call : Call) (calling : Calling) (old : Ends) (seen behind : Seen) (came : Came) (moves : List Move) (e : Event)
+    (at : IsAt script secret (record { ends = old; seen = seen }) c) (l : IsLineOf script secret c r name call calling)
+    (x : HasCame secret c.world (end c.moves) name call (words_of r.settings r.number) (setting_at r.settings (fates_of r.asks)) old came)
+    (sees : (begins : Option KeySet) → IsCallingOf call begins x.acts calling
+    → Run 1 call (mirrored seen.devices name) (words_of r.settings r.number) x.acts x.halt → IsWhole x.halt
+    → AreTold host x.acts x.fates came.batches came.exchanged
+    → SeesMoves (row_in seen.server) (row_in behind.server) (mirrored seen.devices name) (mirrored behind.devices name) name begins x.acts x.fates moves)
+    (others_see : (other : Bytes) → other ≢ name → mirrored behind.devices other ≡ mirrored seen.devices other)
+    (labels_see : behind.labels ≡ labels_of (puts_of calling) seen.labels moves) (names_see : behind.names ≡ names_with seen.names (Some name))
+    (requests_see : requests_of behind.requests name ≡ requests_of seen.requests name ++ map (kept_of calling) came.exchanged)
+    (others_keep : (other : Bytes) → other ≢ name → requests_of behind.requests other ≡ requests_of seen.requests other)
+    (event : IsEventOf came.ends x.leads.next r.number name (puts_of calling) moves came.last e) where
+  abbrev words : ChaCha
+  words = words_of r.settings r.number
+
+  abbrev begins : Option KeySet
+  begins = x.leads.begins
+
+  abbrev w : World
+  w = c.world
+
+  abbrev next : World
+  next = x.leads.next
+
+  abbrev now : Course
+  now = past c r.asks e next
+
+  so : IsCallingOf call begins x.acts calling × AreAskedSo begins (asked_of calling) x.acts
+  so = l.calls_so x.acts x.fates x.halt x.comes x.leads x.whole
+
+  run : Run 1 call (mirrored seen.devices name) words x.acts x.halt
+  run = subst (λ (rows : Rows). Run 1 call rows words x.acts x.halt) (sym (at.devices_are name)) x.comes.runs
+
+  s : SeesMoves (row_in seen.server) (row_in behind.server) (mirrored seen.devices name) (mirrored behind.devices name) name begins x.acts x.fates moves
+  s = sees begins so.0 run x.whole x.told
+
+  -- ---- the moves
+
+  moves_told : e.moves ≡ x.leads.moves
+  moves_told =
+      event.moves_are ∙ s.moves_are
+      ∙ ap (λ (rows : Rows). told_moves rows (mirrored seen.devices name) name begins x.acts x.fates) at.server_is
+      ∙ ap (λ (rows : Rows). told_moves w.server rows name begins x.acts x.fates) (at.devices_are name)
+      ∙ sym (tell secret w (end c.moves) name 1 call words x.acts x.fates x.halt differ at.stands.holds x.whole x.leads)
+
+  end_is : end (c.moves ++ e.moves) ≡ end_from (end c.moves) x.leads.moves
+  end_is = end_from-append empty c.moves e.moves ∙ ap (end_from (end c.moves)) moves_told
+
+  ended : EndsSo x.halt e.last
+  ended = subst (EndsSo x.halt) (sym event.last_is) x.ended
+
+  called : Called secret c r name call e next
+  called = record {
+    acts = x.acts;
+    fates = x.fates;
+    halt = x.halt;
+    comes = x.comes;
+    leads = x.leads;
+    next_is = refl;
+    moves_are = moves_told;
+    by_losses = x.by_losses;
+    at = x.at;
+    ended = ended;
+    well = subst (λ (ms : List Move). EndsWell call name (next.devices name) (end (c.moves ++ ms)) e.last) (sym moves_told)
+        (l.well x.acts x.fates x.halt x.comes x.leads e.last ended);
+  }
+
+  fits : Fits secret c r e next
+  fits = record {
+    number = event.number_is;
+    puts = event.puts_is ∙ sym l.puts;
+    happens = l.happens e next called;
+    shown = event.shown_none ∙ sym l.shows;
+  }
+
+  -- ---- the rows
+
+  next_own : next.devices name ≡ rows_done (w.devices name) x.acts
+  next_own =
+      x.leads.devices_are name
+      ∙ ap (λ (b : Bool). if b then rows_ended x.halt true (rows_done (w.devices name) x.acts) else w.devices name) (text_same name name refl)
+      ∙ ended_whole x.halt (rows_done (w.devices name) x.acts) x.whole
+
+  next_other : (other : Bytes) → other ≢ name → next.devices other ≡ w.devices other
+  next_other other apart =
+      x.leads.devices_are other
+      ∙ ap (λ (b : Bool). if b then rows_ended x.halt true (rows_done (w.devices other) x.acts) else w.devices other) (bytes_apart other name apart)
+
+  server_now : row_in behind.server ≡ next.server
+  server_now = s.server_is ∙ ap (λ (rows : Rows). rows_served rows x.fates) at.server_is ∙ sym x.leads.server_is
+
+  devices_now : (other : Bytes) → mirrored behind.devices other ≡ next.devices other
+  devices_now =
+      by_name (λ (n : Bytes). mirrored behind.devices n ≡ next.devices n) name
+      (s.rows_are ∙ ap (λ (rows : Rows). rows_done rows x.acts) (at.devices_are name) ∙ sym next_own)
+      (λ other apart. others_see other apart ∙ at.devices_are other ∙ sym (next_other other apart))
+
+  -- ---- the requests
+
+  made_now : next.made ≡ made_behind w.made (call_steps name begins x.acts x.fates)
+  made_now = x.leads.made_is ∙ ap (made_behind w.made) (steps_whole name x.halt (call_steps name begins x.acts x.fates) x.whole)
+
+  requests_now : (other : Bytes) → AllZip IsKeptOf (made_by other next.made) (requests_of behind.requests other)
+  requests_now =
+      by_name (λ (n : Bytes). AllZip IsKeptOf (made_by n next.made) (requests_of behind.requests n)) name
+      (subst (λ (ms : List Made). AllZip IsKeptOf (made_by name ms) (requests_of behind.requests name)) (sym made_now)
+      (subst (λ (ks : List Kept). AllZip IsKeptOf (made_by name (made_behind w.made (call_steps name begins x.acts x.fates))) ks) (sym requests_see)
+      (own_kept name begins calling x.acts x.fates came.batches came.exchanged w.made (requests_of seen.requests name) x.told x.readable so.1 (at.requests_are name))))
+      (λ other apart.
+      subst (λ (ms : List Made). AllZip IsKeptOf (made_by other ms) (requests_of behind.requests other)) (sym made_now)
+      (subst (λ (ms : List Made). AllZip IsKeptOf ms (requests_of behind.requests other)) (sym (others_made name begins other apart x.acts x.fates w.made))
+      (subst (λ (ks : List Kept). AllZip IsKeptOf (made_by other w.made) ks) (sym (others_keep other apart)) (at.requests_are other))))
+
+  begins_so : IsBeginsOf script begins
+  begins_so = l.of_script begins x.leads.of_line
+
+  made_ours : Each (IsMadeOf script now.names) next.made
+  made_ours =
+      subst (λ (d : Option Bytes). Each (IsMadeOf script (names_with c.names d)) next.made) (sym l.named)
+      (subst (Each (IsMadeOf script (names_with c.names (Some name)))) (sym made_now)
+      (each_made name begins (IsMadeOf script (names_with c.names (Some name))) (λ q. record { among = names_among c.names name; begins = begins_so })
+      x.acts x.fates w.made (made_grow script c.names (Some name) w.made at.made_are)))
+
+  moves_ours : Each (IsMoveOf script now.names) (c.moves ++ e.moves)
+  moves_ours =
+      subst (λ (d : Option Bytes). Each (IsMoveOf script (names_with c.names d)) (c.moves ++ e.moves)) (sym l.named)
+      (each_append (IsMoveOf script (names_with c.names (Some name))) c.moves e.moves (moves_grow script c.names (Some name) c.moves at.moves_are)
+      (of_script script (names_with c.names (Some name)) name begins e.moves begins_so (names_among c.names name)
+      (subst (Each (IsMoveBy name begins)) (sym (event.moves_are ∙ s.moves_are))
+      (told_by (row_in seen.server) (mirrored seen.devices name) name begins x.acts x.fates))))
+
+  -- ---- the marks
+
+  mark_own : now.marks name ≡ event.mark.mark
+  mark_own =
+      ap (λ (d : Option DeviceMark). marks_with c.marks d name) event.mark_is
+      ∙ ap (λ (b : Bool). if b then event.mark.mark else c.marks name) (text_same event.mark.name name event.named)
+
+  mark_other : (other : Bytes) → other ≢ name → now.marks other ≡ c.marks other
+  mark_other other apart =
+      ap (λ (d : Option DeviceMark). marks_with c.marks d other) event.mark_is
+      ∙ ap (λ (b : Bool). if b then event.mark.mark else c.marks other) (bytes_apart event.mark.name other (λ k. apart (sym k ∙ event.named)))
+
+  slot_other : (other : Bytes) → other ≢ name → device_slot came.ends other ≡ device_slot old other
+  slot_other other apart = ap slot_of_device (x.goes_on.others other apart)
+
+  marks_now : (other : Bytes) → now.marks other ≡ slot_mark (device_slot came.ends other)
+  marks_now =
+      by_name (λ (n : Bytes). now.marks n ≡ slot_mark (device_slot came.ends n)) name (mark_own ∙ event.device_mark)
+      (λ other apart. mark_other other apart ∙ at.marks_are other ∙ ap slot_mark (sym (slot_other other apart)))
+
+  reads_now : (other : Bytes) → SlotReads (device_slot came.ends other) DeviceOwner (now.marks other) (next.devices other)
+  reads_now =
+      by_name (λ (n : Bytes). SlotReads (device_slot came.ends n) DeviceOwner (now.marks n) (next.devices n)) name
+      (subst (λ (m : ℕ). SlotReads (device_slot came.ends name) DeviceOwner m (next.devices name)) (sym mark_own) event.device_reads)
+      (λ other apart.
+      subst (λ (m : ℕ). SlotReads (device_slot came.ends other) DeviceOwner m (next.devices other)) (sym (mark_other other apart))
+      (subst (λ (rows : Rows). SlotReads (device_slot came.ends other) DeviceOwner (c.marks other) rows) (sym (next_other other apart))
+      (subst (λ (slot : Slot MemDisk). SlotReads slot DeviceOwner (c.marks other) (w.devices other)) (sym (slot_other other apart)) (at.marks_read other))))
+
+  -- ---- all of it
+
+  known_now : Known
+  known_now = record { ends = came.ends; seen = behind }
+
+  at_now : IsAt script secret (record { ends = came.ends; seen = behind }) now
+  at_now = record {
+    legal = legal_append empty c.moves e.moves at.legal (subst (LegalFrom (end c.moves)) (sym moves_told) x.legal);
+    stands = subst (Stands came.ends secret next) (sym end_is) x.stands;
+    fits = fit secret w next (end c.moves) (line_steps begins (calls name 1 call words x.acts x.fates x.halt true)) x.leads.moves differ at.stands.holds at.fits x.leads.goes;
+    labels_are = labels_see ∙ ap (λ (ls : Labels). labels_of (puts_of calling) ls moves) at.labels_are
+        ∙ ap (λ (b : Bool). labels_of b c.labels moves) (sym event.puts_is) ∙ ap (labels_of e.puts c.labels) (sym event.moves_are);
+    names_are = names_see ∙ ap (λ (ns : List Bytes). names_with ns (Some name)) at.names_are ∙ ap (names_with c.names) (sym l.named);
+    server_is = server_now;
+    devices_are = devices_now;
+    requests_are = requests_now;
+    made_are = made_ours;
+    moves_are = moves_ours;
+    marks_are = marks_now;
+    marks_read = reads_now;
+  }
+
+  pub tells : Tells script secret (record { ends = old; seen = seen }) c r (record { known = record { ends = came.ends; seen = behind }; event = e })
+  tells = record {
+    next = next;
+    grow = record { server = x.grow.server; devices = x.grow.devices };
+    fits = fits;
+    at = at_now;
+    server_mark = event.server_mark;
+    server_reads = event.server_reads;
+  }

@@ -1,9 +1,0 @@
-use Rattle.std.proofs.Common.{◌≡◌, ◌++◌, List, subst}
-use Rattle.std.specs.Prelude.{OnOk}
-use Rattle.sn_laws.specs.Lookups.{Bytes}
-use Rattle.sn_replay.proofs.drafts_shown.add_drafts.Goals as goal
-
-pub returns : goal.returns
-returns c = λ s shows.
-    subst (λ (xs : List Bytes). OnOk c.add_values.result (c.add_values.new.lines ≡ c.args.lines.now ++ xs)) (c.in_ok-drafts.ensures s shows)
-    c.add_values.ensures

@@ -1,0 +1,41 @@
+use Rattle.std.proofs.Common.{◌≡◌, Option, Some, None, false, refl, ap, sym, subst, ◌∙◌}
+use Rattle.std.specs.Option.{option_copied}
+use Rattle.sn_client.specs.Asking.{IsRequestBytes}
+use Rattle.sn_events.specs.Calling.{host}
+use Rattle.sn_laws.specs.Lookups.{Bytes}
+use Rattle.sn_laws.specs.Runs.{end}
+use Rattle.sn_report.specs.Labels.{labels_of}
+use Rattle.sn_replay.specs.Keeping.{nth_of, requests_of}
+use Rattle.sn_replay.specs.declared.kept.Kept.{Kept}
+use Rattle.sn_replay.specs.declared.known.Seen.{Seen}
+use Rattle.sn_replay.proofs.Lateness.{Meant, late_tells, nth_kept, nth_none}
+use Rattle.sn_replay.proofs.late.late_line.Goals as goal
+
+pub returns-clause-told : goal.returns-clause-told
+returns-clause-told c =
+    let at = c.args.at.now in
+    let name : Bytes = c.args.device.now in
+    let kept : Kept = c.in-Some.kept.now in
+    let behind : Seen = record { labels = c.add_labels.new.labels; names = c.args.known.seen.names; server = c.asked_moves.new.server; devices = c.args.known.seen.devices; requests = c.args.known.seen.requests } in
+    λ script secret course differ is_at.
+    let found : nth_of (requests_of c.args.known.seen.requests name) c.args.which ≡ Some kept =
+    ap (λ (n : Bytes). nth_of (requests_of c.args.known.seen.requests n) c.args.which) (sym c.as_str.ensures) ∙ sym c.in-Some.ensures in
+    let meant : Meant name course.world.made c.args.which kept =
+    nth_kept name course.world.made (requests_of c.args.known.seen.requests name) c.args.which kept (is_at.requests_are name) found in
+    let came = c.in_ok-ends.ensures.came secret course.world (end course.moves) meant.m differ is_at.stands meant.among
+    (subst (IsRequestBytes host meant.m.request) (sym c.as_slice.ensures) meant.is.sent) meant.is.readable in
+    let told = c.in_ok-moves.ensures meant.m.request meant.m.begins at.settings.clock came.changes came.given meant.is.is (c.as_slice-2.ensures ∙ came.gained) in
+    late_tells c.agains_tell.ensures c.traces_fit.ensures script secret differ course at.number at.settings name c.args.which c.args.known is_at kept meant
+    c.in_ok-ends.field-0 came c.in_ok-moves.moves behind c.new.result c.server_mark-server_mark.result told
+    (c.in_ok-add_labels.ensures ∙ ap (labels_of false c.args.known.seen.labels) c.as_slice-3.ensures) refl refl refl c.new.ensures
+    (c.server_mark-server_mark.ensures secret came.leads.next _ came.stands)
+
+pub returns-in_default-clause-refused : goal.returns-in_default-clause-refused
+returns-in_default-clause-refused c =
+    λ script secret course is_at.
+    let none : nth_of (requests_of c.args.known.seen.requests c.args.device.now) c.args.which ≡ None =
+    ap (λ (n : Bytes). nth_of (requests_of c.args.known.seen.requests n) c.args.which) (sym c.as_str.ensures) ∙ sym c.nth.ensures ∙ ap option_copied c.in_default.is in (
+      refl,
+      λ some. some (nth_none c.args.device.now course.world.made (requests_of c.args.known.seen.requests c.args.device.now) c.args.which
+          (is_at.requests_are c.args.device.now) none),
+    )

@@ -1,0 +1,37 @@
+//! Both ends before the first event.
+
+ghost use Rattle.std.specs.Prelude.{IfOk};
+ghost use Rattle.sn_course.specs.Settings.{words_of};
+ghost use Rattle.sn_replay.specs.Playing.{Begins};
+
+use crate::kept::Requests;
+use crate::known::{Known, Seen};
+use crate::mirrors::Mirrors;
+use crate::settings::{Moment, line_words};
+use sn_events::{Begun, Ends};
+use sn_report::Labels;
+use sn_row_map::RowMap;
+use sn_string::Many;
+use sn_world::{first_fits, holds_first, traces_fit};
+use std::alloc::{AllocError, Global};
+
+/// A fresh server, which draws its secret from the words of the first line that reports, and no device.
+pub(crate) fn begin(alloc: Global, at: &Moment) -> Result<Known, AllocError>
+    ensures { IfOk result (Begins (words_of at.now.settings at.now.number)) }
+{
+    holds_first();
+    first_fits();
+    traces_fit();
+    let mut words = line_words(at);
+    let Begun { ends, changes } = Ends::begin(alloc, &mut words)?;
+    let mut server = RowMap::new(alloc);
+    server.add_all(changes.into_vec())?;
+    let seen = Seen {
+        labels: Labels::new(alloc),
+        names: Many::new(alloc),
+        server,
+        devices: Mirrors::new(alloc),
+        requests: Requests::new(alloc),
+    };
+    Ok(Known { ends, seen })
+}

@@ -1,0 +1,89 @@
+//! The event of a call, of whatever kind.
+
+ghost use Rattle.std.specs.Prelude.{ℕ, List, IfOk};
+ghost use Rattle.sn_client.specs.Runs.{Call};
+ghost use Rattle.sn_course.specs.Courses.{Course};
+ghost use Rattle.sn_course.specs.Lines.{fates_of};
+ghost use Rattle.sn_course.specs.Settings.{words_of};
+ghost use Rattle.sn_course.specs.declared.settings.Settings.{Settings};
+ghost use Rattle.sn_events.specs.Standing.{Stands};
+ghost use Rattle.sn_events.specs.declared.ends.Ends.{Ends};
+ghost use Rattle.sn_laws.specs.Lookups.{Bytes};
+ghost use Rattle.sn_laws.specs.Runs.{end};
+ghost use Rattle.sn_laws.specs.declared.ideal.Ideal.{Ideal};
+ghost use Rattle.sn_replay.specs.Coming.{HasCame, IsEventOf};
+ghost use Rattle.sn_replay.specs.Keeping.{puts_of};
+ghost use Rattle.sn_replay.specs.Lines.{setting_at};
+ghost use Rattle.sn_replay.specs.Playing.{IsAt, IsLineOf, Tells};
+ghost use Rattle.sn_script.specs.declared.script.Line.{Line};
+ghost use Rattle.sn_script.specs.declared.script.Script.{Script};
+ghost use Rattle.sn_world.specs.Holds.{TokensDiffer};
+ghost use Rattle.sn_world.specs.World.{World};
+
+use crate::came::Came;
+use crate::known::{Known, Seen, Told};
+use crate::seen::{puts, see};
+use sn_events::Ends;
+use sn_laws::Move;
+use sn_report::{DeviceMark, Event, Last};
+use sn_string::{Many, Text, Twin};
+use sn_telling::{Calling, calls_tell};
+use sn_world::traces_fit;
+use std::alloc::{AllocError, Global};
+
+/// The event of a call of this device, by what the ends gave of it and what was seen before.
+pub(crate) fn told(
+    alloc: Global,
+    mut seen: Seen,
+    came: Came,
+    number: u64,
+    name: &Text,
+    calling: &Calling,
+) -> Result<Told, AllocError>
+    ensures { (script : Script) (secret : Bytes) (c : Course) (settings : Settings) (asks : Line) (call : Call) (old : Ends) → TokensDiffer secret
+        → IsAt script secret (record { ends = old; seen = seen }) c → IsLineOf script secret c (record { number = number; settings = settings; asks = asks }) name.now call calling.now
+        → HasCame secret c.world (end c.moves) name.now call (words_of settings number) (setting_at settings (fates_of asks)) old came
+        → IfOk result (Tells script secret (record { ends = old; seen = seen }) c (record { number = number; settings = settings; asks = asks })) }
+{
+    calls_tell();
+    traces_fit();
+    let moves = see(alloc, &mut seen, name, calling, &came)?;
+    let Came {
+        ends,
+        last,
+        exchanged,
+        ..
+    } = came;
+    seen.requests.add(name.as_str(), exchanged, calling)?;
+    let event = event_of(alloc, &ends, number, name, calling, moves, last)?;
+    Ok(Told {
+        known: Known { ends, seen },
+        event,
+    })
+}
+
+// The event, with the present marks of the disks of both.
+fn event_of(
+    alloc: Global,
+    ends: &Ends,
+    number: u64,
+    name: &Text,
+    calling: &Calling,
+    moves: Many<Move>,
+    last: Last,
+) -> Result<Event, AllocError>
+    ensures { (secret : Bytes) (w : World) (s : Ideal) → Stands ends.now secret w s
+        → IfOk result (IsEventOf ends.now w number name.now (puts_of calling.now) moves last) }
+{
+    let device = name.twin(alloc)?;
+    let mark = ends.device_mark(name.as_str());
+    Ok(Event {
+        number,
+        puts: puts(calling),
+        moves,
+        shown: Many::new(alloc),
+        last,
+        server_mark: ends.server_mark(),
+        device_mark: Some(DeviceMark { name: device, mark }),
+    })
+}
