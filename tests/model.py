@@ -1,134 +1,132 @@
-"""What a script's report is, by an account of plain lists: no keys, no rows, no strings but their lengths."""
+"""What the report of a script is, by the rules of both ends in plain values: no keys, no disks, no strings but their lengths.
 
-import base64
-import json
+Here are a script's lines, and what is lost between the ends; `model_server.py` and `model_device.py` have the ends.
+"""
 
-LAST_STAMP = 253402300799999999
-MOST_ITEMS = 150
-MOST_BYTES = 4194304
-LONGEST_TEXT = 700000
+import re
 
+from model_device import Device, Ended
+from model_items import DELETED, Report
+from model_server import Refusal, Server
 
-def is_object(text):
-    try:
-        return isinstance(json.loads(text), dict) and text[:1] not in ("\ufeff",)
-    except ValueError:
-        return False
+FATE = re.compile(r"drop-(request|reply)(?:=(0|[1-9][0-9]*))?")
 
 
-def sealed_length(plain, params):
-    """Bytes of the string that seals a text of so many bytes: version, hash, uuid, vector, ciphertext, params."""
-    padded = (plain // 16 + 1) * 16
-    return len("003") + 64 + 36 + 32 + 4 * ((padded + 2) // 3) + len(params) + 5
+class NotAllowed(Exception):
+    """The first line that names an item without a label, or a request that was never made."""
+
+    def __init__(self, number):
+        super().__init__(number)
+        self.number = number
+
+
+def fates_and_text(words):
+    """The requests of the line that are lost, those of which the answer is lost, and the rest of the words as a text."""
+    lost = {"request": set(), "reply": set()}
+    for place, word in enumerate(words):
+        found = FATE.fullmatch(word)
+        if found is None:
+            return lost, " ".join(words[place:])
+        lost[found[1]].add(int(found[2] or 1))
+    return lost, ""
+
+
+class Link:
+    """What lies between a device and the server in one line."""
+
+    def __init__(self, replay, device, lost):
+        self.replay, self.device, self.lost = replay, device, lost
+        self.count = 0
+
+    def ask(self, request):
+        self.device.made.append(request)
+        self.count += 1
+        if self.count in self.lost["request"]:
+            raise Ended("= link")
+        answer = self.replay.server.handle(request, self.replay.clock)
+        if self.count in self.lost["reply"]:
+            raise Ended("= link")
+        if isinstance(answer, Refusal):
+            raise Ended("= server %d %s" % answer)
+        return answer
 
 
 class Replay:
+    """A server, and devices in the order of their first lines."""
+
     def __init__(self):
-        self.cost, self.clock, self.stamp, self.labels = 1, 0, 0, 0
-        self.accounts, self.devices, self.lines = {}, {}, []
-
-    def say(self, number, text):
-        self.lines.append("%d %s" % (number, text))
-
-    def register(self, name, identifier):
-        device = self.devices[name]
-        if device["account"] is not None:
-            return "= refused client.13 HasAccount " + device["account"]
-        if identifier in self.accounts:
-            return "= server 409 taken"
-        self.accounts[identifier] = []
-        params = {"identifier": identifier, "pw_cost": self.cost, "pw_nonce": "0" * 64, "version": "003"}
-        spelled = json.dumps(params, separators=(",", ":"), ensure_ascii=False).encode()
-        device.update(account=identifier, params=base64.b64encode(spelled))
-        yield "register %s set 1" % identifier
-        yield "join %s %s set 1" % (name, identifier)
-        return "= ok"
-
-    def put(self, name, text):
-        device = self.devices[name]
-        if device["account"] is None:
-            return "= refused client.1 NoAccount"
-        if len(text.encode()) > LONGEST_TEXT:
-            return "= refused client.4 TooLong %d" % len(text.encode())
-        if not is_object(text):
-            return "= refused client.5 NotObject"
-        self.labels += 1
-        length = sealed_length(len(text.encode()), device["params"]) + sealed_length(128, device["params"])
-        device["drafts"].append({"label": self.labels, "text": text, "posted": False, "length": length})
-        yield "edit %s #%d %s" % (name, self.labels, text)
-        return "= ok"
-
-    def request(self, drafts):
-        items, length = [], 0
-        for draft in drafts[:MOST_ITEMS]:
-            length += draft["length"]
-            if length > MOST_BYTES:
-                break
-            items.append(draft)
-        return items
-
-    def sync(self, name):
-        device = self.devices[name]
-        if device["account"] is None:
-            return "= refused client.1 NoAccount"
-        while device["drafts"]:
-            items = self.request(device["drafts"])
-            for draft in items:
-                if not draft["posted"]:
-                    yield "post %s #%d" % (name, draft["label"])
-                draft["posted"] = True
-            first = max(self.clock, self.stamp + 1)
-            if first + len(items) - 1 > LAST_STAMP:
-                return "= server 409 stamps-used"
-            for place, draft in enumerate(items):
-                self.stamp = first + place
-                self.accounts[device["account"]].append((draft["label"], self.stamp, draft["text"]))
-                yield "accept #%d @%d set 1" % (draft["label"], self.stamp)
-            for draft in items:
-                yield "settle %s #%d" % (name, draft["label"])
-            del device["drafts"][: len(items)]
-        return "= ok"
-
-    def show(self):
-        for identifier, versions in self.accounts.items():
-            yield "account %s set 1" % identifier
-            for label, stamp, text in sorted(versions):
-                yield "item #%d @%d set 1 %s" % (label, stamp, text)
-        for name, device in self.devices.items():
-            if device["account"] is None:
-                yield "device %s none" % name
-                continue
-            yield "device %s %s sets 1" % (name, device["account"])
-            for draft in device["drafts"]:
-                yield "draft %s #%d %s" % (name, draft["label"], draft["text"])
-        return "= ok"
+        self.report = Report()
+        self.server, self.devices = Server(self.report), {}
+        self.cost, self.clock = 1, 0
 
     def line(self, number, line):
-        word, _, rest = line.partition(" ")
-        if word in ("seed", "cost", "clock"):
-            if word != "seed":
-                setattr(self, word, int(rest))
-            return
-        name, _, rest = rest.partition(" ")
-        if word == "show":
-            event = self.show()
-        else:
-            self.devices.setdefault(name, {"account": None, "drafts": []})
-        if word == "register":
-            event = self.register(name, rest.split(" ")[0])
+        """Carries out a line that is in the grammar."""
+        word, *words = line.split(" ")
+        self.report.number = number
+        if word in ("cost", "clock"):
+            setattr(self, word, int(words[0]))
+        elif word != "seed":
+            self.report.say(self.last(word, words))
+
+    def last(self, word, words):
+        """Carries out a line that reports, and gives the last line of its report."""
+        if word == "late":
+            return self.late(words[0], int(words[1]))
+        try:
+            if word == "show":
+                self.show()
+            else:
+                self.call(word, *words)
+        except Ended as ended:
+            return ended.last
+        return "= ok"
+
+    def call(self, word, name, *words):
+        device = self.devices.setdefault(name, Device(name, self.report))
+        if word in ("register", "signin"):
+            link = Link(self, device, fates_and_text(words[2:])[0])
+            if word == "register":
+                device.register(link, *words[:2], self.cost)
+            else:
+                device.sign_in(link, *words[:2])
         elif word == "put":
-            event = self.put(name, rest)
+            device.put(fates_and_text(words)[1])
         elif word == "sync":
-            event = self.sync(name)
-        last = yield from event
-        yield last
+            device.sync(Link(self, device, fates_and_text(words)[0]))
+        else:
+            uuid = self.report.labelled(int(words[0].removeprefix("#")))
+            if uuid is None:
+                raise NotAllowed(self.report.number)
+            if word == "edit":
+                device.edit(uuid, fates_and_text(words[1:])[1])
+            elif word == "del":
+                device.delete(uuid)
+
+    def late(self, name, number):
+        made = self.devices[name].made if name in self.devices else []
+        if not 1 <= number <= len(made):
+            raise NotAllowed(self.report.number)
+        answer = self.server.handle(made[number - 1], self.clock)
+        return "= answer %d" % (answer.status if isinstance(answer, Refusal) else 200)
+
+    def show(self):
+        say, label, place = self.report.say, self.report.label, self.report.place
+        for identifier in self.server.accounts:
+            say("account %s set 1" % identifier)
+            for version in sorted(self.server.items_of(identifier), key=lambda version: place(version.uuid)):
+                set_of = "" if version.body is DELETED else "set 1 "
+                say("item %s @%d %s%s" % (label(version.uuid), version.stamp, set_of, self.report.shown(version.body)))
+        for name, device in self.devices.items():
+            say("device %s %s" % (name, "none" if device.keys is None else device.keys.identifier + " sets 1"))
+            for row in sorted(device.rows, key=lambda row: place(row.uuid)):
+                if row.now is not None:
+                    say("draft %s %s %s" % (name, label(row.uuid), self.report.shown(row.now)))
 
 
 def report(script):
-    """The report of a script whose lines are all in the grammar."""
+    """The report of a script whose lines are all in the grammar; NotAllowed is raised where the script is refused."""
     replay = Replay()
-    for place, line in enumerate(script.split("\n")):
+    for place, line in enumerate(script.removesuffix("\n").split("\n")):
         if line:
-            for text in replay.line(place + 1, line):
-                replay.say(place + 1, text)
-    return "".join(line + "\n" for line in replay.lines)
+            replay.line(place + 1, line)
+    return replay.report.text()

@@ -1,5 +1,8 @@
-"""Scripts and their reports: the examples, worked out by hand, and random scripts beside a model of plain lists."""
+"""Scripts and their reports: the examples, worked out by hand, what the rules say of losses, conflicts and bounds, and random
+scripts beside a model of plain values."""
 
+import collections
+import concurrent.futures
 import glob
 import os
 import random
@@ -7,10 +10,13 @@ import unittest
 
 import model
 import program
+import random_scripts
 
 EXAMPLES = os.path.join(program.TOP, "examples")
 BEGUN = ["cost 1", "clock 1000", "register A alice p1"]
 REGISTERED = ["3 register alice set 1", "3 join A alice set 1", "3 = ok"]
+TWO = BEGUN + ["signin B alice p1"]
+LONGEST = '{"a":"%s"}' % ("x" * 699992)
 
 
 def replay(script):
@@ -21,6 +27,12 @@ def text(lines):
     return "".join(line + "\n" for line in lines)
 
 
+def of_line(number, report):
+    """The lines of a report that a line of its script has, without its number."""
+    front = "%d " % number
+    return [line[len(front) :] for line in report.splitlines() if line.startswith(front)]
+
+
 class Replays(unittest.TestCase):
     maxDiff = None
 
@@ -29,14 +41,25 @@ class Replays(unittest.TestCase):
         self.assertEqual((status, err), (0, b""), script[:1000])
         self.assertEqual(out.decode(), report, script[:1000])
 
+    def lines_report(self, lines, last):
+        """The program and the model have these lines of a report for the script's last lines: a list for each number."""
+        script = text(lines)
+        report = model.report(script)
+        for number, wanted in last.items():
+            self.assertEqual(of_line(number, report), wanted)
+        self.reports(script, report)
+
     def refuses(self, script, number):
         self.assertEqual(replay(script), (3, b"", b"sn: replay.1 Line %d\n" % number), script[:1000])
+
+    def allows_not(self, script, number):
+        self.assertEqual(replay(script), (3, b"", b"sn: replay.2 NotAllowed %d\n" % number), script[:1000])
 
 
 class Examples(Replays):
     def test_each_has_its_report(self):
         scripts = sorted(glob.glob(os.path.join(EXAMPLES, "*.script")))
-        self.assertEqual(len(scripts), 3)
+        self.assertEqual(len(scripts), 6)
         for path in scripts:
             with open(path) as script, open(path[: -len("script")] + "report") as report:
                 wanted = report.read()
@@ -91,13 +114,24 @@ class Worked(Replays):
         ]
         self.reports(script, text(report))
 
-    def test_a_line_out_of_the_grammar(self):
-        self.refuses(text(BEGUN + ["signin B alice p1", 'put A {"n":2}', "sync A"]), 4)
-        self.refuses("show\n\n", 2)
-        self.refuses("show \n", 1)
-        self.refuses(text(BEGUN + ["put A drop-request {}"]), 4)
-        self.refuses("cost 0\n", 1)
-        self.refuses("show\nseed %064x\n" % 1, 2)
+    def test_stamps_rise_though_the_clock_goes_back(self):
+        lines = BEGUN + ["put A {}", "sync A", "clock 5", "put A {}", "sync A"]
+        self.lines_report(lines, {8: ["post A #2", "accept #2 @1001 set 1", "settle A #2", "= ok"]})
+
+    def test_stamps_are_used_up(self):
+        lines = ["cost 1", "clock 253402300799999999", BEGUN[2], "put A {}", "sync A", "put A {}", "sync A"]
+        last = {5: ["post A #1", "accept #1 @253402300799999999 set 1", "settle A #1", "= ok"], 7: ["post A #2", "= server 409 stamps-used"]}
+        self.lines_report(lines, last)
+
+    def test_what_a_content_may_be(self):
+        """An object of at most 127 levels, without a number that no double has and without half a surrogate pair."""
+        deep = ['{"a":' * levels + "1" + "}" * levels for levels in (127, 128)]
+        contents = ["{}", " {}\t", '{"a":1,"a":2}', r'{"\ud83d\ude00":-1e-9}', '{"a":18446744073709551616}', '{"a":1e308}', deep[0]]
+        wrong = ["", "{", "{} {}", "null", "[{}]", '{"a":1e309}', '{"a":NaN}', '{"a":01}', "{'a':1}", '{"a":"\t"}', r'{"a":"\ud800"}']
+        lines = BEGUN + ["put A " + content for content in contents + wrong + [deep[1], "\ufeff{}"]]
+        last = {place + 4: ["edit A #%d %s" % (place + 1, content), "= ok"] for place, content in enumerate(contents)}
+        last.update((number, ["= refused client.5 NotObject"]) for number in range(11, 11 + len(wrong) + 2))
+        self.lines_report(lines, last)
 
     def test_input_that_is_not_utf8(self):
         self.assertEqual(program.run(["replay"], b"show\n\xff"), (3, b"", b"sn: cli.2 InputUtf8 5\n"))
@@ -106,57 +140,229 @@ class Worked(Replays):
         self.reports("register A é ü\n", text(["1 register é set 1", "1 join A é set 1", "1 = ok"]))
 
 
-class Requests(Replays):
+class Refused(Replays):
+    """Scripts that are refused, so that nothing is written."""
+
+    def test_a_line_out_of_the_grammar(self):
+        self.refuses(text(BEGUN + ["signin B alice", 'put A {"n":2}', "sync A"]), 4)
+        self.refuses("show\n\n", 2)
+        self.refuses("show \n", 1)
+        self.refuses(text(BEGUN + ["put A drop-request"]), 4)
+        self.refuses(text(BEGUN + ["put A {}", "sync A stop-device=1:old"]), 5)
+        self.refuses(text(BEGUN + ["late A 1 drop-reply"]), 4)
+        self.refuses(text(BEGUN + ["passwd A p2"]), 4)
+        self.refuses("cost 0\n", 1)
+        self.refuses("show\nseed %064x\n" % 1, 2)
+
+    def test_an_item_without_a_label(self):
+        self.allows_not(text(BEGUN + ["edit A #1 {}", "show"]), 4)
+        self.allows_not(text(BEGUN + ["put A {}", "del A #2"]), 5)
+        self.allows_not(text(BEGUN + ["put A {}", "del A #0"]), 5)
+        self.allows_not(text(BEGUN + ["put A []", "edit A #1 {}"]), 5)
+        self.allows_not("edit A #1 {}\n", 1)
+
+    def test_a_request_that_was_never_made(self):
+        # The device made one request, its registration.
+        self.allows_not(text(BEGUN + ["put A {}", "late A 2"]), 5)
+        self.allows_not(text(BEGUN + ["late A 0"]), 4)
+        self.allows_not(text(BEGUN + ["late A 18446744073709551617"]), 4)
+        self.allows_not(text(BEGUN + ["late B 1", "signin B alice p1"]), 4)
+
+    def test_the_grammar_comes_first(self):
+        self.refuses(text(BEGUN + ["late B 1", "edit A 1 {}"]), 5)
+
+
+class Conflicts(Replays):
+    BEFORE = TWO + ['put A {"t":"a"}', "sync A", "sync B", 'edit A #1 {"t":"b"}']
+
+    def test_both_texts_are_kept(self):
+        last = {
+            10: ["post A #1", "accept #1 @1001 set 1", "settle A #1", "= ok"],
+            11: ["post B #1", "fork B #1 #2", "post B #2", "accept #2 @1002 set 1", "settle B #2", "= ok"],
+            12: [
+                "account alice set 1",
+                'item #1 @1001 set 1 {"t":"b"}',
+                'item #2 @1002 set 1 {"t":"c","conflict_of":"#1"}',
+                "device A alice sets 1",
+                "device B alice sets 1",
+                "= ok",
+            ],
+        }
+        self.lines_report(self.BEFORE + ['edit B #1 {"t":"c"}', "sync A", "sync B", "show"], last)
+
+    def test_the_same_text(self):
+        lines = self.BEFORE + ['edit B #1 {"t":"b"}', "sync A", "sync B"]
+        self.lines_report(lines, {11: ["post B #1", "settle B #1", "= ok"]})
+
+    def test_a_deletion_gives_way(self):
+        lines = self.BEFORE + ["del B #1", "sync A", "sync B"]
+        self.lines_report(lines, {9: ["edit B #1 deleted", "= ok"], 11: ["post B #1", "giveway B #1", "= ok"]})
+
+    def test_an_edit_outlives_a_deletion(self):
+        last = {
+            10: ["post B #1", "accept #1 @1001 deleted", "settle B #1", "= ok"],
+            11: ["post A #1", "fork A #1 #2", "post A #2", "accept #2 @1002 set 1", "settle A #2", "= ok"],
+            12: ["account alice set 1", "item #1 @1001 deleted", 'item #2 @1002 set 1 {"t":"b","conflict_of":"#1"}']
+            + ["device A alice sets 1", "device B alice sets 1", "= ok"],
+        }
+        self.lines_report(self.BEFORE + ["del B #1", "sync B", "sync A", "show"], last)
+
+    def test_what_was_never_sent_is_dropped(self):
+        last = {5: ["drop A #1", "= ok"], 6: ["account alice set 1", "device A alice sets 1", "= ok"]}
+        self.lines_report(BEGUN + ["put A {}", "del A #1", "show"], last)
+
+    def test_copies(self):
+        """The member goes behind what is there, with a comma but in the empty object, and white space at the end goes."""
+        texts = {
+            "{}": '{"conflict_of":"#%d"}',
+            "{ }": '{ "conflict_of":"#%d"}',
+            '{"title":"a"}': '{"title":"a","conflict_of":"#%d"}',
+            '{"a":1} ': '{"a":1,"conflict_of":"#%d"}',
+            '{"conflict_of":"x"}': '{"conflict_of":"x","conflict_of":"#%d"}',
+        }
+        labels = range(1, 6)
+        lines = TWO + ['put A {"n":0}'] * 5 + ["sync A", "sync B"]
+        lines += ['edit A #%d {"n":1}' % label for label in labels]
+        lines += ["edit B #%d %s" % (label, own) for label, own in zip(labels, texts)]
+        items = ['item #%d @%d set 1 {"n":1}' % (label, 1004 + label) for label in labels]
+        items += ["item #%d @%d set 1 %s" % (label + 5, 1009 + label, copy % label) for label, copy in zip(labels, texts.values())]
+        shown = ["account alice set 1", *items, "device A alice sets 1", "device B alice sets 1", "= ok"]
+        self.lines_report(lines + ["sync A", "sync B", "show"], {24: shown})
+
+
+class Losses(Replays):
+    def test_a_lost_request(self):
+        last = {
+            5: ["post A #1", "= link"],
+            6: ["account alice set 1", "device A alice sets 1", 'draft A #1 {"n":1}', "= ok"],
+            7: ["accept #1 @1000 set 1", "settle A #1", "= ok"],
+        }
+        self.lines_report(BEGUN + ['put A {"n":1}', "sync A drop-request", "show", "sync A"], last)
+
+    def test_a_lost_answer_and_a_late_request(self):
+        last = {
+            5: ["post A #1", "accept #1 @1000 set 1", "= link"],
+            6: ['edit A #1 {"t":"y"}', "= ok"],
+            7: ["settle A #1 @1000", "post A #1", "accept #1 @1001 set 1", "settle A #1", "= ok"],
+            8: ["= answer 200"],
+        }
+        self.lines_report(BEGUN + ['put A {"t":"x"}', "sync A drop-reply", 'edit A #1 {"t":"y"}', "sync A", "late A 2"], last)
+
+    def test_a_lost_registration(self):
+        last = {
+            1: ["= link"],
+            2: ["device A none", "= ok"],
+            3: ["register alice set 1", "= answer 200"],
+            4: ["= answer 409"],
+            5: ["= server 409 taken"],
+            6: ["join A alice set 1", "= ok"],
+        }
+        lines = ["register A alice p drop-request", "show", "late A 1", "late A 1", "register A alice p", "signin A alice p"]
+        self.lines_report(lines, last)
+
+    def test_a_lost_sign_in(self):
+        """The parameters are asked for first, and then the sign-in."""
+        lines = BEGUN + ["signin B alice p1 drop-reply=2", "signin B carol p1", "signin B alice p1", "late B 3", "late B 5"]
+        ends = {4: ["= link"], 5: ["= server 404 unknown"], 7: ["= answer 404"], 8: ["= answer 200"]}
+        self.lines_report(lines, {**ends, 6: ["join B alice set 1", "= ok"]})
+
+    def test_a_page_gets_lost_and_has_an_item_as_it_was(self):
+        last = {
+            12: ["post B #6", "accept #6 @1005 set 1", "settle B #6", "= link"],
+            13: ["edit B #6 deleted", "= ok"],
+            14: ["post B #6", "accept #6 @1006 deleted", "settle B #6", "= ok"],
+            15: ["= refused client.2 NoItem #6"],
+        }
+        lines = BEGUN + ["put A " + LONGEST] * 5 + ["sync A", "signin B alice p1", "put B {}", "sync B drop-reply=2"]
+        self.lines_report(lines + ["del B #6", "sync B", "edit B #6 {}"], last)
+
+
+class Bounds(Replays):
     def test_at_most_150_items(self):
-        script = text(BEGUN + ["put A {}"] * 151 + ["sync A", "show"])
+        script = text(TWO + ["put A {}"] * 151 + ["sync A", "sync B drop-reply=2", "edit B #151 {}", "edit B #150 {}", "sync B", "show"])
         report = model.report(script)
-        first, second = report.index("155 settle A #150\n"), report.index("155 post A #151\n")
+        first, second = report.index("156 settle A #150\n"), report.index("156 post A #151\n")
         self.assertLess(first, second)
+        # The second page, of item 151 alone, was lost.
+        self.assertEqual(of_line(158, report), ["= refused client.2 NoItem #151"])
+        self.assertEqual(of_line(159, report), ["edit B #150 {}", "= ok"])
         self.reports(script, report)
 
     def test_at_most_4_194_304_bytes(self):
-        long = '{"a":"%s"}' % ("x" * 699992)
-        script = text(BEGUN + ["put A " + long] * 5 + ["sync A"])
+        script = text(BEGUN + ["put A " + LONGEST] * 5 + ["sync A"])
         report = model.report(script)
         self.assertLess(report.index("9 settle A #4\n"), report.index("9 post A #5\n"))
         self.reports(script, report)
 
+    def test_the_last_byte_of_a_request_and_of_a_page(self):
+        """Six notes of alice's have 4,194,304 bytes of strings: each 140 + 172 for two strings beside their ciphertexts, 192 for
+        that of its key, and for that of its content four have 698,264 and two 698,176, of 523,695 and 523,631 bytes at most."""
+        self.assertEqual(6 * (2 * (140 + 172) + 192) + 4 * 698264 + 2 * 698176, 4194304)
+        for more, parted in ((0, False), (1, True)):
+            contents = ['{"a":"%s"}' % ("x" * (size - 8)) for size in [523695] * 4 + [523631, 523631 + more]]
+            lines = TWO + ["put A " + content for content in contents] + ["sync A drop-reply=2", "sync A", "sync B drop-reply=2", "sync B"]
+            report = model.report(text(lines))
+            self.assertEqual(of_line(11, report)[-1], "= link" if parted else "= ok")
+            self.assertEqual(of_line(13, report)[-1], "= link" if parted else "= ok")
+            self.reports(text(lines), report)
+
+    def test_conflicts_of_at_most_4_194_304_bytes(self):
+        """The sixth deletion isn't looked at before the next request."""
+        labels = range(1, 7)
+        lines = TWO + ["put A {}"] * 6 + ["sync A", "sync B"]
+        lines += ["edit A #%d %s" % (label, LONGEST) for label in labels] + ["del B #%d" % label for label in labels]
+        moves = [word + " B #%d" % label for word in ("post", "giveway") for label in labels]
+        self.lines_report(lines + ["sync A", "sync B"], {26: moves + ["= ok"]})
+
     def test_the_longest_content(self):
-        long = '{"a":"%s"}' % ("x" * 699992)
-        self.assertEqual(len(long), 700000)
-        script = text(BEGUN + ["put A " + long, "put A " + long[:-2] + 'x"}'])
-        report = REGISTERED + ["4 edit A #1 " + long, "4 = ok", "5 = refused client.4 TooLong 700001"]
-        self.reports(script, text(report))
+        self.assertEqual(len(LONGEST), 700000)
+        script = text(BEGUN + ["put A " + LONGEST, "put A " + LONGEST[:-2] + 'x"}', "put A []", "sync B"])
+        report = REGISTERED + ["4 edit A #1 " + LONGEST, "4 = ok", "5 = refused client.4 TooLong 700001"]
+        self.reports(script, text(report + ["6 = refused client.5 NotObject", "7 = refused client.1 NoAccount"]))
+
+    def test_a_copy_that_is_longer_is_its_own_copy(self):
+        lines = TWO + ["put A {}", "sync A", "sync B", 'edit A #1 {"n":1}', "edit B #1 " + LONGEST, "sync A", "sync B drop-reply=2"]
+        lines += ["sync A", 'edit A #2 {"n":2}', "sync A", "sync B", "show"]
+        copy = LONGEST[:-1] + ',"conflict_of":"#1"}'
+        last = {
+            11: ["post B #1", "fork B #1 #2", "post B #2", "accept #2 @1002 set 1", "= link"],
+            15: ["fork B #2 #3", "post B #3", "accept #3 @1004 set 1", "settle B #3", "= ok"],
+            16: ["account alice set 1", 'item #1 @1001 set 1 {"n":1}', 'item #2 @1003 set 1 {"n":2}', "item #3 @1004 set 1 " + copy]
+            + ["device A alice sets 1", "device B alice sets 1", "= ok"],
+        }
+        self.lines_report(lines, last)
 
 
 class Random(Replays):
-    CONTENTS = ["{}", '{"n":%d}', '{ "t": "é ü" }', "[]", "{} x", "null", '{"a":{"b":[1,2]}}', "{", '"t"', '{"a":1,"a":2}']
+    SCRIPTS = 2000
+    # Lines that the reports of all scripts have at least so often.
+    WORDS = {"fork": 1000, "giveway": 300, "drop": 300, "settle": 10000, "accept": 10000}
+    LASTS = {"= link": 3000, "= answer 200": 5000, "= server 409 stamps-used": 50, "= server 401 bad-auth": 50, "= refused client.2": 500}
 
-    def script(self, draw):
-        names = ["A", "B", "c3", "Device08"]
-        lines = ["seed %064x" % draw.getrandbits(256)] if draw.random() < 0.7 else []
-        lines += ["cost 1"]
-        while len(lines) < draw.randint(5, 90):
-            name = draw.choice(names)
-            kind = draw.random()
-            if kind < 0.12:
-                lines.append("register %s %s %s" % (name, draw.choice(["alice", "bob", "é", "d@e.f"]), draw.choice(["p", "ü" * 60])))
-            elif kind < 0.6:
-                content = draw.choice(self.CONTENTS)
-                lines.append("put %s %s" % (name, content % draw.randint(0, 99) if "%" in content else content))
-            elif kind < 0.8:
-                lines.append("sync " + name)
-            elif kind < 0.9:
-                lines.append("show")
-            else:
-                lines.append("clock %d" % draw.choice([0, 5, 1000, draw.randint(0, 10**6), 253402300799999990]))
-        return text(lines)
+    @staticmethod
+    def expected(script):
+        try:
+            return 0, model.report(script).encode(), b""
+        except model.NotAllowed as refused:
+            return 3, b"", b"sn: replay.2 NotAllowed %d\n" % refused.number
 
     def test_beside_the_model(self):
         draw = random.Random(20190520)
-        for _ in range(120):
-            script = self.script(draw)
-            self.reports(script, model.report(script))
+        scripts = [random_scripts.script(draw) for _ in range(self.SCRIPTS)]
+        counts, refused = collections.Counter(), 0
+        with concurrent.futures.ThreadPoolExecutor(os.cpu_count()) as lanes:
+            for script, found in zip(scripts, lanes.map(replay, scripts)):
+                wanted = self.expected(script)
+                self.assertEqual((found[0], found[1].decode(), found[2]), (wanted[0], wanted[1].decode(), wanted[2]), script)
+                refused += wanted[0] != 0
+                for line in wanted[1].decode().splitlines():
+                    _, _, rest = line.partition(" ")
+                    counts[rest if rest.startswith("=") else rest.split(" ")[0]] += 1
+        for word, least in self.WORDS.items():
+            self.assertGreater(counts[word], least, word)
+        for last, least in self.LASTS.items():
+            self.assertGreater(sum(count for line, count in counts.items() if line.startswith(last)), least, last)
+        self.assertGreater(refused, 20)
 
 
 if __name__ == "__main__":
