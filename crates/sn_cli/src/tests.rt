@@ -531,7 +531,7 @@ static CASES: [Case; 42] = [
     Case {
         name: "replay: the fourth line is no command",
         words: REPLAY,
-        input: b"cost 1\nclock 1000\nregister A alice p1\nsignin B alice p1\nput A {\"title\":\"x\"}\nsync A\n",
+        input: b"cost 1\nclock 1000\nregister A alice p1\nsignup B alice p1\nput A {\"title\":\"x\"}\nsync A\n",
         failing_reads: &[],
         failing_writes: &[],
         status: 3,
