@@ -1,5 +1,6 @@
 -- What a request changes is a batch of a server's rows that a log takes.
-use Rattle.std.specs.Prelude.{ℕ, ◌≤◌, ◌^◌, List, length, All}
+use Rattle.std.specs.Prelude.{ℕ, ◌≤◌, List, length, All}
+use Rattle.sn_journal.specs.Image.{most_payload}
 use Rattle.sn_rows.specs.Kinds.{key_kind}
 use Rattle.sn_rows.specs.Laws.{Spells}
 use Rattle.sn_rows.specs.Spelling.{spelled}
@@ -24,9 +25,9 @@ IsServerKind kind.Local = ⊥
 
 -- a batch that a server's log takes: each change is of a server's row, and the bytes that spell them are few enough
 abbrev pub IsServerBatch : List Change → Type 0
-IsServerBatch changes = All (λ c. IsServerKind (key_kind (key_of c))) changes × (length (spelled changes) ≤ 2 ^ 30)
+IsServerBatch changes = All (λ c. IsServerKind (key_kind (key_of c))) changes × (length (spelled changes) ≤ most_payload)
 
 -- each change is of a server's row, and the bytes that spell them fit in one batch
 abbrev pub BatchesFit : Type 0
 BatchesFit = (rows : Rows) (r : Request) (now : ℕ) (changes : List Change) (given : Answer) (bytes : Bytes)
-    → Rule rows r now changes given → Spells bytes changes → All (λ c. IsServerKind (key_kind (key_of c))) changes × (length bytes ≤ 2 ^ 30)
+    → Rule rows r now changes given → Spells bytes changes → All (λ c. IsServerKind (key_kind (key_of c))) changes × (length bytes ≤ most_payload)

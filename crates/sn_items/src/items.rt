@@ -164,7 +164,8 @@ fn item_content(
     }
 }
 
-fn halves(key: &[u8; 64]) -> ([u8; 32], [u8; 32])
+/// The halves of an item's key: the one that encrypts its content, and the one that authenticates it.
+pub fn halves(key: &[u8; 64]) -> ([u8; 32], [u8; 32])
     ensures first { result.0 ≡ encryption_half key.now }
     ensures second { result.1 ≡ authentication_half key.now }
 {

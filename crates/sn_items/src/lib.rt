@@ -13,7 +13,7 @@ mod utf8;
 mod words;
 
 pub use error::ItemError;
-pub use items::{open_item, seal_item};
+pub use items::{halves, open_item, seal_item};
 pub use laws::{one_content, one_text, sealed_item_opens, sealed_opens};
 pub use objects::is_object;
 pub use opening::open_text;

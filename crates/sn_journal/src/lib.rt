@@ -22,4 +22,4 @@ pub use journal::{AppendError, Journal};
 pub use laws::{one_finding, same_after_crashed_loads};
 pub use loading::load;
 pub use owner::Owner;
-pub use reading::Payloads;
+pub use reading::{MOST_PAYLOAD, Payloads};

@@ -7,7 +7,7 @@ ghost use Rattle.sn_journal.specs.Reading.{IsBatches, IsWhole, IsBroken, IsBroke
 use std::marker::Model;
 
 /// The most bytes of a payload.
-pub(crate) const MOST_PAYLOAD: usize = 1 << 30;
+pub const MOST_PAYLOAD: usize = 1 << 30;
 
 /// Reads batches, one payload after the other. A contract sees the bytes that are left.
 #[derive(Debug, Drop)]

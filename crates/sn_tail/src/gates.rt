@@ -8,8 +8,7 @@ ghost use Rattle.sn_table.specs.Batches.{IsStore};
 ghost use Rattle.sn_tail.specs.Places.{place_behind};
 ghost use Rattle.sn_tail.specs.Tails.{IsEnd};
 
-// The most bytes of a payload.
-const MOST_PAYLOAD: usize = 1 << 30;
+use sn_journal::MOST_PAYLOAD;
 
 /// The place of the first gate of a store: where no batches end.
 pub fn first_place() -> u64
