@@ -14,15 +14,15 @@ use Rattle.sn_rows.specs.declared.device_rows.LocalItem.{LocalItem}
 use Rattle.sn_rows.specs.declared.key.Key.TheVariants as key
 use Rattle.sn_rows.specs.declared.value.Value.TheVariants as value
 use Rattle.sn_shows.proofs.DeviceDrafts.{apart_again, own_again}
-use Rattle.sn_shows.proofs.DeviceItems.{IsPut, put_asks, put_holder}
+use Rattle.sn_shows.proofs.DeviceItems.{IsPut, put_holder}
 use Rattle.sn_shows.proofs.DeviceLookups.{find_changed, find_past_changed}
-use Rattle.sn_shows.proofs.DeviceStates.{asks_nothing, draft_is, holder_of, not_of_item, shows_of}
+use Rattle.sn_shows.proofs.DeviceStates.{draft_is, holder_of, not_of_item, shows_of}
 use Rattle.sn_shows.specs.Devices.{ShowsBase, ShowsContent, ShowsDevice, ShowsDraft, ShowsDrafted, ShowsHolder, ShowsLocal, ShowsPosted}
 use Rattle.sn_shows.specs.Laws.{HasAccount}
 use Rattle.sn_shows.specs.Meetings.{AnsweredShows, PutsAnswered}
 
 module _ (rows : Rows) (s : Ideal) (name : Bytes) (local : ℕ) (item : LocalItem) (stamp : ℕ) (d : Device) (a : Account) (change : Change)
-    (p : PutsAnswered change local a item stamp) where
+    (p : PutsAnswered change local a (greatest 0 d.held) item stamp) where
   abbrev g : ℕ
   g = greatest 0 d.held
 
@@ -56,7 +56,7 @@ module _ (rows : Rows) (s : Ideal) (name : Bytes) (local : ℕ) (item : LocalIte
     puts = p.puts;
     shown = record {
       draft = drafted_so some (draft_at s name item.uuid) refl (h.locals local item stands).draft;
-      base = subst (λ (o : Option ℕ). ShowsBase a p.again o) (sym p.base) p.on;
+      base = subst (λ (o : Option ℕ). ShowsBase a g p.again o) (sym p.base) p.on;
     };
     own = own_again rows local item p.again stands p.uuid_is;
     apart = apart_again rows s name d a local item p.again h stands p.uuid_is;
@@ -73,7 +73,6 @@ module _ (rows : Rows) (s : Ideal) (name : Bytes) (local : ℕ) (item : LocalIte
       let holder : ShowsHolder rows s name d a = holder_of rows s name d a h has in
       shows_of (rows_after rows (change ∷ [])) next name d a (record { device = has.device; account = has.account })
       (put_holder rows s next name d a change local p.again (put_so holder stands some) holder)
-      (put_asks rows s next name d a change local p.again (put_so holder stands some) (asks_nothing rows s name d a h has))
 
 pub answered_shows : AnsweredShows
 answered_shows rows s name local item stamp d a change h has stands some p = answered_so rows s name local item stamp d a change p h has stands some

@@ -1,5 +1,5 @@
 -- An item's row put new, as sent, and without its draft.
-use Rattle.std.proofs.Common.{◌≡◌, ◌≢◌, ℕ, List, [], ◌∷◌, ◌++◌, Option, Some, None, true, refl, sym, ap, ◌∙◌, subst}
+use Rattle.std.proofs.Common.{◌≡◌, ◌≢◌, ℕ, List, [], ◌∷◌, ◌++◌, Option, Some, None, Bool, true, refl, sym, ap, ◌∙◌, subst}
 use Rattle.std.specs.Prelude.{IsSome, find}
 use Rattle.sn_laws.specs.Lookups.{Bytes, device_named, draft_at, greatest, held_by, is_draft}
 use Rattle.sn_laws.specs.Moves.{after, edited, posted_under, sent_content}
@@ -20,11 +20,11 @@ use Rattle.sn_rows.specs.declared.value.Value.TheVariants as value
 use Rattle.sn_sets.specs.Sets.{sealed_of}
 use Rattle.sn_string.specs.declared.params.KeySet.{KeySet}
 use Rattle.sn_shows.specs.Sets.{OpensUnder}
-use Rattle.sn_shows.specs.Devices.{HasRow, ListsBase, ShowsBase, ShowsContent, ShowsDevice, ShowsDraft, ShowsDrafted, ShowsHolder, ShowsLocal, ShowsPosted}
+use Rattle.sn_shows.specs.Devices.{HasRow, ListsBase, OpensBase, ShowsBase, ShowsContent, ShowsDevice, ShowsDraft, ShowsDrafted, ShowsHolder, ShowsLocal, ShowsPosted}
 use Rattle.sn_shows.specs.Laws.{EditedShows, HasAccount, IsNewAt, PostedShows, PutsItem, PutsPosted, PutsSettled, SettledShows}
-use Rattle.sn_shows.proofs.DeviceItems.{IsPut, put_asks, put_holder}
+use Rattle.sn_shows.proofs.DeviceItems.{IsPut, put_holder}
 use Rattle.sn_shows.proofs.DeviceLookups.{find_changed, find_new, find_past_changed, find_past_new, find_past_without, find_without}
-use Rattle.sn_shows.proofs.DeviceStates.{asks_nothing, draft_is, draft_passes, holder_from, holder_of, not_of_item, shows_of}
+use Rattle.sn_shows.proofs.DeviceStates.{draft_is, draft_passes, holder_from, holder_of, not_of_item, shows_of}
 
 -- a new item
 
@@ -65,7 +65,7 @@ module _ (rows : Rows) (s : Ideal) (name uuid kind text : Bytes) (local : ℕ) (
       let has : IsSome p.item.latest = subst (λ (o : Option RowBody). IsSome o) (sym p.latest) refl in
       record {
         draft = subst (λ (o : Option Draft). ShowsDrafted a.sets (greatest 0 d.held) p.item o) (sym found) shown;
-        base = subst (λ (o : Option ℕ). ShowsBase a p.item o) (sym p.base) (p.no_body, has);
+        base = subst (λ (o : Option ℕ). ShowsBase a (greatest 0 d.held) p.item o) (sym p.base) (p.no_body, has);
       }
 
   new_put : draft_at s name uuid ≡ None → IsNewAt rows local uuid → (p : PutsItem change local a.sets (greatest 0 d.held) uuid kind text)
@@ -88,7 +88,6 @@ module _ (rows : Rows) (s : Ideal) (name uuid kind text : Bytes) (local : ℕ) (
       let none : draft_at s name uuid ≡ None = no_draft rows s name uuid local d a holder new in
       shows_of (rows_after rows (change ∷ [])) edit_next name d a (record { device = has.device; account = has.account })
       (put_holder rows s edit_next name d a change local p.item (new_put none new p) holder)
-      (put_asks rows s edit_next name d a change local p.item (new_put none new p) (asks_nothing rows s name d a h has))
 
 pub edited_shows : EditedShows
 edited_shows = edited_so
@@ -115,12 +114,12 @@ none_sent sets number uuid None None e h = refl
 none_sent sets number uuid None (Some p) e h = absurd h
 none_sent sets number uuid (Some b) posted e h = absurd (cc)
 
--- what a row stands on lies in its uuid, type, body and latest content
-base_again : (a : Account) (item again : LocalItem) (base : Option ℕ) → again.uuid ≡ item.uuid → again.kind ≡ item.kind → again.body ≡ item.body
-    → again.latest ≡ item.latest → ShowsBase a item base → ShowsBase a again base
-base_again a item again None uuid kind same latest h =
+-- what a row stands on lies in its uuid, type, body, latest content and whether it was sealed anew
+base_again : (a : Account) (number : ℕ) (item again : LocalItem) (base : Option ℕ) → again.uuid ≡ item.uuid → again.kind ≡ item.kind
+    → again.body ≡ item.body → again.stale ≡ item.stale → again.latest ≡ item.latest → ShowsBase a number item base → ShowsBase a number again base
+base_again a number item again None uuid kind same stale latest h =
     (same ∙ h.0, subst (λ (o : Option RowBody). IsSome o) (sym latest) h.1)
-base_again a item again (Some stamp) uuid kind same latest h =
+base_again a number item again (Some stamp) uuid kind same stale latest h =
     let l : ListsBase a item stamp = h.listed in
     record {
       listed = record {
@@ -135,7 +134,8 @@ base_again a item again (Some stamp) uuid kind same latest h =
         number = l.number;
         live = l.live;
       };
-      opens = subst (λ (u : Bytes). OpensUnder a.sets l.number u (sealed_of l.strings) l.text) (sym uuid) h.opens;
+      opens = subst (λ (b : Bool). OpensBase a.sets number l.number again.uuid l.strings l.text b) (sym stale)
+          (subst (λ (u : Bytes). OpensBase a.sets number l.number u l.strings l.text item.stale) (sym uuid) h.opens);
     }
 
 module _ (rows : Rows) (s : Ideal) (name : Bytes) (local : ℕ) (item : LocalItem) (change : Change) (d : Device) (a : Account) where
@@ -182,8 +182,8 @@ module _ (rows : Rows) (s : Ideal) (name : Bytes) (local : ℕ) (item : LocalIte
         puts = p.puts;
         shown = record {
           draft = sent_drafted p some unsent (draft_at s name item.uuid) refl local_shown.draft;
-          base = subst (λ (o : Option ℕ). ShowsBase a p.sent o) (sym p.base)
-              (base_again a item p.sent item.base p.uuid_is p.kind_is p.same_body p.latest local_shown.base);
+          base = subst (λ (o : Option ℕ). ShowsBase a (greatest 0 d.held) p.sent o) (sym p.base)
+              (base_again a (greatest 0 d.held) item p.sent item.base p.uuid_is p.kind_is p.same_body p.stale p.latest local_shown.base);
         };
         own = own_again rows local item p.sent stands p.uuid_is;
         apart = apart_again rows s name d a local item p.sent h stands p.uuid_is;
@@ -200,7 +200,6 @@ module _ (rows : Rows) (s : Ideal) (name : Bytes) (local : ℕ) (item : LocalIte
       let holder : ShowsHolder rows s name d a = holder_of rows s name d a h has in
       shows_of (rows_after rows (change ∷ [])) post_next name d a (record { device = has.device; account = has.account })
       (put_holder rows s post_next name d a change local p.sent (sent_put holder stands some unsent p) holder)
-      (put_asks rows s post_next name d a change local p.sent (sent_put holder stands some unsent p) (asks_nothing rows s name d a h has))
 
 pub posted_shows : PostedShows
 posted_shows rows s name local item change h stands some unsent p =
@@ -210,7 +209,7 @@ posted_shows rows s name local item change h stands some unsent p =
 -- a row without its draft
 
 settled_put : (rows : Rows) (s : Ideal) (name : Bytes) (local : ℕ) (item : LocalItem) (stamp : ℕ) (d : Device) (a : Account) (change : Change)
-    → ShowsHolder rows s name d a → rows (key.Local local) ≡ Some (value.Local item) → (p : PutsSettled change local a item.uuid stamp)
+    → ShowsHolder rows s name d a → rows (key.Local local) ≡ Some (value.Local item) → (p : PutsSettled change local a (greatest 0 d.held) item.uuid stamp)
     → IsPut rows s (after s (Settle name item.uuid)) name (greatest 0 d.held) a change local p.item
 settled_put rows s name local item stamp d a change h stands p =
     let gone : draft_at (after s (Settle name item.uuid)) name p.item.uuid ≡ None =
@@ -219,7 +218,7 @@ settled_put rows s name local item stamp d a change h stands p =
       puts = p.puts;
       shown = record {
         draft = subst (λ (o : Option Draft). ShowsDrafted a.sets (greatest 0 d.held) p.item o) (sym gone) (p.latest, p.posted);
-        base = subst (λ (o : Option ℕ). ShowsBase a p.item o) (sym p.base) p.on;
+        base = subst (λ (o : Option ℕ). ShowsBase a (greatest 0 d.held) p.item o) (sym p.base) p.on;
       };
       own = own_again rows local item p.item stands p.uuid_is;
       apart = apart_again rows s name d a local item p.item h stands p.uuid_is;
@@ -233,5 +232,3 @@ settled_shows rows s name local item stamp d a change h has stands p =
     let holder : ShowsHolder rows s name d a = holder_of rows s name d a h has in
     shows_of (rows_after rows (change ∷ [])) (after s (Settle name item.uuid)) name d a (record { device = has.device; account = has.account })
     (put_holder rows s (after s (Settle name item.uuid)) name d a change local p.item (settled_put rows s name local item stamp d a change holder stands p) holder)
-    (put_asks rows s (after s (Settle name item.uuid)) name d a change local p.item (settled_put rows s name local item stamp d a change holder stands p)
-    (asks_nothing rows s name d a h has))

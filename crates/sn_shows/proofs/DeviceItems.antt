@@ -14,11 +14,11 @@ use Rattle.sn_rows.specs.declared.change.Change.{Change}
 use Rattle.sn_rows.specs.declared.device_rows.LocalItem.{LocalItem}
 use Rattle.sn_rows.specs.declared.key.Key.{Key}
 use Rattle.sn_rows.specs.declared.key.Key.TheVariants as key
-use Rattle.sn_rows.specs.declared.key.Slot.TheVariants.{Present, Older, Asked}
+use Rattle.sn_rows.specs.declared.key.Slot.TheVariants.{Present, Older}
 use Rattle.sn_rows.specs.declared.value.Value.{Value}
 use Rattle.sn_rows.specs.declared.value.Value.TheVariants as value
 use Rattle.sn_rows.specs.Facts.{put_elsewhere, put_or_not, put_here}
-use Rattle.sn_shows.specs.Devices.{AsksNothing, HasRow, IsDeviceKey, ShowsHolder, ShowsLocal, ShowsOlder}
+use Rattle.sn_shows.specs.Devices.{HasRow, IsDeviceKey, ShowsHolder, ShowsLocal, ShowsOlder}
 use Rattle.sn_shows.proofs.DeviceStates.{local_alike}
 
 -- the put row shows its item in the next state, the rows of other numbers are of other items, and their drafts are as before
@@ -115,6 +115,3 @@ module _ (rows : Rows) (s t : Ideal) (name : Bytes) (d : Device) (a : Account) (
         drafts = drafts p h;
         no_other = no_other p h;
       }
-
-  pub put_asks : IsPutHere → AsksNothing rows → AsksNothing later
-  put_asks p none = away p (key.Set Asked) (λ e. cc) ∙ none

@@ -24,10 +24,10 @@ use Rattle.sn_rows.specs.declared.key.Key.{Key}
 use Rattle.sn_rows.specs.declared.key.Key.TheVariants as key
 use Rattle.sn_rows.specs.declared.value.Value.TheVariants as value
 use Rattle.sn_sets.specs.Sets.{sealed_of}
-use Rattle.sn_shows.proofs.DeviceItems.{IsPut, put_asks, put_holder}
+use Rattle.sn_shows.proofs.DeviceItems.{IsPut, put_holder}
 use Rattle.sn_shows.proofs.DeviceLookups.{find_changed_without, find_moved}
 use Rattle.sn_shows.proofs.DeviceRemoved.{removed_shows}
-use Rattle.sn_shows.proofs.DeviceStates.{asks_nothing, draft_is, draft_passes, holder_of, not_of_item, shows_of}
+use Rattle.sn_shows.proofs.DeviceStates.{draft_is, draft_passes, holder_of, not_of_item, shows_of}
 use Rattle.sn_shows.specs.Devices.{ShowsBase, ShowsContent, ShowsDevice, ShowsDraft, ShowsDrafted, ShowsHolder, ShowsLocal, ShowsPosted}
 use Rattle.sn_shows.specs.Laws.{HasAccount, IsNewAt, PutsItem}
 use Rattle.sn_shows.specs.Meetings.{ForkedShows, HasNone, RenamedShows}
@@ -65,7 +65,7 @@ module _ (rows : Rows) (s next : Ideal) (name other kind text : Bytes) (number :
       let has : IsSome p.item.latest = subst (λ (o : Option RowBody). IsSome o) (sym p.latest) refl in
       record {
         draft = subst (λ (o : Option Draft). ShowsDrafted a.sets g p.item o) (sym found) shown;
-        base = subst (λ (o : Option ℕ). ShowsBase a p.item o) (sym p.base) (p.no_body, has);
+        base = subst (λ (o : Option ℕ). ShowsBase a g p.item o) (sym p.base) (p.no_body, has);
       }
 
   put_so : IsNewAt rows number other → IsPut rows s next name g a put number p.item
@@ -82,7 +82,6 @@ module _ (rows : Rows) (s next : Ideal) (name other kind text : Bytes) (number :
       let holder : ShowsHolder rows s name d a = holder_of rows s name d a h has in
       shows_of (rows_after rows (put ∷ [])) next name d a has_next
       (put_holder rows s next name d a put number p.item (put_so place) holder)
-      (put_asks rows s next name d a put number p.item (put_so place) (asks_nothing rows s name d a h has))
 
 -- ---- a fork
 

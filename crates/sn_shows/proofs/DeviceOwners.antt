@@ -13,14 +13,14 @@ use Rattle.sn_rows.specs.Table.{Rows, rows_after}
 use Rattle.sn_rows.specs.declared.change.Change.{Change}
 use Rattle.sn_rows.specs.declared.key.Key.{Key}
 use Rattle.sn_rows.specs.declared.key.Key.TheVariants as key
-use Rattle.sn_rows.specs.declared.key.Slot.TheVariants.{Present, Older, Asked}
+use Rattle.sn_rows.specs.declared.key.Slot.TheVariants.{Present, Older}
 use Rattle.sn_rows.specs.declared.value.Value.{Value}
 use Rattle.sn_rows.specs.declared.value.Value.TheVariants as value
 use Rattle.sn_rows.specs.Facts.{first_put, neither_put, put_elsewhere, put_or_not, put_here, second_put}
 use Rattle.sn_shows.specs.Devices.{HasRow, IsDeviceKey, IsSetRow, ShowsDevice, ShowsDeviceAs, ShowsHolder, ShowsNothing, ShowsOlder}
 use Rattle.sn_shows.specs.Laws.{JoinedShows, PutsOwner, PutsTokens, TokensShow}
 use Rattle.sn_shows.proofs.DeviceLookups.{find_new}
-use Rattle.sn_shows.proofs.DeviceStates.{asks_nothing, holder_of, shows_of}
+use Rattle.sn_shows.proofs.DeviceStates.{holder_of, shows_of}
 
 -- the account's row put again
 
@@ -48,7 +48,6 @@ tokens_holder rows s name d a change h p =
 pub tokens_show : TokensShow
 tokens_show rows s name d a change h has p =
     shows_of (rows_after rows (change ∷ [])) s name d a has (tokens_holder rows s name d a change (holder_of rows s name d a h has) p)
-    (put_elsewhere rows change key.Owner (key.Set Asked) (value.Owner p.row) p.puts (λ e. cc) ∙ asks_nothing rows s name d a h has)
 
 -- the first set
 
@@ -104,5 +103,3 @@ joined_shows rows s name identifier number a owner present h new named p =
     shows_of (rows_after rows (owner ∷ present ∷ [])) (after s (Join name identifier number)) name d a
     (record { device = device; account = named })
     (joined_holder rows s name identifier number a owner present (nothing_of rows s name h new) p)
-    (neither_put rows owner present key.Owner (key.Set Present) (key.Set Asked) (value.Owner p.row) (value.Set p.set) p.owner_puts p.present_puts
-    (λ e. cc) (λ e. cc) ∙ (nothing_of rows s name h new).none (key.Set Asked))

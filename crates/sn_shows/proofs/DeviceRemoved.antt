@@ -15,11 +15,11 @@ use Rattle.sn_rows.specs.declared.change.Change.{Change}
 use Rattle.sn_rows.specs.declared.device_rows.LocalItem.{LocalItem}
 use Rattle.sn_rows.specs.declared.key.Key.{Key}
 use Rattle.sn_rows.specs.declared.key.Key.TheVariants as key
-use Rattle.sn_rows.specs.declared.key.Slot.TheVariants.{Asked, Older, Present}
+use Rattle.sn_rows.specs.declared.key.Slot.TheVariants.{Older, Present}
 use Rattle.sn_rows.specs.declared.value.Value.{Value}
 use Rattle.sn_rows.specs.declared.value.Value.TheVariants as value
 use Rattle.sn_shows.proofs.DeviceLookups.{find_past_without, find_without}
-use Rattle.sn_shows.proofs.DeviceStates.{asks_nothing, draft_is, holder_of, local_alike, not_of_item, shows_of}
+use Rattle.sn_shows.proofs.DeviceStates.{draft_is, holder_of, local_alike, not_of_item, shows_of}
 use Rattle.sn_shows.specs.Devices.{HasRow, IsDeviceKey, ShowsDevice, ShowsHolder, ShowsOlder}
 use Rattle.sn_shows.specs.Laws.{HasAccount}
 use Rattle.sn_shows.specs.Meetings.{HasNone, RemovedShows}
@@ -87,7 +87,6 @@ removed_shows rows s name local item d a change shows has stands gone =
     find_past_without (is_draft name uuid) (is_draft name item.uuid)
     (λ x e. not_of_item name item.uuid uuid x apart (draft_is name item.uuid x e).1) s.drafts)
     (find_without (is_draft name item.uuid) s.drafts))
-    (removed_elsewhere rows change (key.Local local) (key.Set Asked) gone (λ e. cc) ∙ asks_nothing rows s name d a shows has)
 
 -- it had none
 pub removed_clean : (rows : Rows) (s : Ideal) (name : Bytes) (local : ℕ) (item : LocalItem) (d : Device) (a : Account) (change : Change) → ShowsDevice rows s name
@@ -96,7 +95,6 @@ pub removed_clean : (rows : Rows) (s : Ideal) (name : Bytes) (local : ℕ) (item
 removed_clean rows s name local item d a change shows has stands gone none =
     shows_of (rows_after rows (change ∷ [])) s name d a has
     (holder rows s s name local item d a change gone stands (holder_of rows s name d a shows has) (λ uuid apart. refl) none)
-    (removed_elsewhere rows change (key.Local local) (key.Set Asked) gone (λ e. cc) ∙ asks_nothing rows s name d a shows has)
 
 -- no row of the item is left
 pub none_left : (rows : Rows) (s : Ideal) (name : Bytes) (local : ℕ) (item : LocalItem) (d : Device) (a : Account) (change : Change) → ShowsDevice rows s name

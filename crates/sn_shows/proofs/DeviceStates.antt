@@ -1,5 +1,5 @@
 -- What a device's rows show depends on the device, its account and its drafts alone.
-use Rattle.std.proofs.Common.{◌≡◌, ◌≢◌, ℕ, Option, Some, None, true, false, refl, sym, ◌∙◌, subst}
+use Rattle.std.proofs.Common.{◌≡◌, ◌≢◌, ℕ, Option, Some, None, Bool, true, false, refl, sym, ◌∙◌, subst}
 use Rattle.std.specs.Str.{bytes_eq}
 use Rattle.std.proofs.lemmas.Bool.{and_parts}
 use Rattle.sn_laws.proofs.Facts.{and_both, is_false, same_text, text_same}
@@ -12,8 +12,10 @@ use Rattle.sn_rows.specs.Table.{Rows}
 use Rattle.sn_rows.specs.declared.device_rows.LocalItem.{LocalItem}
 use Rattle.sn_rows.specs.declared.key.Key.{Key}
 use Rattle.sn_rows.specs.declared.value.Value.{Value}
-use Rattle.sn_shows.specs.Devices.{AsksNothing, ShowsDevice, ShowsDeviceAs, ShowsDrafted, ShowsHolder, ShowsLocal}
+use Rattle.sn_sets.specs.Sets.{sealed_of}
+use Rattle.sn_shows.specs.Devices.{IsBase, ListsBase, OpensBase, ShowsDevice, ShowsDeviceAs, ShowsDrafted, ShowsHolder, ShowsLocal}
 use Rattle.sn_shows.specs.Laws.{HasAccount}
+use Rattle.sn_shows.specs.Sets.{OpensUnder}
 
 -- a draft passes for its own device and item
 
@@ -67,7 +69,7 @@ shows_alike rows s t name device accounts same h =
   where
     at : (found : Option Device) → ShowsDeviceAs rows s name found → ShowsDeviceAs rows t name found
     at None shown = record { none = shown.none; no_draft = λ uuid. same uuid ∙ shown.no_draft uuid }
-    at (Some d) shown = (shown.0, accounts d.account ∙ shown.1, holder_alike rows s t name d shown.0 same shown.2, shown.3)
+    at (Some d) shown = (shown.0, accounts d.account ∙ shown.1, holder_alike rows s t name d shown.0 same shown.2)
 
 -- between the rows of a device and those of a device that has an account
 
@@ -79,14 +81,21 @@ holder_of rows s name d a h has =
     let same : shown.0 ≡ a = cc in
     subst (λ (b : Account). ShowsHolder rows s name d b) same shown.2
 
-pub shows_of : (rows : Rows) (t : Ideal) (name : Bytes) (d : Device) (a : Account) → HasAccount t name d a → ShowsHolder rows t name d a → AsksNothing rows → ShowsDevice rows t name
-shows_of rows t name d a has h none =
-    subst (λ (found : Option Device). ShowsDeviceAs rows t name found) (sym has.device) (a, has.account, h, none)
+pub shows_of : (rows : Rows) (t : Ideal) (name : Bytes) (d : Device) (a : Account) → HasAccount t name d a → ShowsHolder rows t name d a → ShowsDevice rows t name
+shows_of rows t name d a has h =
+    subst (λ (found : Option Device). ShowsDeviceAs rows t name found) (sym has.device) (a, has.account, h)
 
-pub asks_nothing : (rows : Rows) (s : Ideal) (name : Bytes) (d : Device) (a : Account) → ShowsDevice rows s name → HasAccount s name d a → AsksNothing rows
-asks_nothing rows s name d a h has =
-    let shown : ShowsDeviceAs rows s name (Some d) = subst (λ (found : Option Device). ShowsDeviceAs rows s name found) has.device h in
-    shown.3
+-- what a row stands on that wasn't sealed anew opens under its version's own set
+
+pub opens_own : (a : Account) (number : ℕ) (item : LocalItem) (stamp : ℕ) → item.stale ≡ false → (h : IsBase a number item stamp)
+    → OpensUnder a.sets h.listed.number item.uuid (sealed_of h.listed.strings) h.listed.text
+opens_own a number item stamp fresh h =
+    subst (λ (b : Bool). OpensBase a.sets number h.listed.number item.uuid h.listed.strings h.listed.text b) fresh h.opens
+
+pub own_opens : (a : Account) (number : ℕ) (item : LocalItem) (stamp : ℕ) → item.stale ≡ false → (l : ListsBase a item stamp)
+    → OpensUnder a.sets l.number item.uuid (sealed_of l.strings) l.text → IsBase a number item stamp
+own_opens a number item stamp fresh l h =
+    record { listed = l; opens = subst (λ (b : Bool). OpensBase a.sets number l.number item.uuid l.strings l.text b) (sym fresh) h }
 
 -- a device that has a row has an account
 pub holder_from : (rows : Rows) (s : Ideal) (name : Bytes) (key : Key) (v : Value) → ShowsDevice rows s name → rows key ≡ Some v

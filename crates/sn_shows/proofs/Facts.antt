@@ -1,4 +1,8 @@
 -- The facts on which the crates above may stand, beside the laws.
+pub use Rattle.sn_shows.proofs.AdoptedDevice.{adopted_shows}
+pub use Rattle.sn_shows.proofs.AdoptedPosted.{reposted_shows, unposted_shows}
+pub use Rattle.sn_shows.proofs.AdoptedRetired.{retire_keeps, retired_shows, unpost_keeps}
+pub use Rattle.sn_shows.proofs.AdoptedSets.{one_number, one_opened, one_set}
 pub use Rattle.sn_shows.proofs.DeviceAnswered.{answered_shows}
 pub use Rattle.sn_shows.proofs.DeviceDrafts.{edited_shows, posted_shows, settled_shows}
 pub use Rattle.sn_shows.proofs.DeviceKeeps.{edit_keeps, join_keeps, post_keeps, settle_keeps}
@@ -6,7 +10,12 @@ pub use Rattle.sn_shows.proofs.DeviceLookups.{find_new, find_past_new}
 pub use Rattle.sn_shows.proofs.DeviceMoved.{forked_shows, renamed_shows}
 pub use Rattle.sn_shows.proofs.DeviceOwners.{joined_shows, tokens_show}
 pub use Rattle.sn_shows.proofs.DeviceRemoved.{none_left, removed_clean, removed_shows}
-pub use Rattle.sn_shows.proofs.DeviceStates.{holder_of, not_device}
+pub use Rattle.sn_shows.proofs.DeviceStates.{holder_of, not_device, opens_own, own_opens}
+pub use Rattle.sn_shows.proofs.RekeyedItems.{rewrapped_shows}
+pub use Rattle.sn_shows.proofs.RekeyedKeeps.{change_keeps, rewrap_keeps}
+pub use Rattle.sn_shows.proofs.RekeyedLast.{changed_last, rewrapped_last}
+pub use Rattle.sn_shows.proofs.RekeyedServer.{changed_server}
+pub use Rattle.sn_shows.proofs.RekeyedSets.{changed_shows}
 pub use Rattle.sn_shows.proofs.ServersAccept.{accepted_shows}
 pub use Rattle.sn_shows.proofs.ServersApart.{one_at}
 pub use Rattle.sn_shows.proofs.ServersKeep.{accept_keeps, register_keeps}

@@ -1,3 +1,9 @@
+pub mod AccountsExtend
+pub mod AdoptedDevice
+pub mod AdoptedItems
+pub mod AdoptedPosted
+pub mod AdoptedRetired
+pub mod AdoptedSets
 pub mod DeviceAnswered
 pub mod DeviceDrafts
 pub mod DeviceItems
@@ -8,8 +14,14 @@ pub mod DeviceOwners
 pub mod DeviceRemoved
 pub mod DeviceStates
 pub mod Facts
+pub mod RekeyedItems
+pub mod RekeyedKeeps
+pub mod RekeyedLast
+pub mod RekeyedServer
+pub mod RekeyedSets
 pub mod ServersAccept
 pub mod ServersApart
+pub mod ServersGrown
 pub mod ServersKeep
 pub mod ServersLast
 pub mod ServersLists

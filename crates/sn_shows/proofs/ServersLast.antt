@@ -105,7 +105,7 @@ one_changed w a (x ∷ xs) one =
     (λ (later : One (λ (y : Account). y ≡ a) xs).
     one_right (λ n. n ≡ w.stamp) (map (λ (v : Version). v.stamp) (if is_account a.identifier x then more w x else x).versions) (stamps_in (changed_where (is_account a.identifier) (more w) xs)) (one_changed w a xs later)) one)
 
-last_changed : (w : Version) (a : Account) (accounts : List Account) → Each (λ (b : Account). Each (λ (v : Version). v.stamp < w.stamp) b.versions) accounts
+pub last_changed : (w : Version) (a : Account) (accounts : List Account) → Each (λ (b : Account). Each (λ (v : Version). v.stamp < w.stamp) b.versions) accounts
     → One (λ (x : Account). x ≡ a) accounts → greatest 0 (stamps_in (changed_where (is_account a.identifier) (more w) accounts)) ≡ w.stamp
 last_changed w a accounts below one =
     greatest_top (stamps_in (changed_where (is_account a.identifier) (more w) accounts)) 0 w.stamp (omega arith)

@@ -1,4 +1,4 @@
--- Accounts by their numbers, and an item's first and last versions, in lists that grow.
+-- Accounts and sets by their numbers, and an item's first and last versions, in lists that grow.
 use Rattle.std.proofs.Common.{◌≡◌, ◌≢◌, ◌⊎◌, ◌<◌, ℕ, zero, suc, ◌+◌, List, [], ◌∷◌, ◌++◌, length, Option, Some, None, Bool, refl, sym, ap, ◌∙◌, inl, inr, ⊎_elim, arith, add-one}
 use Rattle.std.specs.Prelude.{cond, if◌then◌else◌, find, reverse, slice_get}
 use Rattle.std.specs.Option.{option_map, option_or}
@@ -8,23 +8,26 @@ use Rattle.std.proofs.lemmas.List.{reverse-append}
 use Rattle.std.proofs.lemmas.Option.{slice_get-map, slice_get_within}
 use Rattle.sn_laws.specs.declared.ideal.Version.{Version}
 use Rattle.sn_laws.specs.declared.ideal.Account.{Account}
+use Rattle.sn_laws.specs.Each.{One}
 use Rattle.sn_laws.specs.Lookups.{Bytes, is_of, last_of}
 use Rattle.sn_laws.specs.Moves.{changed_where}
 use Rattle.sn_laws.proofs.Facts.{is_false, same_text, text_same}
 use Rattle.sn_shows.specs.Servers.{account_at, first_of}
+use Rattle.sn_shows.specs.Sets.{set_at}
+use Rattle.sn_string.specs.declared.params.KeySet.{KeySet}
 
 -- a list with one element more
 
-get_front : (xs ys : List Account) (n : ℕ) (a : Account) → slice_get xs n ≡ Some a → slice_get (xs ++ ys) n ≡ Some a
+get_front : {A : Type 0} (xs ys : List A) (n : ℕ) (a : A) → slice_get xs n ≡ Some a → slice_get (xs ++ ys) n ≡ Some a
 get_front [] ys n a h = absurd (cc)
 get_front (x ∷ xs) ys zero a h = h
 get_front (x ∷ xs) ys (suc n) a h = get_front xs ys n a h
 
-get_end : (xs : List Account) (y : Account) → slice_get (xs ++ y ∷ []) (length xs) ≡ Some y
+get_end : {A : Type 0} (xs : List A) (y : A) → slice_get (xs ++ y ∷ []) (length xs) ≡ Some y
 get_end [] y = refl
 get_end (x ∷ xs) y = get_end xs y
 
-get_cases : (xs : List Account) (y : Account) (n : ℕ) (a : Account) → slice_get (xs ++ y ∷ []) n ≡ Some a
+get_cases : {A : Type 0} (xs : List A) (y : A) (n : ℕ) (a : A) → slice_get (xs ++ y ∷ []) n ≡ Some a
     → (slice_get xs n ≡ Some a) ⊎ ((n ≡ length xs) × (y ≡ a))
 get_cases [] y zero a h = inr (refl, cc)
 get_cases [] y (suc n) a h = absurd (cc)
@@ -49,6 +52,40 @@ account_cases accounts new (suc n) a h =
 pub number_within : (accounts : List Account) (number : ℕ) (a : Account) → account_at number accounts ≡ Some a → number < length accounts + 1
 number_within accounts zero a h = absurd (cc)
 number_within accounts (suc n) a h = let within : n < length accounts = slice_get_within accounts n a h in omega arith
+
+-- the sets of an account that gets one more
+
+pub set_before : (sets : List KeySet) (new : KeySet) (number : ℕ) (set : KeySet) → set_at number sets ≡ Some set
+    → set_at number (sets ++ new ∷ []) ≡ Some set
+set_before sets new zero set h = absurd (cc)
+set_before sets new (suc n) set h = get_front sets (new ∷ []) n set h
+
+pub set_last : (sets : List KeySet) (new : KeySet) → set_at (length sets + 1) (sets ++ new ∷ []) ≡ Some new
+set_last sets new = rw (add-one (length sets)) (get_end sets new)
+
+pub set_cases : (sets : List KeySet) (new : KeySet) (number : ℕ) (set : KeySet) → set_at number (sets ++ new ∷ []) ≡ Some set
+    → (set_at number sets ≡ Some set) ⊎ ((number ≡ length sets + 1) × (new ≡ set))
+set_cases sets new zero set h = absurd (cc)
+set_cases sets new (suc n) set h =
+    ⊎_elim (λ e. inl e) (λ e. inr (ap suc e.0 ∙ sym (add-one (length sets)), e.1)) (get_cases sets new n set h)
+
+-- no set has the number that comes next
+pub set_within : (sets : List KeySet) (number : ℕ) (set : KeySet) → set_at number sets ≡ Some set → number < length sets + 1
+set_within sets zero set h = absurd (cc)
+set_within sets (suc n) set h = let within : n < length sets = slice_get_within sets n set h in omega arith
+
+-- an account with one set more
+abbrev pub more_sets : KeySet → Account → Account
+more_sets set b = record b { sets = b.sets ++ set ∷ [] }
+
+-- an account that is one of the accounts has a number
+
+got_one : (accounts : List Account) (a : Account) → One (λ (x : Account). x ≡ a) accounts → (n : ℕ) × (slice_get accounts n ≡ Some a)
+got_one [] a one = absurd one
+got_one (x ∷ xs) a one = ⊎_elim (λ (e : x ≡ a). (zero, ap Some e)) (λ rest. let got = got_one xs a rest in (suc got.0, got.1)) one
+
+pub number_of : (accounts : List Account) (a : Account) → One (λ (x : Account). x ≡ a) accounts → (n : ℕ) × (account_at n accounts ≡ Some a)
+number_of accounts a one = let got = got_one accounts a one in (suc got.0, got.1)
 
 -- a list some of whose elements are changed
 

@@ -91,7 +91,7 @@ continues accounts new number a at =
     record {
       account = a;
       at = account_before accounts new number a at;
-      sets = refl;
+      sets = λ generation set e. e;
       items = λ uuid v last. record { version = v; last = last };
     }
 

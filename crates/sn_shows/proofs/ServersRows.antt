@@ -1,5 +1,5 @@
 -- What rows show of an account where they are the same, and why there is a row after a change.
-use Rattle.std.proofs.Common.{◌≡◌, ℕ, List, [], ◌∷◌, Option, Some, None, refl, ap, ◌∙◌, subst, inl, inr}
+use Rattle.std.proofs.Common.{◌≡◌, ℕ, List, [], ◌∷◌, Option, Some, None, refl, ◌∙◌, subst, inl, inr}
 use Rattle.std.specs.Prelude.{IsSome}
 use Rattle.std.proofs.lemmas.Bool.{cases_Bool}
 use Rattle.sn_laws.specs.declared.ideal.Account.{Account}
@@ -70,11 +70,11 @@ pub record HasSuch (a : Account) (uuid : Bytes) : Type 0 where
   pub version : Version
   pub last : last_of uuid a.versions ≡ Some version
 
--- each account is still there, with its sets, and with a last version of each item that had one
+-- each account is still there, with its sets under their numbers, and with a last version of each item that had one
 pub record Continues (accounts now : List Account) (number : ℕ) (a : Account) : Type 0 where
   pub account : Account
   pub at : account_at number now ≡ Some account
-  pub sets : account.sets ≡ a.sets
+  pub sets : (generation : ℕ) (set : KeySet) → set_at generation a.sets ≡ Some set → set_at generation account.sets ≡ Some set
   pub items : (uuid : Bytes) (v : Version) → last_of uuid a.versions ≡ Some v → HasSuch account uuid
 
 some_there : {A : Type 0} (o : Option A) → IsSome o → (x : A) × (o ≡ Some x)
@@ -95,12 +95,7 @@ cause_continues accounts now each (key.Account number) h =
     is_there (account_at number now) next.account next.at
 cause_continues accounts now each (key.Generation number generation) h =
     let next = each number h.account h.at in
-    record {
-      account = next.account;
-      at = next.at;
-      set = h.set;
-      set_is = ap (λ (sets : List KeySet). set_at generation sets) next.sets ∙ h.set_is;
-    }
+    record { account = next.account; at = next.at; set = h.set; set_is = next.sets generation h.set h.set_is }
 cause_continues accounts now each (key.Item uuid) h =
     let next = each h.number h.account h.at in
     let such = next.items uuid h.version h.last in

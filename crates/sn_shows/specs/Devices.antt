@@ -1,5 +1,5 @@
 -- What a device's rows show of the ideal state: its account, the sets that it holds, its drafts and what they stand on, and nothing else.
-use Rattle.std.specs.Prelude.{◌≡◌, ℕ, List, [], ◌∷◌, Option, Some, None, IsSome}
+use Rattle.std.specs.Prelude.{◌≡◌, ℕ, ◌<◌, Bool, true, false, List, [], ◌∷◌, Option, Some, None, IsSome}
 use Rattle.sn_laws.specs.Each.{One}
 use Rattle.sn_laws.specs.Lookups.{Bytes, account_named, device_named, draft_at, greatest}
 use Rattle.sn_laws.specs.declared.ideal.Account.{Account}
@@ -20,7 +20,7 @@ use Rattle.sn_rows.specs.declared.device_rows.OwnerRow.{OwnerRow}
 use Rattle.sn_rows.specs.declared.device_rows.SetRow.{SetRow}
 use Rattle.sn_rows.specs.declared.key.Key.{Key}
 use Rattle.sn_rows.specs.declared.key.Key.TheVariants as key
-use Rattle.sn_rows.specs.declared.key.Slot.TheVariants.{Present, Older, Asked}
+use Rattle.sn_rows.specs.declared.key.Slot.TheVariants.{Present, Older}
 use Rattle.sn_rows.specs.declared.value.Value.{Value}
 use Rattle.sn_rows.specs.declared.value.Value.TheVariants as value
 use Rattle.sn_sets.specs.Sets.{sealed_of}
@@ -68,19 +68,25 @@ pub record ListsBase (a : Account) (item : LocalItem) (stamp : ℕ) : Type 0 whe
   pub number : ℕ
   pub live : version.body ≡ Under text number
 
--- and these open to the version's content under its set
-pub record IsBase (a : Account) (item : LocalItem) (stamp : ℕ) : Type 0 where
-  pub listed : ListsBase a item stamp
-  pub opens : OpensUnder a.sets listed.number item.uuid (sealed_of listed.strings) listed.text
+-- strings of a row open to its version's content: under the version's set; of a row that was sealed anew and not yet sent, under the set of this number,
+-- which is the greatest that the device holds and a later one than the version's
+abbrev pub OpensBase : (sets : List KeySet) (number under : ℕ) (uuid : Bytes) (strings : RowStrings) (text : Bytes) (stale : Bool) → Type 0
+OpensBase sets number under uuid strings text false = OpensUnder sets under uuid (sealed_of strings) text
+OpensBase sets number under uuid strings text true = (under < number) × OpensUnder sets number uuid (sealed_of strings) text
 
-abbrev pub ShowsBase : Account → LocalItem → Option ℕ → Type 0
-ShowsBase a item None = (item.body ≡ None) × IsSome item.latest
-ShowsBase a item (Some stamp) = IsBase a item stamp
+-- a row stands on the version of this stamp
+pub record IsBase (a : Account) (number : ℕ) (item : LocalItem) (stamp : ℕ) : Type 0 where
+  pub listed : ListsBase a item stamp
+  pub opens : OpensBase a.sets number listed.number item.uuid listed.strings listed.text item.stale
+
+abbrev pub ShowsBase : Account → ℕ → LocalItem → Option ℕ → Type 0
+ShowsBase a number item None = (item.body ≡ None) × IsSome item.latest
+ShowsBase a number item (Some stamp) = IsBase a number item stamp
 
 -- a row of an item: its draft, or none, and what it stands on, or nothing
 pub record ShowsLocal (s : Ideal) (name : Bytes) (number : ℕ) (a : Account) (item : LocalItem) : Type 0 where
   pub draft : ShowsDrafted a.sets number item (draft_at s name item.uuid)
-  pub base : ShowsBase a item item.base
+  pub base : ShowsBase a number item item.base
 
 -- the row of a set is the account's set of this number
 pub record IsSetRow (a : Account) (number : ℕ) (row : SetRow) : Type 0 where
@@ -93,7 +99,7 @@ pub record IsSetRow (a : Account) (number : ℕ) (row : SetRow) : Type 0 where
   pub mk : row.mk ≡ set.mk
   pub ak : row.ak ≡ set.ak
 
--- the sets in the first two slots are those held: the greatest is present, one before it is the older one
+-- the sets in the first two slots are those held: the greatest is present, one before it is the older one. Of a set that is asked for nothing is shown
 abbrev pub ShowsOlder : Account → Option Value → List ℕ → Type 0
 ShowsOlder a found (older ∷ present ∷ []) = (row : SetRow) × (found ≡ Some (value.Set row)) × IsSetRow a older row
 ShowsOlder a found held = found ≡ None
@@ -138,10 +144,6 @@ pub record ShowsHolder (rows : Rows) (s : Ideal) (name : Bytes) (d : Device) (a 
   pub drafts : (uuid : Bytes) (draft : Draft) → draft_at s name uuid ≡ Some draft → HasRow rows uuid
   pub no_other : (key : Key) → IsSome (rows key) → IsDeviceKey key
 
--- no set is asked for
-abbrev pub AsksNothing : Rows → Type 0
-AsksNothing rows = rows (key.Set Asked) ≡ None
-
 -- a device without an account has no rows and no drafts
 pub record ShowsNothing (rows : Rows) (s : Ideal) (name : Bytes) : Type 0 where
   pub none : (key : Key) → rows key ≡ None
@@ -149,7 +151,7 @@ pub record ShowsNothing (rows : Rows) (s : Ideal) (name : Bytes) : Type 0 where
 
 abbrev pub ShowsDeviceAs : Rows → Ideal → Bytes → Option Device → Type 0
 ShowsDeviceAs rows s name None = ShowsNothing rows s name
-ShowsDeviceAs rows s name (Some d) = (a : Account) × (account_named s d.account ≡ Some a) × ShowsHolder rows s name d a × AsksNothing rows
+ShowsDeviceAs rows s name (Some d) = (a : Account) × (account_named s d.account ≡ Some a) × ShowsHolder rows s name d a
 
 -- a device's rows
 abbrev pub ShowsDevice : Rows → Ideal → Bytes → Type 0

@@ -176,6 +176,7 @@ pub record PutsPosted (change : Change) (local : ℕ) (item : LocalItem) : Type 
   pub kind_is : sent.kind ≡ item.kind
   pub base : sent.base ≡ item.base
   pub same_body : sent.body ≡ item.body
+  pub stale : sent.stale ≡ item.stale
   pub latest : sent.latest ≡ item.latest
   pub posted : sent.posted ≡ item.latest
 
@@ -186,19 +187,19 @@ PostedShows = (rows : Rows) (s : Ideal) (name : Bytes) (local : ℕ) (item : Loc
     → ShowsDevice (rows_after rows (change ∷ [])) (after s (Post name item.uuid)) name
 
 -- the change puts a row of an item without a draft, which stands on the version of this stamp
-pub record PutsSettled (change : Change) (local : ℕ) (a : Account) (uuid : Bytes) (stamp : ℕ) : Type 0 where
+pub record PutsSettled (change : Change) (local : ℕ) (a : Account) (number : ℕ) (uuid : Bytes) (stamp : ℕ) : Type 0 where
   pub item : LocalItem
   pub puts : Puts change (key.Local local) (value.Local item)
   pub uuid_is : item.uuid ≡ uuid
   pub base : item.base ≡ Some stamp
-  pub on : IsBase a item stamp
+  pub on : IsBase a number item stamp
   pub latest : item.latest ≡ None
   pub posted : item.posted ≡ None
 
 abbrev pub SettledShows : Type 0
 SettledShows = (rows : Rows) (s : Ideal) (name : Bytes) (local : ℕ) (item : LocalItem) (stamp : ℕ) (d : Device) (a : Account) (change : Change)
     → ShowsDevice rows s name → HasAccount s name d a → rows (key.Local local) ≡ Some (value.Local item)
-    → PutsSettled change local a item.uuid stamp
+    → PutsSettled change local a (greatest 0 d.held) item.uuid stamp
     → ShowsDevice (rows_after rows (change ∷ [])) (after s (Settle name item.uuid)) name
 
 -- a device's moves leave what the rows of every other device show

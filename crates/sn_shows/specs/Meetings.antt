@@ -19,20 +19,20 @@ use Rattle.sn_shows.specs.Laws.{HasAccount, IsNewAt, PutsItem}
 -- ---- what was sent is answered
 
 -- the change puts a row of an item again with its draft, of which nothing is sent any more, and which stands on the version of this stamp
-pub record PutsAnswered (change : Change) (local : ℕ) (a : Account) (item : LocalItem) (stamp : ℕ) : Type 0 where
+pub record PutsAnswered (change : Change) (local : ℕ) (a : Account) (number : ℕ) (item : LocalItem) (stamp : ℕ) : Type 0 where
   pub again : LocalItem
   pub puts : Puts change (key.Local local) (value.Local again)
   pub uuid_is : again.uuid ≡ item.uuid
   pub kind_is : again.kind ≡ item.kind
   pub base : again.base ≡ Some stamp
-  pub on : IsBase a again stamp
+  pub on : IsBase a number again stamp
   pub latest : again.latest ≡ item.latest
   pub posted : again.posted ≡ None
 
 abbrev pub AnsweredShows : Type 0
 AnsweredShows = (rows : Rows) (s : Ideal) (name : Bytes) (local : ℕ) (item : LocalItem) (stamp : ℕ) (d : Device) (a : Account) (change : Change)
     → ShowsDevice rows s name → HasAccount s name d a → rows (key.Local local) ≡ Some (value.Local item) → item.latest ≢ None
-    → PutsAnswered change local a item stamp
+    → PutsAnswered change local a (greatest 0 d.held) item stamp
     → ShowsDevice (rows_after rows (change ∷ [])) (after s (SettlePosted name item.uuid stamp)) name
 
 -- ---- a draft goes, with its row
