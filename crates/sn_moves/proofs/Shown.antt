@@ -47,7 +47,7 @@ module _ (law : DeletionsStay) (rows : Rows) (s : Ideal) (reached : Reached s) (
 
   of_device : (found : Option Device) → ShowsDeviceAs rows s name found → KeepsDeletions rows
   of_device None shown n l has sent = let none : rows (key.Local n) ≡ None = shown.none (key.Local n) in absurd (cc)
-  of_device (Some d) (a, named, holder, asks) n l has sent =
+  of_device (Some d) (a, named, holder) n l has sent =
       of_draft a.sets (greatest 0 d.held) l sent (draft_at s name l.uuid) refl (holder.locals n l has).draft
 
   -- where a deletion was sent, the draft is one

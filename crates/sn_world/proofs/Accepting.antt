@@ -83,7 +83,7 @@ module _ (p : Progress) (device : Rows) (s : Ideal) (name : Bytes) (n now : ℕ)
   uuid_is = (draft_is name i.uuid sent.draft (found_passes _ s.drafts sent.draft at_item).0).1
 
   -- the version that the base names is the last
-  on_last_of : (base : Option ℕ) → SaysBase base i.updated_at → ShowsBase a x.local base → IsOnLast s a i.uuid base
+  on_last_of : (base : Option ℕ) → SaysBase base i.updated_at → ShowsBase a g x.local base → IsOnLast s a i.uuid base
   on_last_of None knows shows =
       nowhere p.rows s.accounts i.uuid v.accounts
       (⊎_elim (λ (absent : IsAbsent p.rows i.uuid). absent)

@@ -39,12 +39,13 @@ use Rattle.sn_world.proofs.AskLemmas.{Behind, answered_stands, asks_goes, holds_
 use Rattle.sn_world.proofs.CallLemmas.{Goes, Stands, once_goes, refuses_goes}
 use Rattle.sn_world.proofs.DeviceRows.{one_owner}
 use Rattle.sn_world.proofs.PresentSets.{told_is_present}
+use Rattle.sn_world.proofs.SignedIn.{present_renews}
 use Rattle.sn_world.proofs.ShowsLemmas.{holder_from}
 use Rattle.sn_world.proofs.Tokens.{apart_of, named_identifier, one_account, there_is}
 use Rattle.sn_world.specs.Calls.{AreServed, Fate, GoesCall, IsOnlyOf, RegistersGo, SignInsGo}
 use Rattle.sn_world.specs.Committing.{MayBegin, MayCommit}
 use Rattle.sn_world.specs.Holds.{Holds, TokensDiffer}
-use Rattle.sn_world.specs.Laws.{IsOnlySet, Keeps, RegisteredBegins, SaysSome, SignedInBegins, SignedInRenews}
+use Rattle.sn_world.specs.Laws.{IsOnlySet, Keeps, RegisteredBegins, SaysSome, SignedInBegins}
 use Rattle.sn_world.specs.Making.{MakesOf}
 use Rattle.sn_world.specs.Serving.{Serves, registers_in}
 use Rattle.sn_world.specs.World.{Made, World}
@@ -55,7 +56,6 @@ pub record AccountLaws : Type 0 where
   pub says : SaysSome
   pub registered : RegisteredBegins
   pub begins : SignedInBegins
-  pub renews : SignedInRenews
 
 -- ---- what the answers tell
 
@@ -185,8 +185,11 @@ module _ (laws : AccountLaws) (secret : Bytes) (differ : TokensDiffer secret) (n
         let here : Stands secret name v t v.server rows = record { holds = k.holds; server_is = refl; device_is = k.device_is } in
         let own = owned_by secret v t name rows owner identifier here holds.owned is in
         asks_account (λ uuid token. renews token) acts fates halt
-        (λ now changes token account uuid rule changed. laws.renews secret v t identifier set.pw now changes token account uuid name own.device k.holds
-        (subst (λ (x : Rows). Rule x signing now changes (answer.Account token account uuid)) (sym k.server_is) rule) own.named own.own)
+        (λ now changes token account uuid rule changed. present_renews laws.apart secret v t identifier set.pw now changes token account uuid name own.device
+        owner sets k.holds (subst (λ (x : Rows). Rule x signing now changes (answer.Account token account uuid)) (sym k.server_is) rule) own.named own.own
+        (subst (λ (r : Rows). HasSets r owner sets) (sym k.device_is) holds)
+        (subst (λ (p : Params). (n : ℕ) → IsNamed v.server identifier n → IsPresent v.server n p) (ap (λ (z : KeySet). z.params) same)
+        (subst (λ (x : Rows). (n : ℕ) → IsNamed x identifier n → IsPresent x n set.params) (sym k.server_is) told)))
         asks over
     again_goes sets owner acts fates halt holds is told (inr (inr (other, inl (older, refuses)))) over =
         refuses_goes laws.keeps laws.says secret differ name None v t server rows acts fates halt refusal.WrongPassword k refuses over

@@ -157,7 +157,7 @@ module _ (apart : AccountsApart) (rise : VersionsRise) (one_stamp : HasOneStamp)
   record Names (p : Item) (base : ℕ) : Type 0 where
     local : LocalItem
     named : p.uuid ≡ local.uuid
-    stands : IsBase a local base
+    stands : IsBase a (greatest 0 d.held) local base
 
   names_base : (p : Item) → IsPostedOf rows p → (base : ℕ) → NamesStamp p base → Names p base
   names_base p (number, local, stands, sends) base names = at local.base refl sends.0.replaces
@@ -168,8 +168,8 @@ module _ (apart : AccountsApart) (rise : VersionsRise) (one_stamp : HasOneStamp)
           let both : Some text ≡ Some names.0 = sym is ∙ names.2 in
           let it : text ≡ names.0 = cc in
           let same : b ≡ base = one_stamp names.0 b base (subst (λ (x : Bytes). IsStampText x b) it spelled) names.1 in
-          let on : IsBase a local b = subst (λ (o : Option ℕ). ShowsBase a local o) e (holder.locals number local stands).base in
-          record { local = local; named = sends.0.uuid_is; stands = subst (λ (k : ℕ). IsBase a local k) same on }
+          let on : IsBase a (greatest 0 d.held) local b = subst (λ (o : Option ℕ). ShowsBase a (greatest 0 d.held) local o) e (holder.locals number local stands).base in
+          record { local = local; named = sends.0.uuid_is; stands = subst (λ (k : ℕ). IsBase a (greatest 0 d.held) local k) same on }
 
   -- isn't after the one that the account has
   not_after : (p : Item) → IsPostedOf rows p → (base : ℕ) → NamesStamp p base → (stored : ItemRow) → HasItem w.server p.uuid stored → stored.account ≡ n

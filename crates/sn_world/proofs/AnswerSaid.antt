@@ -1,18 +1,15 @@
 -- An answer that a device applies says its moves.
-use Rattle.std.proofs.Common.{◌≡◌, ◌⊎◌, ◌<◌, ◌≤◌, ℕ, List, [], ◌∷◌, ◌++◌, length, map, Option, Some, None, Bool, true, false, refl, sym, ap, ◌∙◌, subst, inl, inr, arith}
+use Rattle.std.proofs.Common.{◌≡◌, ◌⊎◌, ℕ, List, [], ◌∷◌, ◌++◌, length, map, Option, Some, None, Bool, true, false, refl, sym, ap, ◌∙◌, subst, inl, inr}
 use Rattle.std.specs.List.{Contains}
 use Rattle.rand_chacha.specs.ChaCha.{ChaCha}
 use Rattle.sn_account.specs.Incoming.{IsOwnBody}
 use Rattle.sn_account.specs.Tells.{IsStored}
-use Rattle.sn_client.specs.States.{IsInSlot}
 use Rattle.sn_client.specs.Steps.{Applies, AppliesTo, Retires, start}
 use Rattle.sn_client.specs.Taking.{Meets, Progress, Takes, TakesAll, TakesOwn, TakesServer, Told, is_conflict, is_retrieved, is_saved, told_by}
 use Rattle.sn_conflict.specs.declared.meeting.Meeting.{Meeting}
 use Rattle.sn_conflict.specs.declared.meeting.Meeting.TheVariants as meeting
-use Rattle.sn_laws.proofs.Facts.{devices_all_hold, one_there}
 use Rattle.sn_laws.specs.Each.{Each}
-use Rattle.sn_laws.specs.Lookups.{Bytes, account_of, device_named, greatest}
-use Rattle.sn_laws.specs.Reached.{HoldsSets, IsOneOrTwo}
+use Rattle.sn_laws.specs.Lookups.{Bytes, greatest}
 use Rattle.sn_laws.specs.declared.ideal.Account.{Account}
 use Rattle.sn_laws.specs.declared.ideal.Device.{Device}
 use Rattle.sn_laws.specs.declared.ideal.Ideal.{Ideal}
@@ -20,12 +17,9 @@ use Rattle.sn_laws.specs.declared.moves.Move.{Move}
 use Rattle.sn_rows.specs.Table.{Rows}
 use Rattle.sn_rows.specs.declared.change.Change.{Change}
 use Rattle.sn_rows.specs.declared.device_rows.LocalItem.{LocalItem}
-use Rattle.sn_rows.specs.declared.key.Key.TheVariants as key
-use Rattle.sn_rows.specs.declared.key.Slot.TheVariants.{Older}
-use Rattle.sn_rows.specs.declared.value.Value.{Value}
 use Rattle.sn_sets.specs.declared.sets.Sets.{Sets}
 use Rattle.sn_shows.proofs.Facts.{holder_of}
-use Rattle.sn_shows.specs.Devices.{ShowsHolder, ShowsOlder}
+use Rattle.sn_shows.specs.Devices.{ShowsHolder}
 use Rattle.sn_shows.specs.Laws.{AccountsApart, HasAccount}
 use Rattle.sn_shows.specs.Sets.{set_at}
 use Rattle.sn_string.specs.declared.params.KeySet.{KeySet}
@@ -38,9 +32,9 @@ use Rattle.sn_sync.specs.declared.answer.Conflict.TheVariants as conflict
 use Rattle.sn_sync.specs.declared.item.Item.{Item}
 use Rattle.sn_sync.specs.declared.request.Request.{Request}
 use Rattle.sn_sync.specs.declared.request.Request.TheVariants as request
-use Rattle.sn_world.proofs.DeviceSets.{account_is}
 use Rattle.sn_world.proofs.Lists.{each_both, each_contained, each_map, of_each}
-use Rattle.sn_world.proofs.OneSets.{one_number, one_only}
+use Rattle.sn_world.proofs.OneHeld.{no_older}
+use Rattle.sn_world.proofs.OneSets.{holds_last}
 use Rattle.sn_world.proofs.OwnStrings.{sent_own}
 use Rattle.sn_world.proofs.Tokens.{device_account}
 use Rattle.sn_world.specs.Applying.{MayApply, SaysAllTold, SaysAnswer, SaysApplied, SaysForeign, SaysMeets, SaysServer, SaysTold, Tells}
@@ -104,21 +98,7 @@ all_said server n name sets saved (t ∷ ts) p q all (r, takes, rest) =
     let later = all_said server n name sets saved ts r q all.1 rest in
     (_, (r, first.0, later.0, first.1, later.1, refl))
 
--- ---- a device with one set
-
-older_none : (a : Account) (found : Option Value) (n : ℕ) (held : List ℕ) → n ≡ 1 → IsOneOrTwo n held → ShowsOlder a found held → found ≡ None
-older_none a found n [] one is h = h
-older_none a found n (g ∷ []) one is h = h
-older_none a found n (o ∷ g ∷ []) one is h =
-    let low : 1 ≤ o = is.0 in
-    let above : o < g = is.1 in
-    let within : g ≤ n = is.2 in
-    absurd (omega (arith, low, above, within, one))
-older_none a found n (o ∷ g ∷ m ∷ more) one is h = h
-
-slot_none : (rows : Rows) (identifier : Bytes) (found : Option KeySet) → rows (key.Set Older) ≡ None → IsInSlot rows identifier Older found → found ≡ None
-slot_none rows identifier None none h = refl
-slot_none rows identifier (Some set) none h = let some = h.1 in absurd (cc)
+-- ---- no set is retired
 
 none_retired : (rows : Rows) (cursor : Option Bytes) (found : Option KeySet) (changes : List Change) → found ≡ None → Retires rows cursor found changes → changes ≡ []
 none_retired rows cursor None changes none h = h
@@ -146,19 +126,8 @@ module _ (apart : AccountsApart) (secret : Bytes) (w : World) (s : Ideal) (h : H
   holder : ShowsHolder rows s name d a
   holder = holder_of rows s name d a (h.devices name) has
 
-  -- no older set is held
-  held : IsOneOrTwo (length a.sets) d.held
-  held =
-      let r = h.reached in
-      let holds : HoldsSets (account_of s name) d =
-      subst (λ (t : Ideal). HoldsSets (account_of t name) d) (sym r.is)
-      (devices_all_hold r.moves name d r.legal (subst (λ (t : Ideal). device_named t name ≡ Some d) r.is may.named)) in
-      subst (λ (b : Account). IsOneOrTwo (length b.sets) d.held) (one_there holds.account a (account_of s name) holds.has (account_is s name d a has)) holds.held
-
-  no_older : x.sets.older ≡ None
-  no_older =
-      slot_none rows x.owner.identifier x.sets.older
-      (older_none a (rows (key.Set Older)) (length a.sets) d.held (one_only s h.reached n a may.at) held holder.older) x.holds.before
+  none_older : x.sets.older ≡ None
+  none_older = no_older secret w s h name x.owner x.sets x.holds
 
   -- what was sent is of the present set
   own : (unsaved : Item) → Contains sent unsaved → IsOwnBody unsaved.uuid may.present unsaved.body
@@ -166,7 +135,7 @@ module _ (apart : AccountsApart) (secret : Bytes) (w : World) (s : Ideal) (h : H
       let row : IsPostedOf rows unsaved = of_each (IsPostedOf rows) sent may.posted unsaved among in
       let last : KeySet = holder.present.is.set in
       let g : set_at (greatest 0 d.held) a.sets ≡ Some last = holder.present.is.at in
-      let number : greatest 0 d.held ≡ length a.sets = one_number s h.reached n a may.at (greatest 0 d.held) last g in
+      let number : greatest 0 d.held ≡ length a.sets = holds_last s h.reached rows name d a has (h.devices name) in
       let params : may.present ≡ last.params = may.params_are last (subst (λ (k : ℕ). set_at k a.sets ≡ Some last) number g) in
       subst (λ (p : Params). IsOwnBody unsaved.uuid p unsaved.body) (sym params) (sent_own rows s name d a holder last g row.0 row.1 unsaved row.2 row.3)
 
@@ -196,14 +165,14 @@ module _ (apart : AccountsApart) (secret : Bytes) (w : World) (s : Ideal) (h : H
           owner = x.owner;
           sets = x.sets;
           holds = x.holds;
-          no_older = no_older;
+          no_older = none_older;
           words = words;
           end = x.end;
           told = all.1;
           counted = x.counted;
           counted_is = x.counted_is;
           changes_are = x.changes_are
-              ∙ ap (λ (later : List Change). x.end.changes ++ x.counted ∷ later) (none_retired x.end.rows cursor x.sets.older x.retired no_older x.retires);
+              ∙ ap (λ (later : List Change). x.end.changes ++ x.counted ∷ later) (none_retired x.end.rows cursor x.sets.older x.retired none_older x.retires);
         },
       )
 

@@ -7,7 +7,7 @@ use Rattle.rand_chacha.specs.ChaCha.{ChaCha}
 use Rattle.sn_account.specs.Sessions.{IsSession}
 use Rattle.sn_account.specs.Tells.{AreApart, IsStored}
 use Rattle.sn_client.specs.Laws.{AreStanding}
-use Rattle.sn_client.specs.States.{HasLocal, HasOwner, IsSound, OwnerColumns}
+use Rattle.sn_client.specs.States.{HasLocal, HasOwner, IsInSlot, IsSound, OwnerColumns}
 use Rattle.sn_client.specs.Steps.{Applies, start}
 use Rattle.sn_client.specs.Taking.{Progress, Told, is_conflict, is_retrieved, is_saved, told_by}
 use Rattle.sn_conflict.specs.Checks.{HasItsStrings, IsConflict, IsRetrieved, IsSaved}
@@ -25,19 +25,22 @@ use Rattle.sn_rows.specs.declared.change.Change.{Change}
 use Rattle.sn_rows.specs.declared.device_rows.LocalItem.{LocalItem}
 use Rattle.sn_rows.specs.declared.device_rows.OwnerRow.{OwnerRow}
 use Rattle.sn_rows.specs.declared.key.Key.TheVariants as key
+use Rattle.sn_rows.specs.declared.key.Slot.TheVariants.{Asked}
 use Rattle.sn_rows.specs.declared.value.Value.TheVariants as value
 use Rattle.sn_shows.proofs.Facts.{holder_of}
 use Rattle.sn_shows.specs.Laws.{HasAccount, TokensShow}
+use Rattle.sn_string.specs.declared.params.KeySet.{KeySet}
 use Rattle.sn_sync.specs.Versions.{item_of, uuids}
 use Rattle.sn_sync.specs.declared.answer.Conflict.{Conflict}
 use Rattle.sn_sync.specs.declared.answer.Conflict.TheVariants as conflict
 use Rattle.sn_sync.specs.declared.item.Item.{Item}
-use Rattle.sn_world.proofs.DeviceRows.{local_past, one_local, one_owner, posted_same, unstale_same}
+use Rattle.sn_world.proofs.DeviceRows.{local_past, one_local, one_owner, posted_same, unasked_owner, unstale_same}
 use Rattle.sn_world.proofs.DeviceSets.{identifier_of}
 use Rattle.sn_world.proofs.Frames.{DeviceFrame, HasPulled, device_kept, live_kept}
 use Rattle.sn_laws.proofs.Facts.{each_back, each_front}
 use Rattle.sn_world.proofs.AppliedPulled.{pulled_up, token_some}
 use Rattle.sn_world.proofs.Lists.{each_apart, each_both, each_contained, each_map, each_right, each_unmap, of_each}
+use Rattle.sn_world.proofs.PresentSets.{unasked}
 use Rattle.sn_world.proofs.PulledAll.{Keeps, MetAt, all_pulled}
 use Rattle.sn_world.proofs.Pulls.{stays_on, stays_same}
 use Rattle.sn_world.specs.Pulled.{PulledAt, PulledTo}
@@ -311,6 +314,8 @@ module _ (laws : TakingLaws) (tokens_law : TokensShow) (secret : Bytes) (w next 
     shows_others = took.others;
     sound = subst (λ (r : Rows). IsSound r) after_is sound;
     unstale = unstale_same mid (rows_after mid (says.counted ∷ [])) (local_past mid says.counted (value.Owner new) says.counted_is.puts_it) took.along.unstale;
+    unasked = unasked_owner mid says.counted says.counted_is.puts_it.key_is
+        (subst (λ (o : Option KeySet). IsInSlot mid says.owner.identifier Asked o) (unasked secret w s name h says.owner says.sets says.holds) took.along.holds.wanted);
     numbers = took.along.numbers;
     own_token = token_after;
     sync_tokens = tokens_after;

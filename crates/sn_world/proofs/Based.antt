@@ -16,6 +16,7 @@ use Rattle.sn_rows.specs.declared.body.RowStrings.{RowStrings}
 use Rattle.sn_rows.specs.declared.change.Change.{Change}
 use Rattle.sn_rows.specs.declared.server_rows.ItemRow.{ItemRow}
 use Rattle.sn_sets.specs.Sets.{OpensOlder, sealed_of}
+use Rattle.sn_shows.proofs.Facts.{own_opens}
 use Rattle.sn_shows.specs.Devices.{IsBase}
 use Rattle.sn_shows.specs.Servers.{ShowsAccounts, ShowsStrings, account_at}
 use Rattle.sn_shows.specs.Sets.{OpensUnder}
@@ -67,17 +68,17 @@ pub takes_fresh : (change : Change) (number : ℕ) (i : Item) (latest : Option R
 takes_fresh change number i latest p = ap (λ (c : Columns). c.stale) p.puts.columns_are ∙ (kept_so change number i latest p).1
 
 -- the row stands on this version
-pub record Based (a : Account) (change : Change) (number : ℕ) (i : Item) (latest : Option RowBody) (p : TakesLast change number i latest) (v : Version) : Type 0 where
+pub record Based (a : Account) (g : ℕ) (change : Change) (number : ℕ) (i : Item) (latest : Option RowBody) (p : TakesLast change number i latest) (v : Version) : Type 0 where
   pub uuid_is : p.puts.local.uuid ≡ i.uuid
   pub base_is : p.puts.local.base ≡ Some p.stands_on.stamp
-  pub on : IsBase a p.puts.local p.stands_on.stamp
+  pub on : IsBase a g p.puts.local p.stands_on.stamp
   pub stamp_is : v.stamp ≡ p.stands_on.stamp
   pub live : (text : Bytes) × (k : ℕ) × (v.body ≡ Under text k)
 
-pub based_on : HasOneStamp → (server : Rows) (accounts : List Account) (n : ℕ) (a : Account) (i : Item) (shows : ShowsAccounts server accounts)
+pub based_on : HasOneStamp → (server : Rows) (accounts : List Account) (n : ℕ) (a : Account) (g : ℕ) (i : Item) (shows : ShowsAccounts server accounts)
     (at : account_at n accounts ≡ Some a) (stored : IsStored server n i) (change : Change) (number : ℕ) (latest : Option RowBody) (p : TakesLast change number i latest)
-    → Based a change number i latest p (its_last server accounts n a i.uuid stored.0 shows at stored.1 stored.2).0
-based_on one_stamp server accounts n a i shows at stored change number latest p =
+    → Based a g change number i latest p (its_last server accounts n a i.uuid stored.0 shows at stored.1 stored.2).0
+based_on one_stamp server accounts n a g i shows at stored change number latest p =
     of (its_last server accounts n a i.uuid stored.0 shows at stored.1 stored.2)
   where
     row : ItemRow
@@ -101,30 +102,29 @@ based_on one_stamp server accounts n a i shows at stored change number latest p 
         one_stamp p.stands_on.stamped.0 row.updated p.stands_on.stamp (subst (λ (t : Bytes). IsStampText t row.updated) text stored.3.spelled) p.stands_on.stamped.1
 
     of : (version : (v : Version) × (last_of i.uuid a.versions ≡ Some v) × ShowsStrings a.sets i.uuid row v.body × (row.updated ≡ v.stamp) × (row.kind ≡ v.kind))
-        → Based a change number i latest p version.0
+        → Based a g change number i latest p version.0
     of version =
         let live = live_version a.sets i.uuid row version.0.body version.2 parts.0 in
         let among = last_among i.uuid a.versions version.0 version.1 in
         record {
           uuid_is = uuid_is;
           base_is = ap (λ (c : Columns). c.base) p.puts.columns_are ∙ p.stands_on.base_is;
-          on = record {
-            listed = record {
-              version = version.0;
-              among = among.0;
-              item_is = among.1 ∙ sym uuid_is;
-              kind_is = sym version.4 ∙ sym stored.3.kind ∙ sym (ap (λ (c : Columns). c.kind) p.puts.columns_are ∙ p.stands_on.kind_is);
-              stamp_is = sym version.3 ∙ stamp_is;
-              strings = strings;
-              body_is = ap (λ (c : Columns). c.body) p.puts.columns_are ∙ p.stands_on.body_is;
-              text = live.0;
-              number = live.1;
-              live = live.2;
-            };
-            opens = subst (λ (u : Bytes). OpensUnder a.sets live.1 u (sealed_of strings) live.0) (sym uuid_is)
-                (subst (λ (z : Sealed). OpensUnder a.sets live.1 i.uuid z live.0)
-                (sealed_same row.content row.enc p.content p.enc parts.1 parts.2 ∙ sym kept) live.3);
-          };
+          on = own_opens a g p.puts.local p.stands_on.stamp (takes_fresh change number i latest p)
+              (record {
+                version = version.0;
+                among = among.0;
+                item_is = among.1 ∙ sym uuid_is;
+                kind_is = sym version.4 ∙ sym stored.3.kind ∙ sym (ap (λ (c : Columns). c.kind) p.puts.columns_are ∙ p.stands_on.kind_is);
+                stamp_is = sym version.3 ∙ stamp_is;
+                strings = strings;
+                body_is = ap (λ (c : Columns). c.body) p.puts.columns_are ∙ p.stands_on.body_is;
+                text = live.0;
+                number = live.1;
+                live = live.2;
+              })
+              (subst (λ (u : Bytes). OpensUnder a.sets live.1 u (sealed_of strings) live.0) (sym uuid_is)
+              (subst (λ (z : Sealed). OpensUnder a.sets live.1 i.uuid z live.0)
+              (sealed_same row.content row.enc p.content p.enc parts.1 parts.2 ∙ sym kept) live.3));
           stamp_is = sym version.3 ∙ stamp_is;
           live = (live.0, live.1, live.2);
         }

@@ -18,8 +18,8 @@ use Rattle.sn_sync.specs.declared.item.Item.{Item}
 use Rattle.sn_string.specs.declared.params.KeySet.{KeySet}
 use Rattle.sn_world.proofs.AnswerPage.{weigh_all}
 use Rattle.sn_world.proofs.Lists.{each_both, each_map, each_right}
-use Rattle.sn_world.proofs.RowSizes.{body_most, owner_size, put_size, size_of, sizes_append, sizes_cons, sizes_of}
-use Rattle.sn_world.proofs.TakenSizes.{Adds, adds_all, bounds, bounds_told}
+use Rattle.sn_world.proofs.RowSizes.{body_most, owner_size, put_size, retired_size, size_of, sizes_append, sizes_cons, sizes_of}
+use Rattle.sn_world.proofs.TakenSizes.{Adds, KeepsWeight, adds_all, bounds, bounds_told}
 use Rattle.sn_world.specs.Fitting.{FitsUuids}
 
 -- ---- what is posted
@@ -55,9 +55,16 @@ posted_fit rows chosen numbers posted have few unsent all =
 
 -- ---- an answer that is applied
 
-none_retired : (rows : Rows) (cursor : Option Bytes) (found : Option KeySet) (changes : List Change) → found ≡ None → Retires rows cursor found changes → changes ≡ []
-none_retired rows cursor None changes none h = h
-none_retired rows cursor (Some set) changes none h = absurd (cc)
+-- of a set that is retired the row goes
+few_retired : (rows : Rows) (cursor : Option Bytes) (found : Option KeySet) (changes : List Change) → Retires rows cursor found changes → sizes_of changes ≤ 100
+few_retired rows cursor None changes none = let same = ap sizes_of none in let empty : sizes_of [] ≡ 0 = refl in omega arith
+few_retired rows cursor (Some set) changes (inl (may, (change, gone, is))) =
+    let few = retired_size change gone in
+    let whole = sizes_cons change [] in
+    let same = ap sizes_of is in
+    let empty : sizes_of [] ≡ 0 = refl in
+    omega arith
+few_retired rows cursor (Some set) changes (inr (stays, none)) = let same = ap sizes_of none in let empty : sizes_of [] ≡ 0 = refl in omega arith
 
 checked : (sent saved : List Item) (conflicts : List Conflict) (retrieved : List Item) (cursor : Option Bytes) → Passes sent saved conflicts retrieved cursor
     → Each IsChecked (told_by saved conflicts retrieved)
@@ -71,7 +78,7 @@ checked sent saved conflicts retrieved cursor passes =
     (each_map is_retrieved IsChecked retrieved (each_right IsRetrieved HasItsStrings (λ before i right. right.strings) retrieved lists.retrieved_are)))
 
 module _ (rows : Rows) (words left : ChaCha) (sent : List Item) (conflicts : List Conflict) (cursor : Option Bytes) (retrieved saved : List Item) (token : Bytes)
-    (changes : List Change) (x : Applies rows words sent conflicts cursor retrieved saved token changes left) (none : x.sets.older ≡ None)
+    (changes : List Change) (x : Applies rows words sent conflicts cursor retrieved saved token changes left) (weight : KeepsWeight x.sets)
     (have : FitsUuids rows) where
   abbrev told : List Told
   told = told_by saved conflicts retrieved
@@ -79,22 +86,20 @@ module _ (rows : Rows) (words left : ChaCha) (sent : List Item) (conflicts : Lis
   abbrev own : OwnerColumns
   own = with_tokens x.end.next token cursor (owner_columns x.owner)
 
-  added : Adds (start rows x.owner words) x.end (bounds x.sets none told)
+  added : Adds (start rows x.owner words) x.end (bounds x.sets weight told)
   added =
-      adds_all x.sets none saved (start rows x.owner words) x.end told (checked sent saved conflicts retrieved cursor x.passes) have x.taken
+      adds_all x.sets weight saved (start rows x.owner words) x.end told (checked sent saved conflicts retrieved cursor x.passes) have x.taken
 
-  changes_are : changes ≡ added.made ++ x.counted ∷ []
-  changes_are =
-      x.changes_are ∙ ap (λ (later : List Change). x.end.changes ++ x.counted ∷ later) (none_retired x.end.rows cursor x.sets.older x.retired none x.retires)
-      ∙ ap (λ (xs : List Change). xs ++ x.counted ∷ []) added.changes
+  changes_are : changes ≡ added.made ++ x.counted ∷ x.retired
+  changes_are = x.changes_are ∙ ap (λ (xs : List Change). xs ++ x.counted ∷ x.retired) added.changes
 
   pub applied_fit : length x.owner.account ≡ 16 → length saved + length conflicts ≤ 150 → length retrieved ≤ 150 → weigh_all retrieved ≤ 4194304
       → IsBatch changes
-  applied_fit account few page weight =
-      let most = bounds_told x.sets none saved conflicts retrieved few page weight in
+  applied_fit account few page light =
+      let most = bounds_told x.sets weight saved conflicts retrieved few page light in
       let made = added.size in
       let counted = owner_size x.counted own x.counted_is account in
-      let one = sizes_cons x.counted [] in
-      let empty : sizes_of [] ≡ 0 = refl in
-      let whole = ap sizes_of changes_are ∙ sizes_append added.made (x.counted ∷ []) in
+      let one = sizes_cons x.counted x.retired in
+      let last = few_retired x.end.rows cursor x.sets.older x.retired x.retires in
+      let whole = ap sizes_of changes_are ∙ sizes_append added.made (x.counted ∷ x.retired) in
       omega arith

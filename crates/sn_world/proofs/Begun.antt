@@ -17,7 +17,7 @@ use Rattle.sn_rows.specs.Table.{Rows, rows_after}
 use Rattle.sn_rows.specs.declared.change.Change.{Change}
 use Rattle.sn_rows.specs.declared.device_rows.OwnerRow.{OwnerRow}
 use Rattle.sn_rows.specs.declared.key.Key.TheVariants as key
-use Rattle.sn_rows.specs.declared.key.Slot.TheVariants.{Present}
+use Rattle.sn_rows.specs.declared.key.Slot.TheVariants.{Present, Asked}
 use Rattle.sn_rows.specs.declared.value.Value.TheVariants as value
 use Rattle.sn_shows.proofs.Facts.{find_new, find_past_new, not_device}
 use Rattle.sn_shows.specs.Devices.{ShowsDevice, ShowsDeviceAs, ShowsNothing}
@@ -197,6 +197,9 @@ module _ (apart : AccountsApart) (law : JoinedShows) (keeps : JoinKeeps) (secret
     shows_others = λ at other off k. keeps at s name other identifier number off k;
     sound = sound;
     unstale = λ at local there. let nothing : rows (key.Local at) ≡ None = no_local at in absurd (cc);
+    unasked =
+        neither_put (w.devices name) x.owner x.present key.Owner (key.Set Present) (key.Set Asked) (value.Owner new) (value.Set x.keys) x.owner_is.puts_it x.present_is
+        (λ e. cc) (λ e. cc) ∙ fresh (key.Set Asked);
     numbers = numbers;
     own_token = token_after;
     pulls = (

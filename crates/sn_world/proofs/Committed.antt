@@ -74,17 +74,17 @@ posted_both sets number uuid None o h some e = some refl
 posted_both sets number uuid (Some b) None h some e = h
 posted_both sets number uuid (Some b) (Some p) h some e = cc
 
-base_live : (a : Account) (local : LocalItem) (base : Option ℕ) → ShowsBase a local base → (stamp : ℕ) → base ≡ Some stamp → HasLive a local.uuid local.kind stamp
-base_live a local None h stamp e = absurd (cc)
-base_live a local (Some base) h stamp e = let same : base ≡ stamp = cc in subst (λ (k : ℕ). HasLive a local.uuid local.kind k) same (has_live a local base h)
+base_live : (a : Account) (g : ℕ) (local : LocalItem) (base : Option ℕ) → ShowsBase a g local base → (stamp : ℕ) → base ≡ Some stamp → HasLive a local.uuid local.kind stamp
+base_live a g local None h stamp e = absurd (cc)
+base_live a g local (Some base) h stamp e = let same : base ≡ stamp = cc in subst (λ (k : ℕ). HasLive a local.uuid local.kind k) same (has_live a g local base h)
 
 nothing : IsSome {T = RowBody} None → ⊥
 nothing h = absurd (cc)
 
 -- a row without a draft stands on a version
-base_some : (a : Account) (local : LocalItem) (base : Option ℕ) → ShowsBase a local base → local.latest ≡ None → (stamp : ℕ) × (base ≡ Some stamp)
-base_some a local None h none = absurd (nothing (subst (λ (o : Option RowBody). IsSome o) none h.1))
-base_some a local (Some stamp) h none = (stamp, refl)
+base_some : (a : Account) (g : ℕ) (local : LocalItem) (base : Option ℕ) → ShowsBase a g local base → local.latest ≡ None → (stamp : ℕ) × (base ≡ Some stamp)
+base_some a g local None h none = absurd (nothing (subst (λ (o : Option RowBody). IsSome o) none h.1))
+base_some a g local (Some stamp) h none = (stamp, refl)
 
 -- an edit to a text is allowed
 text_allowed : (s : Ideal) (name : Bytes) (d : Device) (acc : Account) (local : LocalItem) (text : Bytes) → HasAccount s name d acc
@@ -95,7 +95,7 @@ text_allowed s name d acc local text has shown is some = record {
   has = account_is s name d acc has;
   short = is.0;
   object = is.1;
-  new = λ none stamp e. base_live acc local local.base shown.base stamp e;
+  new = λ none stamp e. base_live acc (greatest 0 d.held) local local.base shown.base stamp e;
   there = λ draft at. of draft (subst (λ (o : Option Draft). ShowsDrafted acc.sets (greatest 0 d.held) local o) at shown.draft);
 }
   where
@@ -114,8 +114,8 @@ deletion_allowed s name d acc local has shown known = record {
   has = account_is s name d acc has;
   new = λ none.
       let drafted : ShowsDrafted acc.sets (greatest 0 d.held) local None = subst (λ (o : Option Draft). ShowsDrafted acc.sets (greatest 0 d.held) local o) none shown.draft in
-      let base = base_some acc local local.base shown.base drafted.0 in
-      (base.0, base.1, base_live acc local local.base shown.base base.0 base.1);
+      let base = base_some acc (greatest 0 d.held) local local.base shown.base drafted.0 in
+      (base.0, base.1, base_live acc (greatest 0 d.held) local local.base shown.base base.0 base.1);
   there = λ draft at. of draft (subst (λ (o : Option Draft). ShowsDrafted acc.sets (greatest 0 d.held) local o) at shown.draft);
 }
   where

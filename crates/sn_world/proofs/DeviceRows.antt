@@ -14,6 +14,7 @@ use Rattle.sn_rows.specs.declared.device_rows.LocalItem.{LocalItem}
 use Rattle.sn_rows.specs.declared.device_rows.OwnerRow.{OwnerRow}
 use Rattle.sn_rows.specs.declared.key.Key.{Key}
 use Rattle.sn_rows.specs.declared.key.Key.TheVariants as key
+use Rattle.sn_rows.specs.declared.key.Slot.TheVariants.{Asked}
 use Rattle.sn_rows.specs.declared.value.Value.{Value}
 use Rattle.sn_rows.specs.declared.value.Value.TheVariants as value
 use Rattle.sn_sets.specs.Sets.{sealed_of}
@@ -22,7 +23,7 @@ use Rattle.sn_shows.specs.Sets.{OpensUnder}
 use Rattle.sn_string.specs.declared.params.KeySet.{KeySet}
 use Rattle.sn_sync.specs.declared.item.Item.{Item}
 use Rattle.sn_world.proofs.Frames.{KeepsPosted, SentAlike}
-use Rattle.sn_world.specs.Holds.{DeviceToken, IsTokenBelow, NoneStale, TokensBelow}
+use Rattle.sn_world.specs.Holds.{AsksNoSet, DeviceToken, IsTokenBelow, NoneStale, TokensBelow}
 use Rattle.sn_client.specs.Sending.{PutsColumns}
 use Rattle.sn_client.specs.States.{Columns, HasLocal, HasOwner, token_of}
 use Rattle.sn_client.specs.Taking.{new_columns}
@@ -153,6 +154,20 @@ unstale_removed rows change number gone h at local there = h at local (sym (remo
         let none : rows_after rows (change ∷ []) (key.Local at) ≡ None = ap (rows_after rows (change ∷ [])) (sym e) ∙ removed_here rows change (key.Local number) gone in
         let some : rows_after rows (change ∷ []) (key.Local at) ≡ Some (value.Local local) = there in
         cc
+
+-- ---- the set that is asked for
+
+pub unasked_past : (rows : Rows) (change : Change) (at : Key) → key_of change ≡ at → at ≢ key.Set Asked → AsksNoSet rows
+    → AsksNoSet (rows_after rows (change ∷ []))
+unasked_past rows change at of apart none = past_key rows change at (key.Set Asked) of apart ∙ none
+
+-- a change of an item's row leaves it, and so does a put of the device's own
+pub unasked_local : (rows : Rows) (change : Change) (number : ℕ) → key_of change ≡ key.Local number → AsksNoSet rows
+    → AsksNoSet (rows_after rows (change ∷ []))
+unasked_local rows change number of none = unasked_past rows change (key.Local number) of (λ e. cc) none
+
+pub unasked_owner : (rows : Rows) (change : Change) → key_of change ≡ key.Owner → AsksNoSet rows → AsksNoSet (rows_after rows (change ∷ []))
+unasked_owner rows change of none = unasked_past rows change key.Owner of (λ e. cc) none
 
 -- ---- a world with one device's rows changed
 

@@ -10,9 +10,10 @@ use Rattle.sn_laws.proofs.Facts.{allowed_to, one_there}
 use Rattle.sn_laws.specs.Lookups.{Bytes, draft_at, greatest, last_of}
 use Rattle.sn_laws.specs.Moves.{allows}
 use Rattle.sn_laws.specs.Reached.{DeletionsStay}
-use Rattle.sn_laws.specs.Relation.{IsContentOf, IsLive, IsPlain, IsSentAs, MeetsLast}
+use Rattle.sn_laws.specs.Relation.{IsContentOf, IsLive, IsPlain, IsSentAs, IsUnder, MeetsLast}
 use Rattle.sn_laws.specs.declared.ideal.Account.{Account}
 use Rattle.sn_laws.specs.declared.ideal.Body.{Body}
+use Rattle.sn_laws.specs.declared.ideal.Body.TheVariants.{Under}
 use Rattle.sn_laws.specs.declared.ideal.Content.{Content}
 use Rattle.sn_laws.specs.declared.ideal.Content.TheVariants as content
 use Rattle.sn_laws.specs.declared.ideal.Device.{Device}
@@ -28,6 +29,7 @@ use Rattle.sn_rows.specs.declared.body.RowStrings.{RowStrings}
 use Rattle.sn_rows.specs.declared.device_rows.LocalItem.{LocalItem}
 use Rattle.sn_rows.specs.declared.server_rows.ItemRow.{ItemRow}
 use Rattle.sn_sets.specs.Sets.{OpensHeld, sealed_of}
+use Rattle.sn_shows.proofs.Facts.{holder_of}
 use Rattle.sn_shows.specs.Devices.{ShowsContent, ShowsDraft, ShowsPosted}
 use Rattle.sn_shows.specs.Servers.{ShowsStrings}
 use Rattle.sn_shows.specs.Sets.{OpensUnder, set_at}
@@ -39,7 +41,7 @@ use Rattle.sn_sync.specs.declared.item.Body.{Body as Sent}
 use Rattle.sn_sync.specs.declared.item.Body.TheVariants as body
 use Rattle.sn_sync.specs.declared.item.Item.{Item}
 use Rattle.sn_world.proofs.Based.{given_gone, given_strings, gone_version, live_version, sealed_same, two}
-use Rattle.sn_world.proofs.DeviceSets.{account_is}
+use Rattle.sn_world.proofs.DeviceSets.{account_is, present_at}
 use Rattle.sn_world.proofs.Settling.{content_is, drafted, version}
 use Rattle.sn_world.specs.Holds.{Reached}
 use Rattle.sn_world.specs.Settling.{MeetsStored}
@@ -144,11 +146,32 @@ module _ (server device : Rows) (s : Ideal) (name : Bytes) (n number : ℕ) (a :
       row_gone row_body.Deleted h = tt
       row_gone (row_body.Sealed strings) h = absurd h
 
-  -- ---- where the account has no set but the present one
+  -- ---- the draft's text
 
-  module _ (only : (k : ℕ) (set : KeySet) → set_at k a.sets ≡ Some set → set ≡ x.sets.present) where
-    opened : (k : ℕ) (sealed : Sealed) (text : Bytes) → OpensUnder a.sets k i.uuid sealed text → OpensHeld x.sets i.uuid sealed text
-    opened k sealed text o = inl (subst (λ (z : KeySet). OpensItem sealed i.uuid z text) (only k o.set o.at) o.opens)
+  plain_is : (strings : RowStrings) (c : Content) → ShowsContent a.sets g i.uuid (row_body.Sealed strings) c
+      → (text : Bytes) × (c ≡ content.Plain text) × OpensUnder a.sets g i.uuid (sealed_of strings) text
+  plain_is strings (content.Plain text) h = (text, refl, h)
+  plain_is strings content.Deleted h = absurd h
+
+  -- a sealed draft is a text
+  pub text_of : (strings : RowStrings) → x.latest ≡ row_body.Sealed strings
+      → (text : Bytes) × (own.0.latest ≡ content.Plain text) × OpensUnder a.sets g i.uuid (sealed_of strings) text
+  text_of strings e = plain_is strings own.0.latest (subst (λ (b : RowBody). ShowsContent a.sets g i.uuid b own.0.latest) e own.3)
+
+  -- what is sealed under the greatest set that is held opens under the present one
+  opened : (sealed : Sealed) (text : Bytes) → OpensUnder a.sets g i.uuid sealed text → OpensHeld x.sets i.uuid sealed text
+  opened sealed text o =
+      let present : set_at g a.sets ≡ Some x.sets.present =
+      present_at device s name d a x.owner x.sets (holder_of device s name d a x.shows x.has) x.holds in
+      inl (subst (λ (z : KeySet). OpensItem sealed i.uuid z text) (one_there o.set x.sets.present (set_at g a.sets) o.at present) o.opens)
+
+  -- ---- where the version is under that set too
+
+  module _ (last_under : (v : Version) → last_of i.uuid a.versions ≡ Some v → (k : ℕ) (set : KeySet) → IsUnder k v.body → set_at k a.sets ≡ Some set → k ≡ g) where
+    under : (text : Bytes) (k : ℕ) → its.0.body ≡ Under text k → (sealed : Sealed) → OpensUnder a.sets k i.uuid sealed text → OpensHeld x.sets i.uuid sealed text
+    under text k is sealed o =
+        let number : k ≡ g = last_under its.0 its.1 k o.set (subst (λ (b : Body). IsUnder k b) (sym is) refl) o.at in
+        opened sealed text (subst (λ (m : ℕ). OpensUnder a.sets m i.uuid sealed text) number o)
 
     -- the version's content is the draft's
     content_of : (b : RowBody) (c : Content) (given : Sent) → i.body ≡ given → ShowsContent a.sets g i.uuid b c → IsContentOf local.kind c its.0.kind its.0.body
@@ -171,7 +194,7 @@ module _ (server device : Rows) (s : Ideal) (name : Bytes) (n number : ℕ) (a :
         let both : (local.kind ≡ its.0.kind) × (text ≡ live.0) = subst (λ (z : Body). IsContentOf local.kind (content.Plain text) its.0.kind z) live.2 is in (
           both.0 ∙ sym its.4 ∙ sym gives.kind,
           subst (λ (u : Bytes). SameStrings x.sets u (sealed_of strings) i.uuid (two c enc)) (sym x.stands.1)
-              (inr (text, opened g (sealed_of strings) text h, subst (λ (t : Bytes). OpensHeld x.sets i.uuid (two c enc) t) (sym both.1) (opened live.1 (two c enc) live.0 theirs))),
+              (inr (text, opened (sealed_of strings) text h, subst (λ (t : Bytes). OpensHeld x.sets i.uuid (two c enc) t) (sym both.1) (under live.0 live.1 live.2 (two c enc) theirs))),
         )
 
     not_latest : ¬ (HasContent x.sets local x.latest i) → ¬ (IsContentOf own.0.kind own.0.latest its.0.kind its.0.body)
@@ -208,16 +231,6 @@ module _ (server device : Rows) (s : Ideal) (name : Bytes) (n number : ℕ) (a :
         })
 
     -- ---- a content forks
-
-    plain_is : (strings : RowStrings) (c : Content) → ShowsContent a.sets g i.uuid (row_body.Sealed strings) c
-        → (text : Bytes) × (c ≡ content.Plain text) × OpensUnder a.sets g i.uuid (sealed_of strings) text
-    plain_is strings (content.Plain text) h = (text, refl, h)
-    plain_is strings content.Deleted h = absurd h
-
-    -- a sealed draft is a text
-    pub text_of : (strings : RowStrings) → x.latest ≡ row_body.Sealed strings
-        → (text : Bytes) × (own.0.latest ≡ content.Plain text) × OpensUnder a.sets g i.uuid (sealed_of strings) text
-    text_of strings e = plain_is strings own.0.latest (subst (λ (b : RowBody). ShowsContent a.sets g i.uuid b own.0.latest) e own.3)
 
     pub fork_legal : (strings : RowStrings) (other : Bytes) → x.latest ≡ row_body.Sealed strings → ¬ (IsKnown local i false) → ¬ (HasContent x.sets local x.latest i)
         → ¬ (PostedHasContent x.sets local i) → draft_at s name other ≡ None → IsTrue (allows s (Fork name i.uuid other))

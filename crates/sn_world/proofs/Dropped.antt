@@ -24,7 +24,7 @@ use Rattle.sn_shows.specs.Devices.{ShowsDraft, ShowsHolder, ShowsPosted}
 use Rattle.sn_shows.specs.Laws.{HasAccount, SettleKeeps}
 use Rattle.sn_shows.specs.Servers.{stamps_in}
 use Rattle.sn_string.specs.declared.params.KeySet.{KeySet}
-use Rattle.sn_world.proofs.DeviceRows.{sync_tokens_same, token_same, unstale_removed}
+use Rattle.sn_world.proofs.DeviceRows.{sync_tokens_same, token_same, unasked_local, unstale_removed}
 use Rattle.sn_world.proofs.DeviceSets.{account_is, row_draft}
 use Rattle.sn_world.proofs.DraftMoves.{numbers_kept}
 use Rattle.sn_world.proofs.Frames.{DeviceFrame, device_kept, live_kept}
@@ -108,6 +108,7 @@ module _ (keeps : SettleKeeps) (secret : Bytes) (w next : World) (s : Ideal) (h 
     shows_others = λ at other off k. keeps at s name other local.uuid off k;
     sound = sound;
     unstale = unstale_removed was change number gone (h.unstale name);
+    unasked = unasked_local was change number gone.key_is (h.unasked name);
     numbers = numbers_kept s later.drafts (λ other item e at some. draft_before s name local.uuid other item e at) h.numbers;
     own_token = λ e named. token_same secret was rows s.accounts e owner_past (h.own_tokens name e named);
     sync_tokens = sync_tokens_same was rows (greatest 0 (stamps_in s.accounts)) owner_past (h.sync_tokens name);

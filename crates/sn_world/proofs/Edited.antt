@@ -23,16 +23,14 @@ use Rattle.sn_rows.specs.declared.change.Change.{Change}
 use Rattle.sn_rows.specs.declared.device_rows.LocalItem.{LocalItem}
 use Rattle.sn_rows.specs.declared.key.Key.TheVariants as key
 use Rattle.sn_rows.specs.declared.value.Value.TheVariants as value
-use Rattle.sn_sets.specs.Sets.{sealed_of}
 use Rattle.sn_shows.proofs.Facts.{find_new, find_past_new, holder_of}
-use Rattle.sn_shows.specs.Devices.{IsBase, ListsBase, ShowsBase, ShowsContent, ShowsDevice, ShowsDrafted, ShowsHolder, ShowsLocal, ShowsPosted}
+use Rattle.sn_shows.specs.Devices.{IsBase, ListsBase, OpensBase, ShowsBase, ShowsContent, ShowsDevice, ShowsDrafted, ShowsHolder, ShowsLocal, ShowsPosted}
 use Rattle.sn_shows.specs.Laws.{HasAccount}
-use Rattle.sn_shows.specs.Sets.{OpensUnder}
 use Rattle.sn_shows.specs.Servers.{stamps_in}
-use Rattle.sn_world.proofs.DeviceRows.{one_local, owner_past, posted_put, sync_tokens_same, token_same, unstale_put}
+use Rattle.sn_world.proofs.DeviceRows.{one_local, owner_past, posted_put, sync_tokens_same, token_same, unasked_local, unstale_put}
 use Rattle.sn_world.proofs.Frames.{DeviceFrame, device_kept, live_kept}
 use Rattle.sn_world.proofs.Pulls.{alike_row, pulls_kept}
-use Rattle.sn_world.proofs.ShowsLemmas.{IsPut, asks_nothing, draft_is, draft_passes, find_changed, find_past_changed, holder_from, not_of_device, not_of_item, put_asks, put_holder, shows_alike, shows_of}
+use Rattle.sn_world.proofs.ShowsLemmas.{IsPut, draft_is, draft_passes, find_changed, find_past_changed, holder_from, not_of_device, not_of_item, put_holder, shows_alike, shows_of}
 use Rattle.sn_world.proofs.Steps.{reached_more}
 use Rattle.sn_world.specs.Holds.{Holds, NumbersOf}
 use Rattle.sn_world.specs.Laws.{KeptBy}
@@ -131,10 +129,10 @@ module _ (s : Ideal) (name uuid kind : Bytes) (base : Option ℕ) (latest : Cont
 -- ---- a row with another draft
 
 -- it stands on what it stood on
-base_again : (a : Account) (local new : LocalItem) (base : Option ℕ) (latest : RowBody) → new.uuid ≡ local.uuid → new.kind ≡ local.kind → new.body ≡ local.body
-    → new.latest ≡ Some latest → ShowsBase a local base → ShowsBase a new base
-base_again a local new None latest uuid kind same is h = (same ∙ h.0, subst (λ (o : Option RowBody). IsSome o) (sym is) refl)
-base_again a local new (Some stamp) latest uuid kind same is h =
+base_again : (a : Account) (g : ℕ) (local new : LocalItem) (base : Option ℕ) (latest : RowBody) → new.uuid ≡ local.uuid → new.kind ≡ local.kind
+    → new.body ≡ local.body → new.stale ≡ local.stale → new.latest ≡ Some latest → ShowsBase a g local base → ShowsBase a g new base
+base_again a g local new None latest uuid kind same stale is h = (same ∙ h.0, subst (λ (o : Option RowBody). IsSome o) (sym is) refl)
+base_again a g local new (Some stamp) latest uuid kind same stale is h =
     let l : ListsBase a local stamp = h.listed in
     record {
       listed = record {
@@ -149,7 +147,8 @@ base_again a local new (Some stamp) latest uuid kind same is h =
         number = l.number;
         live = l.live;
       };
-      opens = subst (λ (u : Bytes). OpensUnder a.sets l.number u (sealed_of l.strings) l.text) (sym uuid) h.opens;
+      opens = subst (λ (b : Bool). OpensBase a.sets g l.number new.uuid l.strings l.text b) (sym stale)
+          (subst (λ (u : Bytes). OpensBase a.sets g l.number u l.strings l.text local.stale) (sym uuid) h.opens);
     }
 
 one_live : (uuid kind : Bytes) (stamp : ℕ) (v : Version) (vs : List Version) → One (λ (x : Version). x ≡ v) vs → IsLiveAt uuid kind stamp v
@@ -159,8 +158,8 @@ one_live uuid kind stamp v (x ∷ vs) one is =
     ⊎_elim (λ (e : x ≡ v). inl (subst (λ (y : Version). IsLiveAt uuid kind stamp y) (sym e) is)) (λ rest. inr (one_live uuid kind stamp v vs rest is)) one
 
 -- what a row stands on is an undeleted version of its item and type
-pub has_live : (a : Account) (local : LocalItem) (stamp : ℕ) → IsBase a local stamp → HasLive a local.uuid local.kind stamp
-has_live a local stamp h =
+pub has_live : (a : Account) (g : ℕ) (local : LocalItem) (stamp : ℕ) → IsBase a g local stamp → HasLive a local.uuid local.kind stamp
+has_live a g local stamp h =
     let l : ListsBase a local stamp = h.listed in
     one_live local.uuid local.kind stamp l.version a.versions l.among
     (record { item = l.item_is; kind_is = l.kind_is; stamp_is = l.stamp_is; live = subst (λ (b : Body). IsLive b) (sym l.live) tt })
@@ -210,6 +209,9 @@ module _ (secret : Bytes) (w next : World) (s : Ideal) (h : Holds secret w s) (n
   body_is : new.body ≡ local.body
   body_is = ap (λ (c : Columns). c.body) puts.columns_are
 
+  stale_is : new.stale ≡ local.stale
+  stale_is = ap (λ (c : Columns). c.stale) puts.columns_are
+
   latest_is : new.latest ≡ Some latest
   latest_is = ap (λ (c : Columns). c.latest) puts.columns_are
 
@@ -254,8 +256,8 @@ module _ (secret : Bytes) (w next : World) (s : Ideal) (h : Holds secret w s) (n
       shown = record {
         draft = subst (λ (u : Bytes). ShowsDrafted a.sets (greatest 0 d.held) new (draft_at then name u)) (sym uuid_is)
             (new_drafted (draft_at s name local.uuid) refl shown.draft);
-        base = subst (λ (b : Option ℕ). ShowsBase a new b) (sym base_is)
-            (base_again a local new local.base latest uuid_is kind_is body_is latest_is shown.base);
+        base = subst (λ (b : Option ℕ). ShowsBase a (greatest 0 d.held) new b) (sym base_is)
+            (base_again a (greatest 0 d.held) local new local.base latest uuid_is kind_is body_is stale_is latest_is shown.base);
       };
       own = λ was e. ap (λ (l : LocalItem). l.uuid) (one_local was local (w.devices name (key.Local number)) e stands) ∙ sym uuid_is;
       apart = λ other it e differs same. differs (holder.once number other local it stands e (sym (same ∙ uuid_is)));
@@ -266,7 +268,6 @@ module _ (secret : Bytes) (w next : World) (s : Ideal) (h : Holds secret w s) (n
     shows =
         shows_of rows then name d a (record { device = has.device; account = has.account })
         (put_holder (w.devices name) s then name d a change number new is_put holder)
-        (put_asks (w.devices name) s then name d a change number new is_put (asks_nothing (w.devices name) s name d a (h.devices name) has))
 
     numbers : (other : Bytes) → NumbersOf then other
     numbers other e b of item draft at p is =
@@ -288,7 +289,8 @@ module _ (secret : Bytes) (w next : World) (s : Ideal) (h : Holds secret w s) (n
       shows = shows;
       shows_others = λ at other off k. shows_alike at s then other refl (λ identifier. refl) (off_device s name local.uuid local.kind local.base text other off) k;
       sound = sound;
-      unstale = unstale_put (w.devices name) change number new puts.puts (ap (λ (c : Columns). c.stale) puts.columns_are ∙ h.unstale name number local stands) (h.unstale name);
+      unstale = unstale_put (w.devices name) change number new puts.puts (stale_is ∙ h.unstale name number local stands) (h.unstale name);
+      unasked = unasked_local (w.devices name) change number puts.puts.key_is (h.unasked name);
       numbers = numbers;
       sync_tokens = sync_tokens_same (w.devices name) rows (greatest 0 (stamps_in s.accounts)) (owner_past (w.devices name) change number (value.Local new) puts.puts) (h.sync_tokens name);
       own_token = λ e named. token_same secret (w.devices name) rows s.accounts e (owner_past (w.devices name) change number (value.Local new) puts.puts) (h.own_tokens name e named);

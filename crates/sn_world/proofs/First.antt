@@ -19,6 +19,7 @@ holds_first fresh secret = record {
   devices = λ name. record { none = λ k. refl; no_draft = λ uuid. refl };
   sound = λ name. fresh.sound;
   unstale = λ name number local e. absurd (cc);
+  unasked = λ name. refl;
   numbers = λ name d a has. let none : None ≡ Some d = has.device in absurd (cc);
   own_tokens = λ name d named. absurd (cc);
   sync_tokens = λ name owner has. absurd (cc);

@@ -24,7 +24,7 @@ use Rattle.sn_sync.specs.Laws.{HasOneToken}
 use Rattle.sn_sync.specs.Tokens.{IsToken}
 use Rattle.sn_laws.specs.declared.ideal.Version.{Version}
 use Rattle.sn_world.specs.Pulled.{BasesPulled, PulledAt, PulledTo}
-use Rattle.sn_world.specs.Holds.{AreFew, DeviceToken, HasToken, Holds, HoldsSync, IsSync, IsTokenBelow, NoneStale, NumbersOf, Reached, TokensBelow}
+use Rattle.sn_world.specs.Holds.{AreFew, AsksNoSet, DeviceToken, HasToken, Holds, HoldsSync, IsSync, IsTokenBelow, NoneStale, NumbersOf, Reached, TokensBelow}
 use Rattle.sn_world.specs.Live.{KnownBelow, LiveItem, LiveItems}
 use Rattle.sn_client.specs.Sending.{SaysBase}
 use Rattle.sn_client.specs.States.{HasLocal, IsSound, token_of}
@@ -41,9 +41,9 @@ same_world secret next s server devices made server_is devices_are made_is h =
 
 -- ---- a commit of the server
 
--- the account of this number is there, with its identifier and its sets
+-- the account of this number is there, with its identifier; whatever sets it has
 abbrev pub StillAt : List Account → ℕ → Account → Type 0
-StillAt accounts n a = (b : Account) × (account_at n accounts ≡ Some b) × (b.identifier ≡ a.identifier) × (b.sets ≡ a.sets)
+StillAt accounts n a = (b : Account) × (account_at n accounts ≡ Some b) × (b.identifier ≡ a.identifier)
 
 -- a last version up to the greatest stamp was there, the last of its item in the account
 abbrev pub LastsBefore : List Account → List Account → Type 0
@@ -158,6 +158,7 @@ module _ (one_token : HasOneToken) (secret : Bytes) (w : World) (server : Rows) 
     devices = λ name. f.shown (w.devices name) name (h.devices name);
     sound = h.sound;
     unstale = h.unstale;
+    unasked = h.unasked;
     numbers = λ name. f.numbers (w.devices name) name (h.devices name) (h.numbers name);
     own_tokens = own_token;
     sync_tokens = λ name. tokens_later (w.devices name) (greatest 0 (stamps_in s.accounts)) (greatest 0 (stamps_in later.accounts)) f.last (h.sync_tokens name);
@@ -182,6 +183,7 @@ pub record DeviceFrame (secret : Bytes) (w : World) (rows : Rows) (s later : Ide
   pub shows_others : (at : Rows) (other : Bytes) → other ≢ name → ShowsDevice at s other → ShowsDevice at later other
   pub sound : IsSound rows
   pub unstale : NoneStale rows
+  pub unasked : AsksNoSet rows
   pub numbers : (other : Bytes) → NumbersOf later other
   pub sync_tokens : TokensBelow rows (greatest 0 (stamps_in s.accounts))
   pub pulls : HasPulled rows s.accounts (device_named later name)
@@ -254,6 +256,7 @@ module _ (secret : Bytes) (w next : World) (s later : Ideal) (name : Bytes) (cha
         devices = of_each (λ o r. ShowsDevice r later o) f.shows (λ o apart. f.shows_others (w.devices o) o apart (h.devices o));
         sound = of_each (λ o r. IsSound r) f.sound (λ o apart. h.sound o);
         unstale = of_each (λ o r. NoneStale r) f.unstale (λ o apart. h.unstale o);
+        unasked = of_each (λ o r. AsksNoSet r) f.unasked (λ o apart. h.unasked o);
         numbers = f.numbers;
         own_tokens = own_tokens;
         sync_tokens = λ other.

@@ -45,6 +45,7 @@ use Rattle.sn_world.proofs.DeviceRows.{one_owner}
 use Rattle.sn_world.proofs.Lists.{of_each}
 use Rattle.sn_world.proofs.OneHeld.{holder_at, no_older, present_session, stamp_below}
 use Rattle.sn_world.proofs.RoundLemmas.{RoundLaws}
+use Rattle.sn_world.proofs.TakenSizes.{kept_weight}
 use Rattle.sn_world.specs.Applying.{Tells}
 use Rattle.sn_world.specs.Fitting.{FitsUuids}
 use Rattle.sn_world.specs.Holds.{DeviceToken, Holds, TokensDiffer}
@@ -184,5 +185,5 @@ module _ (laws : RoundLaws) (rise : VersionsRise) (one_stamp : HasOneStamp) (sec
           → Applies ready words items conflicts cursor retrieved saved token applied left → IsBatch applied
       heard_fits words left applied have x =
           let none = no_older secret v t k.holds name x.owner x.sets (subst (λ (z : Rows). HasSets z x.owner x.sets) (sym k.device_is) x.holds) in
-          applied_fit ready words left items conflicts cursor retrieved saved token applied x none have (account_length x.owner x.holds.owned) few_told few_page
-          light_page
+          applied_fit ready words left items conflicts cursor retrieved saved token applied x (kept_weight x.sets none) have (account_length x.owner x.holds.owned)
+          few_told few_page light_page

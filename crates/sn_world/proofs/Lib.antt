@@ -1,5 +1,6 @@
 pub mod Accepting
 pub mod AccountCalls
+pub mod AccountSets
 pub mod Alive
 pub mod AnswerCounts
 pub mod AnswerLists
@@ -32,6 +33,7 @@ pub mod FittingRows
 pub mod FittingWorlds
 pub mod Frames
 pub mod Heard
+pub mod HeldStrings
 pub mod Items
 pub mod KeyBytes
 pub mod Lasts

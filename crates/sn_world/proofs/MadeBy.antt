@@ -132,6 +132,7 @@ module _ (apart : AccountsApart) (live_law : MakesLive) (secret : Bytes) (w next
         devices = h.devices;
         sound = h.sound;
         unstale = h.unstale;
+        unasked = h.unasked;
         numbers = h.numbers;
         own_tokens = h.own_tokens;
         sync_tokens = h.sync_tokens;

@@ -53,7 +53,7 @@ makes_live one_stamp server device s name n number a d item i at has shows stand
     bound None e known text stamp is spelled = absurd (cc)
     bound (Some base) e known text stamp is spelled =
         let shown : ShowsLocal s name (greatest 0 d.held) a item = (holder_of device s name d a shows has).locals number item stands in
-        let its : IsBase a item base = subst (λ (o : Option ℕ). ShowsBase a item o) e shown.base in
+        let its : IsBase a (greatest 0 d.held) item base = subst (λ (o : Option ℕ). ShowsBase a (greatest 0 d.held) item o) e shown.base in
         let within : its.listed.version.stamp ≤ greatest 0 (stamps_in s.accounts) =
         each_of (λ (y : Version). y.stamp ≤ greatest 0 (stamps_in s.accounts)) a.versions its.listed.version
         (each_at (λ (b : Account). Each (λ (y : Version). y.stamp ≤ greatest 0 (stamps_in s.accounts)) b.versions) s.accounts n a (within_all s.accounts) at) its.listed.among in

@@ -25,7 +25,7 @@ use Rattle.sn_shows.specs.Servers.{ShowsIdentity, ShowsStore, account_at}
 use Rattle.sn_string.specs.declared.params.KeySet.{KeySet}
 use Rattle.sn_world.proofs.DeviceRows.{one_owner}
 use Rattle.sn_world.proofs.DeviceSets.{account_is}
-use Rattle.sn_world.proofs.OneSets.{one_number, one_only}
+use Rattle.sn_world.proofs.OneSets.{holds_last, one_only}
 use Rattle.sn_world.proofs.ShowsLemmas.{holder_from}
 use Rattle.sn_world.proofs.Started.{nobody}
 use Rattle.sn_world.proofs.Tokens.{device_account, named_at}
@@ -81,18 +81,15 @@ module _ (secret : Bytes) (w : World) (s : Ideal) (h : Holds secret w s) (name :
       by None e none = absurd (nobody n s.accounts a none at)
       by (Some v) e (row, is, last, count) = (row, e ∙ ap Some is)
 
-  token_at : HasOwner rows owner → (d : Device) → device_named s name ≡ Some d → DeviceToken secret rows s.accounts d
-  token_at owned d named = h.own_tokens name d named
-
-  pub present_session : AccountsApart → HasOwner rows owner → (n : ℕ) × IsSession w.server owner.token n
-  present_session apart owned =
+  -- it is alive where the device holds its account's last set
+  alive_session : AccountsApart → HasOwner rows owner → ((d : Device) (a : Account) → HasAccount s name d a → greatest 0 d.held ≡ length a.sets)
+      → (n : ℕ) × IsSession w.server owner.token n
+  alive_session apart owned last =
       let own = holder_at owned in
       let d : Device = own.0 in
       let its : DeviceToken secret rows s.accounts d = h.own_tokens name d own.2.device in
       let has : HasAccount s name d its.account = device_account apart secret w s h name its.number its.account d its.at own.2.device its.own in
-      let holder : ShowsHolder rows s name d its.account = holder_of rows s name d its.account (h.devices name) has in
-      let generation : greatest 0 d.held ≡ length its.account.sets =
-      one_number s h.reached its.number its.account its.at (greatest 0 d.held) holder.present.is.set holder.present.is.at in
+      let generation : greatest 0 d.held ≡ length its.account.sets = last d its.account has in
       let identity : ShowsIdentity w.server its.number its.account = (h.server.all.each its.number its.account its.at).identity in
       let store = store_at its.number its.account its.at in
       let same : its.owner ≡ owner = one_owner its.owner owner (rows key.Owner) its.has owned in
@@ -107,6 +104,9 @@ module _ (secret : Bytes) (w : World) (s : Ideal) (h : Holds secret w s) (name :
               ∙ ap (λ (z : Bytes). session_token z its.number identity.row.generation) (sym (h.keeps_secret store.0 store.1));
         },
       )
+
+  pub present_session : AccountsApart → HasOwner rows owner → (n : ℕ) × IsSession w.server owner.token n
+  present_session apart owned = alive_session apart owned (λ d a has. holds_last s h.reached rows name d a has (h.devices name))
 
 -- ---- its tokens of a sync
 

@@ -1,22 +1,27 @@
--- Each account has one set, since no move of a change of password is among those that were made; so strings open under one of its sets at most.
+-- Each account has one set, since no move of a change of password is among those that were made.
 use Rattle.std.proofs.Common.{◌≡◌, ◌<◌, ℕ, zero, suc, List, [], ◌∷◌, ◌++◌, length, Option, Some, None, Bool, true, false, refl, sym, ◌∙◌, subst, arith}
 use Rattle.std.proofs.lemmas.Option.{slice_get_within}
 use Rattle.std.specs.Prelude.{if◌then◌else◌}
 use Rattle.sn_laws.specs.Each.{Each}
-use Rattle.sn_laws.specs.Lookups.{Bytes, account_of, account_with, draft_at, empty, is_account, last_of}
+use Rattle.sn_laws.specs.Lookups.{Bytes, account_of, account_with, draft_at, empty, greatest, is_account, last_of}
 use Rattle.sn_laws.specs.Moves.{accepted, after, again, changed_where, rewrapped, version_of}
 use Rattle.sn_laws.specs.Runs.{end_from}
 use Rattle.sn_laws.specs.declared.ideal.Account.{Account}
+use Rattle.sn_laws.specs.declared.ideal.Device.{Device}
 use Rattle.sn_laws.specs.declared.ideal.Draft.{Draft}
 use Rattle.sn_laws.specs.declared.ideal.Ideal.{Ideal}
 use Rattle.sn_laws.specs.declared.moves.Move.{Move}
 use Rattle.sn_laws.specs.declared.moves.Move.TheVariants.{Register, Join, Edit, Drop, Post, Unpost, Accept, Rewrap, Settle, SettlePosted, Fork, Rename, GiveWay, Change, Retire}
+use Rattle.sn_rows.specs.Table.{Rows}
+use Rattle.sn_shows.proofs.Facts.{holder_of}
+use Rattle.sn_shows.specs.Devices.{ShowsDevice, ShowsHolder}
+use Rattle.sn_shows.specs.Laws.{HasAccount}
 use Rattle.sn_shows.specs.Servers.{account_at}
 use Rattle.sn_shows.specs.Sets.{set_at}
 use Rattle.sn_string.specs.declared.params.KeySet.{KeySet}
 use Rattle.sn_world.proofs.ShowsLemmas.{each_at, more}
+use Rattle.sn_world.proofs.Tokens.{named_at}
 use Rattle.sn_world.specs.Holds.{ChangesNoSet, Reached}
-use Rattle.sn_world.specs.Settling.{OneSet}
 
 abbrev HasOne : Account → Type 0
 HasOne a = length a.sets ≡ 1
@@ -74,12 +79,16 @@ pub one_only : (s : Ideal) → Reached s → (n : ℕ) (a : Account) → account
 one_only s r n a at =
     each_at HasOne s.accounts n a (subst (λ (t : Ideal). Each HasOne t.accounts) (sym r.is) (one_end empty r.moves r.no_change tt)) at
 
-pub one_set : (s : Ideal) → Reached s → (n : ℕ) (a : Account) → account_at n s.accounts ≡ Some a → OneSet a.sets
-one_set s r n a at sealed uuid k m text other opens opens_too =
-    let one : length a.sets ≡ 1 = one_only s r n a at in
-    first_only a.sets k opens.set one opens.at ∙ sym (first_only a.sets m opens_too.set one opens_too.at)
+-- ---- so each set that an account has is its last one
 
--- the number of a set is that of the last one
 pub one_number : (s : Ideal) → Reached s → (n : ℕ) (a : Account) → account_at n s.accounts ≡ Some a → (k : ℕ) (set : KeySet) → set_at k a.sets ≡ Some set
     → k ≡ length a.sets
 one_number s r n a at k set is = let one : length a.sets ≡ 1 = one_only s r n a at in first_only a.sets k set one is ∙ sym one
+
+-- a device holds it
+pub holds_last : (s : Ideal) → Reached s → (rows : Rows) (name : Bytes) (d : Device) (a : Account) → HasAccount s name d a → ShowsDevice rows s name
+    → greatest 0 d.held ≡ length a.sets
+holds_last s r rows name d a has shows =
+    let k = named_at s d.account a has.account in
+    let holder : ShowsHolder rows s name d a = holder_of rows s name d a shows has in
+    one_number s r k.0 a k.1 (greatest 0 d.held) holder.present.is.set holder.present.is.at

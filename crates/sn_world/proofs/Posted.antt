@@ -27,7 +27,7 @@ use Rattle.sn_shows.proofs.Facts.{holder_of}
 use Rattle.sn_shows.specs.Devices.{ShowsDrafted, ShowsPosted}
 use Rattle.sn_shows.specs.Laws.{HasAccount, PostKeeps, PostedShows, PutsPosted}
 use Rattle.sn_shows.specs.Servers.{stamps_in}
-use Rattle.sn_world.proofs.DeviceRows.{first_change, one_local, owner_past, posted_put, then_others, sync_tokens_same, token_same, unstale_put, with_device, with_own}
+use Rattle.sn_world.proofs.DeviceRows.{first_change, one_local, owner_past, posted_put, then_others, sync_tokens_same, token_same, unasked_local, unstale_put, with_device, with_own}
 use Rattle.sn_world.proofs.DeviceSets.{account_is}
 use Rattle.sn_world.proofs.Frames.{DeviceFrame, device_kept, live_kept}
 use Rattle.sn_world.proofs.Pulls.{alike_row, pulls_kept}
@@ -143,6 +143,7 @@ module _ (shows : PostedShows) (keeps : PostKeeps) (secret : Bytes) (w next : Wo
     kind_is = ap (λ (c : Columns). c.kind) x.puts.columns_are;
     base = ap (λ (c : Columns). c.base) x.puts.columns_are;
     same_body = ap (λ (c : Columns). c.body) x.puts.columns_are;
+    stale = ap (λ (c : Columns). c.stale) x.puts.columns_are;
     latest = ap (λ (c : Columns). c.latest) x.puts.columns_are;
     posted = ap (λ (c : Columns). c.posted) x.puts.columns_are;
   }
@@ -171,6 +172,7 @@ module _ (shows : PostedShows) (keeps : PostKeeps) (secret : Bytes) (w next : Wo
     sound = sound;
     unstale = unstale_put (w.devices name) change number new x.puts.puts (ap (λ (c : Columns). c.stale) x.puts.columns_are ∙ h.unstale name number local x.stands)
         (h.unstale name);
+    unasked = unasked_local (w.devices name) change number x.puts.puts.key_is (h.unasked name);
     numbers = numbers;
     sync_tokens = sync_tokens_same (w.devices name) rows (greatest 0 (stamps_in s.accounts)) (owner_past (w.devices name) change number (value.Local new) x.puts.puts) (h.sync_tokens name);
     own_token = λ e named. token_same secret (w.devices name) rows s.accounts e (owner_past (w.devices name) change number (value.Local new) x.puts.puts) (h.own_tokens name e named);
@@ -227,6 +229,7 @@ nothing_changed secret w next s name h on = device_kept secret w next s s name [
   shows_others = λ at other off k. k;
   sound = h.sound name;
   unstale = h.unstale name;
+  unasked = h.unasked name;
   numbers = h.numbers;
   own_token = h.own_tokens name;
   sync_tokens = h.sync_tokens name;

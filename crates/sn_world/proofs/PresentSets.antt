@@ -18,9 +18,9 @@ use Rattle.sn_shows.specs.Sets.{set_at}
 use Rattle.sn_string.specs.declared.params.KeySet.{KeySet}
 use Rattle.sn_string.specs.declared.params.Params.{Params}
 use Rattle.sn_world.proofs.DeviceSets.{identifier_of, present_at}
-use Rattle.sn_world.proofs.OneSets.{one_number}
+use Rattle.sn_world.proofs.OneSets.{holds_last}
 use Rattle.sn_world.proofs.SetsKept.{present_params}
-use Rattle.sn_world.proofs.ShowsLemmas.{asks_nothing, holder_from}
+use Rattle.sn_world.proofs.ShowsLemmas.{holder_from}
 use Rattle.sn_world.proofs.Tokens.{named_at}
 use Rattle.sn_world.specs.Holds.{Holds}
 use Rattle.sn_world.specs.World.{World}
@@ -32,9 +32,7 @@ none_in rows identifier (Some set) none (keys, has, of) = absurd (cc)
 module _ (secret : Bytes) (v : World) (t : Ideal) (name : Bytes) (h : Holds secret v t) (owner : OwnerRow) (sets : Sets)
     (holds : HasSets (v.devices name) owner sets) where
   pub unasked : sets.asked ≡ None
-  unasked =
-      let own = holder_from (v.devices name) t name key.Owner (value.Owner owner) (h.devices name) holds.owned in
-      none_in (v.devices name) owner.identifier sets.asked (asks_nothing (v.devices name) t name own.0 own.1 (h.devices name) own.2) holds.wanted
+  unasked = none_in (v.devices name) owner.identifier sets.asked (h.unasked name) holds.wanted
 
   -- the parameters that are answered are those of the present set
   pub told_is_present : (identifier : Bytes) (params : Params) → owner.identifier ≡ identifier
@@ -48,6 +46,6 @@ module _ (secret : Bytes) (v : World) (t : Ideal) (name : Bytes) (h : Holds secr
       let named : IsNamed v.server identifier k.0 = (its.row, its.stands, its.identifier ∙ sym of_account ∙ is) in
       let held : set_at (greatest 0 own.0.held) own.1.sets ≡ Some sets.present =
       present_at (v.devices name) t name own.0 own.1 owner sets holder holds in
-      let one : greatest 0 own.0.held ≡ length own.1.sets = one_number t h.reached k.0 own.1 k.1 (greatest 0 own.0.held) sets.present held in
+      let last : greatest 0 own.0.held ≡ length own.1.sets = holds_last t h.reached (v.devices name) name own.0 own.1 own.2 (h.devices name) in
       present_params v.server t.accounts k.0 own.1 params sets.present h.server.all k.1 (told k.0 named)
-      (subst (λ (j : ℕ). set_at j own.1.sets ≡ Some sets.present) one held)
+      (subst (λ (j : ℕ). set_at j own.1.sets ≡ Some sets.present) last held)

@@ -45,7 +45,7 @@ use Rattle.sn_world.proofs.DeviceRows.{one_local}
 use Rattle.sn_world.proofs.Pulls.{StaysAt, stays_both, stays_on, stays_put, stays_removed, stays_same}
 use Rattle.sn_world.proofs.ShowsLemmas.{each_at}
 use Rattle.sn_world.proofs.TakenFrames.{Along}
-use Rattle.sn_world.proofs.TakenMet.{TakingLaws, present_only}
+use Rattle.sn_world.proofs.TakenMet.{TakingLaws, present_set}
 use Rattle.sn_world.specs.Pulled.{PulledAt}
 
 -- ---- one item
@@ -141,7 +141,7 @@ module _ (laws : TakingLaws) (server : Rows) (name : Bytes) (n : ℕ) (a : Accou
       -- the version isn't above what the row stands on: it is that
       known : (flag : Bool) → IsKnown local i flag → IsAtLast p.rows a i.uuid
       known flag k =
-          let base : IsBase a local k.base = subst (λ (o : Option ℕ). ShowsBase a local o) k.stands_on (shown number local stands.0).base in
+          let base : IsBase a g local k.base = subst (λ (o : Option ℕ). ShowsBase a g local o) k.stands_on (shown number local stands.0).base in
           let w : Version = base.listed.version in
           let rising : Rises (map (λ (v : Version). v.stamp) a.versions) =
           each_at (λ (b : Account). Rises (map (λ (v : Version). v.stamp) b.versions)) s.accounts n a
@@ -167,7 +167,7 @@ module _ (laws : TakingLaws) (server : Rows) (name : Bytes) (n : ℕ) (a : Accou
           nowhere (row.Sealed strings) (content.Plain text) e x =
               let same : strings ≡ k.strings = cc in
               k.closed text
-              (inl (subst (λ (z : KeySet). OpensItem (sealed_of k.strings) local.uuid z text) (present_only server name n a d owner sets p s h g x.set x.at)
+              (inl (subst (λ (z : KeySet). OpensItem (sealed_of k.strings) local.uuid z text) (present_set server name n a d owner sets p s h x.set x.at)
               (subst (λ (r : RowStrings). OpensItem (sealed_of r) local.uuid x.set text) same x.opens)))
 
           by : (found : Option Draft) → ShowsDrafted a.sets g local found → ⊥

@@ -25,7 +25,7 @@ use Rattle.sn_shows.proofs.Facts.{find_new, find_past_new, holder_of}
 use Rattle.sn_shows.specs.Devices.{ShowsDevice, ShowsHolder}
 use Rattle.sn_shows.specs.Laws.{EditKeeps, EditedShows, HasAccount, TokensShow}
 use Rattle.sn_shows.specs.Servers.{stamps_in}
-use Rattle.sn_world.proofs.DeviceRows.{local_past, one_owner, posted_both, posted_put, posted_same, puts_new, sync_tokens_kept, unstale_put, unstale_same}
+use Rattle.sn_world.proofs.DeviceRows.{local_past, one_owner, posted_both, posted_put, posted_same, puts_new, sync_tokens_kept, unasked_local, unasked_owner, unstale_put, unstale_same}
 use Rattle.sn_world.proofs.DeviceSets.{account_is, free_undrafted, identifier_of, next_is_free, present_at}
 use Rattle.sn_world.proofs.Frames.{DeviceFrame, KeepsPosted, device_kept, live_kept}
 use Rattle.sn_world.proofs.Pulls.{alike_put, pulls_kept, stays_both, stays_put, stays_same}
@@ -195,6 +195,7 @@ module _ (edit_law : EditedShows) (tokens_law : TokensShow) (keeps : EditKeeps) 
     sound = sound;
     unstale = unstale_same mid rows (local_past mid x.counted (value.Owner new) x.counted_is.puts_it)
         (unstale_put before x.item x.owner.next local x.item_is.puts (ap (λ (c : Columns). c.stale) x.item_is.columns_are) (h.unstale name));
+    unasked = unasked_owner mid x.counted x.counted_is.puts_it.key_is (unasked_local before x.item x.owner.next x.item_is.puts.key_is (h.unasked name));
     numbers = numbers;
     own_token = token_after;
     sync_tokens = sync_tokens_kept before rows (greatest 0 (stamps_in s.accounts)) x.owner new x.holds.owned here

@@ -16,7 +16,7 @@ use Rattle.sn_shows.proofs.Facts.{holder_of}
 use Rattle.sn_shows.specs.Devices.{ShowsHolder}
 use Rattle.sn_shows.specs.Laws.{AccountsApart, HasAccount, TokensShow}
 use Rattle.sn_shows.specs.Servers.{stamps_in}
-use Rattle.sn_world.proofs.DeviceRows.{local_past, one_owner, posted_same, sync_tokens_kept, unstale_same}
+use Rattle.sn_world.proofs.DeviceRows.{local_past, one_owner, posted_same, sync_tokens_kept, unasked_owner, unstale_same}
 use Rattle.sn_world.proofs.Frames.{DeviceFrame, device_kept, live_kept}
 use Rattle.sn_world.proofs.Pulls.{alike_put, pulls_kept, stays_same}
 use Rattle.sn_world.proofs.ShowsLemmas.{holder_from}
@@ -84,6 +84,7 @@ module _ (apart : AccountsApart) (law : TokensShow) (secret : Bytes) (w next : W
               token = alike_put (w.devices name) rows x.owner new x.owned here (ap (λ (c : OwnerColumns). c.sync_token) x.renewed.columns_are);
             }) (h.bases_pulled name) (h.pulled name);
         unstale = unstale_same (w.devices name) rows (local_past (w.devices name) x.change (value.Owner new) x.renewed.puts_it) (h.unstale name);
+        unasked = unasked_owner (w.devices name) x.change x.renewed.puts_it.key_is (h.unasked name);
         numbers = h.numbers;
         own_token = token_after;
         sync_tokens = sync_tokens_kept (w.devices name) rows (greatest 0 (stamps_in s.accounts)) x.owner new x.owned here

@@ -26,6 +26,7 @@ use Rattle.sn_rows.specs.declared.device_rows.LocalItem.{LocalItem}
 use Rattle.sn_rows.specs.declared.device_rows.OwnerRow.{OwnerRow}
 use Rattle.sn_rows.specs.declared.key.Key.{Key}
 use Rattle.sn_rows.specs.declared.key.Key.TheVariants as key
+use Rattle.sn_rows.specs.declared.key.Slot.TheVariants.{Older}
 use Rattle.sn_rows.specs.declared.value.Value.{Value}
 use Rattle.sn_rows.specs.declared.value.Value.TheVariants as value
 use Rattle.sn_sync.specs.Fits.{AreBytes}
@@ -127,6 +128,9 @@ length-put at v =
 
 pub removed_size : (c : Change) (at : ℕ) → Removes c (key.Local at) → size_of c ≤ 100
 removed_size c at p = subst (λ (e : Entry). length (entry_bytes e) ≤ 100) (sym (removal_is c (key.Local at) p)) (omega arith)
+
+pub retired_size : (c : Change) → Removes c (key.Set Older) → size_of c ≤ 100
+retired_size c p = subst (λ (e : Entry). length (entry_bytes e) ≤ 100) (sym (removal_is c (key.Set Older) p)) (omega arith)
 
 length-local : (l : LocalItem) → length (cells_bytes (value_cells (value.Local l)))
     ≡ length l.uuid + (4 + length l.kind) + 9 + 1 + body_size l.body + body_size l.latest + body_size l.posted

@@ -193,7 +193,7 @@ module _ (one_token : HasOneToken) (store_law : StoreShows) (register_law : Regi
     devices = refl;
     shown = λ rows name k. keeps_law rows s name identifier set legal k;
     numbers = numbers;
-    accounts = λ k a at. (a, account_before s.accounts new k a at, refl, refl);
+    accounts = λ k a at. (a, account_before s.accounts new k a at, refl);
     last = let same : greatest 0 (stamps_in s.accounts) ≡ greatest 0 (stamps_in later.accounts) = last_same in omega arith;
     session = session_before;
     lasts = λ k b uuid v at found within.

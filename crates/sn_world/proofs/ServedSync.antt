@@ -30,7 +30,7 @@ use Rattle.sn_world.proofs.Frames.{ServerFrame, same_world, server_kept}
 use Rattle.sn_world.proofs.Items.{Ran, takes_all}
 use Rattle.sn_world.proofs.Saying.{batch_said}
 use Rattle.sn_world.proofs.Steps.{Below}
-use Rattle.sn_world.proofs.Tokens.{device_account, held_within, one_account, token_session}
+use Rattle.sn_world.proofs.Tokens.{alive_last, device_account, one_account, token_session}
 use Rattle.sn_world.specs.Holds.{HasToken, Holds, HoldsSync, TokensDiffer}
 use Rattle.sn_world.specs.Laws.{KeptBy}
 use Rattle.sn_world.specs.Live.{KnownBelow, LiveItem}
@@ -95,12 +95,7 @@ module _ (low : Below) (secret : Bytes) (w next : World) (s : Ideal) (differ : T
         ap (λ (z : AccountRow). z.generation) (one_account session.account its.row (w.server (key.Account n)) session.there its.stands) ∙ its.generation
 
     alive : greatest 0 d.held ≡ length a.sets
-    alive =
-        let generation : session.account.generation ≡ length a.sets = generation_is in
-        let same : tok.generation ≡ session.account.generation = same_numbers.1 in
-        let up : tok.generation ≤ greatest 0 d.held = tok.held in
-        let within : greatest 0 d.held ≤ length a.sets = held_within low.apart secret w s h name d a has in
-        omega arith
+    alive = alive_last low.apart secret w s h differ name token tok n session
 
     counts : CountsOf store s
     counts = counts_of secret w s h store stands
@@ -156,7 +151,7 @@ module _ (low : Below) (secret : Bytes) (w next : World) (s : Ideal) (differ : T
         devices = ran.devices;
         shown = ran.keeps;
         numbers = ran.numbers;
-        accounts = ran.numbered;
+        accounts = λ k b there. let c = ran.numbered k b there in (c.0, c.1, c.2);
         last = let up : store.last ≤ y.end.last = ran.later in let from : store.last ≡ greatest 0 (stamps_in s.accounts) = counts.last in
             let to : y.end.last ≡ greatest 0 (stamps_in later.accounts) = ran.serving.last in omega arith;
         session = λ other t k tok_is z. record {

@@ -15,7 +15,7 @@ use Rattle.sn_shows.specs.Servers.{account_at}
 use Rattle.sn_sync.specs.declared.answer.Answer.TheVariants as answer
 use Rattle.sn_sync.specs.declared.request.Request.{Request}
 use Rattle.sn_sync.specs.declared.request.Request.TheVariants as request
-use Rattle.sn_world.proofs.SetsKept.{IsAccept, accepts_only, params_after}
+use Rattle.sn_world.proofs.SetsKept.{LeavesSets, accepts_leave, params_after}
 use Rattle.sn_world.proofs.Tokens.{few_numbers, same_owner, session_account}
 use Rattle.sn_world.specs.Holds.{HasToken, Holds}
 use Rattle.sn_world.specs.Laws.{KeepsServing, ServedTells}
@@ -42,9 +42,9 @@ served_tells apart tell keeps secret w next s m token items now changes moves co
     (few_numbers apart secret next (end_from s moves) holds_next tok.number tok.account tok.at) (few_numbers apart secret w s h told.0 b.0 b.1) tok.is spelled in
     let at_now : account_at told.0 (end_from s moves).accounts ≡ Some tok.account =
     subst (λ (k : ℕ). account_at k (end_from s moves).accounts ≡ Some tok.account) number tok.at in
-    let accepts : Each IsAccept moves =
-    subst (λ (ms : List Move). Each IsAccept ms) (sym (says ∙ ap (λ (r : Request). moves_for w.server m.device m.begins r changes) is.is))
-    (accepts_only w.server m.device changes) in
+    let leave : Each LeavesSets moves =
+    subst (λ (ms : List Move). Each LeavesSets ms) (sym (says ∙ ap (λ (r : Request). moves_for w.server m.device m.begins r changes) is.is))
+    (accepts_leave w.server m.device changes) in
     record {
       number = told.0;
       account = tok.account;
@@ -54,7 +54,7 @@ served_tells apart tell keeps secret w next s m token items now changes moves co
       own = tok.own;
       posted = subst (λ (f : Bytes → Rows). Each (IsPostedOf (f m.device)) items) (sym x.on.devices) posted;
       present = told.1;
-      params_are = params_after w.server s moves told.0 tok.account told.1 h.server.all accepts at_now told.5;
+      params_are = params_after w.server s moves told.0 tok.account told.1 h.server.all leave at_now told.5;
       sync = told.2;
       from = told.3;
       since = λ owner has.

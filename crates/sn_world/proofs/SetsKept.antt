@@ -1,17 +1,17 @@
--- Accepted versions leave each account's sets; and which parameters are an account's present ones.
-use Rattle.std.proofs.Common.{◌≡◌, ℕ, List, [], ◌∷◌, length, Option, Some, None, Bool, true, false, refl, sym, ap, ◌∙◌, subst}
+-- Which moves leave each account's sets; and which parameters are an account's present ones.
+use Rattle.std.proofs.Common.{◌≡◌, ℕ, List, [], ◌∷◌, ◌++◌, length, Option, Some, None, Bool, true, false, refl, sym, ap, ◌∙◌, subst}
 use Rattle.std.proofs.lemmas.List.Concat.{flat_map-cons}
 use Rattle.std.specs.Prelude.{if◌then◌else◌}
 use Rattle.sn_account.specs.Rules.{IsPresent}
 use Rattle.sn_laws.specs.Each.{Each}
-use Rattle.sn_laws.specs.Lookups.{Bytes, account_of, draft_at, is_account}
-use Rattle.sn_laws.specs.Moves.{accepted, after, changed_where, version_of}
+use Rattle.sn_laws.specs.Lookups.{Bytes, account_of, account_with, draft_at, is_account, last_of}
+use Rattle.sn_laws.specs.Moves.{accepted, after, again, changed_where, rewrapped, version_of}
 use Rattle.sn_laws.specs.Runs.{end_from}
 use Rattle.sn_laws.specs.declared.ideal.Account.{Account}
 use Rattle.sn_laws.specs.declared.ideal.Draft.{Draft}
 use Rattle.sn_laws.specs.declared.ideal.Ideal.{Ideal}
 use Rattle.sn_laws.specs.declared.moves.Move.{Move}
-use Rattle.sn_laws.specs.declared.moves.Move.TheVariants.{Accept}
+use Rattle.sn_laws.specs.declared.moves.Move.TheVariants.{Register, Accept, Rewrap, Change as Changes}
 use Rattle.sn_rows.specs.Table.{Rows}
 use Rattle.sn_rows.specs.declared.change.Change.{Change}
 use Rattle.sn_rows.specs.declared.change.Change.TheVariants.{Put, Remove}
@@ -33,34 +33,36 @@ use Rattle.sn_world.specs.Serving.{accept_of, accepts_in, move_of}
 
 -- ---- the moves of a batch of items
 
-abbrev pub IsAccept : Move → Type 0
-IsAccept (Accept device uuid stamp under) = Unit {0}
-IsAccept m = ⊥
+-- neither a registration nor a change of password is among them
+abbrev pub LeavesSets : Move → Type 0
+LeavesSets (Register identifier set) = ⊥
+LeavesSets (Changes identifier number set) = ⊥
+LeavesSets m = Unit {0}
 
-accept_only : (server : Rows) (name : Bytes) (at : Key) (v : Value) → Each IsAccept (accept_of server name at v)
-accept_only server name (key.Item uuid) (value.Item row) = (tt, tt)
-accept_only server name (key.Item uuid) (value.Store row) = tt
-accept_only server name (key.Item uuid) (value.Account row) = tt
-accept_only server name (key.Item uuid) (value.Generation row) = tt
-accept_only server name (key.Item uuid) (value.Owner row) = tt
-accept_only server name (key.Item uuid) (value.Set row) = tt
-accept_only server name (key.Item uuid) (value.Local row) = tt
-accept_only server name key.Store v = tt
-accept_only server name (key.Account number) v = tt
-accept_only server name (key.Generation number generation) v = tt
-accept_only server name key.Owner v = tt
-accept_only server name (key.Set slot) v = tt
-accept_only server name (key.Local number) v = tt
+accept_leaves : (server : Rows) (name : Bytes) (at : Key) (v : Value) → Each LeavesSets (accept_of server name at v)
+accept_leaves server name (key.Item uuid) (value.Item row) = (tt, tt)
+accept_leaves server name (key.Item uuid) (value.Store row) = tt
+accept_leaves server name (key.Item uuid) (value.Account row) = tt
+accept_leaves server name (key.Item uuid) (value.Generation row) = tt
+accept_leaves server name (key.Item uuid) (value.Owner row) = tt
+accept_leaves server name (key.Item uuid) (value.Set row) = tt
+accept_leaves server name (key.Item uuid) (value.Local row) = tt
+accept_leaves server name key.Store v = tt
+accept_leaves server name (key.Account number) v = tt
+accept_leaves server name (key.Generation number generation) v = tt
+accept_leaves server name key.Owner v = tt
+accept_leaves server name (key.Set slot) v = tt
+accept_leaves server name (key.Local number) v = tt
 
-move_only : (server : Rows) (name : Bytes) (change : Change) → Each IsAccept (move_of server name change)
-move_only server name (Put row) = accept_only server name row.key row.value
-move_only server name (Remove at) = tt
+move_leaves : (server : Rows) (name : Bytes) (change : Change) → Each LeavesSets (move_of server name change)
+move_leaves server name (Put row) = accept_leaves server name row.key row.value
+move_leaves server name (Remove at) = tt
 
-pub accepts_only : (server : Rows) (name : Bytes) (changes : List Change) → Each IsAccept (accepts_in server name changes)
-accepts_only server name [] = tt
-accepts_only server name (c ∷ cs) =
-    subst (λ (ms : List Move). Each IsAccept ms) (sym (flat_map-cons (move_of server name) c cs))
-    (each_both IsAccept (move_of server name c) (accepts_in server name cs) (move_only server name c) (accepts_only server name cs))
+pub accepts_leave : (server : Rows) (name : Bytes) (changes : List Change) → Each LeavesSets (accepts_in server name changes)
+accepts_leave server name [] = tt
+accepts_leave server name (c ∷ cs) =
+    subst (λ (ms : List Move). Each LeavesSets ms) (sym (flat_map-cons (move_of server name) c cs))
+    (each_both LeavesSets (move_of server name c) (accepts_in server name cs) (move_leaves server name c) (accepts_leave server name cs))
 
 -- ---- sets
 
@@ -85,11 +87,20 @@ sets_accepted accounts (Some a) None stamp n b at = (b, at, refl)
 sets_accepted accounts (Some a) (Some d) stamp n b at =
     sets_changed (is_account a.identifier) (more (version_of stamp (length a.sets) d)) (λ x. refl) accounts n b at
 
-sets_step : (s : Ideal) (m : Move) → IsAccept m → (n : ℕ) (b : Account) → account_at n (after s m).accounts ≡ Some b → HadSets s.accounts n b
-sets_step s (Accept device uuid stamp under) is n b at = sets_accepted s.accounts (account_of s device) (draft_at s device uuid) stamp n b at
-sets_step s m is n b at = absurd is
+sets_rewrapped : (accounts : List Account) (a : Option Account) (uuid : Bytes) (stamp n : ℕ) (b : Account) → account_at n (rewrapped accounts a uuid stamp) ≡ Some b
+    → HadSets accounts n b
+sets_rewrapped accounts None uuid stamp n b at = (b, at, refl)
+sets_rewrapped accounts (Some a) uuid stamp n b at =
+    sets_changed (is_account a.identifier) (λ x. record x { versions = x.versions ++ again stamp (length a.sets) (last_of uuid a.versions) }) (λ x. refl) accounts n b at
 
-sets_before : (s : Ideal) (ms : List Move) → Each IsAccept ms → (n : ℕ) (b : Account) → account_at n (end_from s ms).accounts ≡ Some b
+sets_step : (s : Ideal) (m : Move) → LeavesSets m → (n : ℕ) (b : Account) → account_at n (after s m).accounts ≡ Some b → HadSets s.accounts n b
+sets_step s (Accept device uuid stamp under) is n b at = sets_accepted s.accounts (account_of s device) (draft_at s device uuid) stamp n b at
+sets_step s (Rewrap uuid stamp under) is n b at = sets_rewrapped s.accounts (account_with s.accounts uuid) uuid stamp n b at
+sets_step s (Register identifier set) is n b at = absurd is
+sets_step s (Changes identifier number set) is n b at = absurd is
+sets_step s m is n b at = (b, at, refl)
+
+sets_before : (s : Ideal) (ms : List Move) → Each LeavesSets ms → (n : ℕ) (b : Account) → account_at n (end_from s ms).accounts ≡ Some b
     → (a : Account) × (account_at n s.accounts ≡ Some a) × (b.sets ≡ a.sets)
 sets_before s [] all n b at = (b, at, refl)
 sets_before s (m ∷ ms) all n b at =
@@ -116,8 +127,8 @@ present_params server accounts n a present last shows at is last_is =
     same_params present last.params (is.identifier ∙ ap (λ (z : AccountRow). z.identifier) row ∙ its.identifier ∙ sym set.identifier)
     (is.cost ∙ ap (λ (g : GenerationRow). g.pw_cost) generation ∙ set.cost) (is.nonce ∙ ap (λ (g : GenerationRow). g.pw_nonce) generation ∙ set.nonce)
 
--- so they are after accepted versions too
-pub params_after : (server : Rows) (s : Ideal) (ms : List Move) (n : ℕ) (a : Account) (present : Params) → ShowsAccounts server s.accounts → Each IsAccept ms
+-- so they are after moves that leave the sets
+pub params_after : (server : Rows) (s : Ideal) (ms : List Move) (n : ℕ) (a : Account) (present : Params) → ShowsAccounts server s.accounts → Each LeavesSets ms
     → account_at n (end_from s ms).accounts ≡ Some a → IsPresent server n present → (last : KeySet) → set_at (length a.sets) a.sets ≡ Some last → present ≡ last.params
 params_after server s ms n a present shows all at is last last_is =
     let was = sets_before s ms all n a at in

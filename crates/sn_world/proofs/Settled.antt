@@ -24,7 +24,7 @@ use Rattle.sn_world.proofs.Based.{takes_fresh}
 use Rattle.sn_laws.specs.Lookups.{greatest}
 use Rattle.sn_client.specs.States.{Columns}
 use Rattle.sn_shows.specs.Servers.{account_at, stamps_in}
-use Rattle.sn_world.proofs.DeviceRows.{one_local, owner_past, sync_tokens_same, token_same, unstale_put}
+use Rattle.sn_world.proofs.DeviceRows.{one_local, owner_past, sync_tokens_same, token_same, unasked_local, unstale_put}
 use Rattle.sn_world.proofs.Frames.{DeviceFrame, HasPulled, device_kept}
 use Rattle.sn_world.proofs.Pulls.{StaysAt, stays_on, stays_put}
 use Rattle.sn_world.proofs.ShowsLemmas.{draft_is, find_past_without, find_without, not_of_device, not_of_item}
@@ -133,6 +133,7 @@ module _ (apart : AccountsApart) (own_law : SettlesOwn) (live_law : AppliesLive)
     shows_others = λ at other off k. keeps at s name other i.uuid off k;
     sound = x.sound;
     unstale = unstale_put (w.devices name) change x.number x.takes.puts.local x.takes.puts.puts (takes_fresh change x.number i None x.takes) (h.unstale name);
+    unasked = unasked_local (w.devices name) change x.number x.takes.puts.puts.key_is (h.unasked name);
     numbers = λ other e b has item draft at p is.
         let its = h.numbers other e b (record { device = has.device; account = has.account }) item draft (draft_before s name i.uuid other item draft at) p is in
         (its.0, its.1, λ last. its.2 (on_same s name i.uuid draft.uuid b draft.base last));

@@ -1,12 +1,11 @@
 -- A version that has the content of the row's draft: the draft may be settled, and the rows show the state after it.
-use Rattle.std.proofs.Common.{◌≡◌, ℕ, List, [], ◌∷◌, Option, Some, None, true, refl, sym, ap, ◌∙◌, subst, inl, inr}
+use Rattle.std.proofs.Common.{◌≡◌, ℕ, [], ◌∷◌, Some, None, true, refl, sym, ap, ◌∙◌, subst, inl, inr}
 use Rattle.std.specs.Prelude.{IsTrue}
 use Rattle.sn_account.specs.Stored.{IsGiven}
 use Rattle.sn_conflict.specs.Meetings.{HasContent, HasContentOf, SameStrings}
 use Rattle.sn_items.specs.ItemLaws.{OneContent}
-use Rattle.sn_items.specs.Items.{OpensItem}
 use Rattle.sn_items.specs.declared.sealed.Sealed.{Sealed}
-use Rattle.sn_laws.proofs.Facts.{allowed_to, one_there}
+use Rattle.sn_laws.proofs.Facts.{allowed_to}
 use Rattle.sn_laws.specs.Lookups.{Bytes, draft_at, greatest, last_of}
 use Rattle.sn_laws.specs.Moves.{after, allows}
 use Rattle.sn_laws.specs.Relation.{IsContentOf}
@@ -25,50 +24,28 @@ use Rattle.sn_rows.specs.declared.body.RowBody.{RowBody}
 use Rattle.sn_rows.specs.declared.body.RowBody.TheVariants as row_body
 use Rattle.sn_rows.specs.declared.change.Change.{Change}
 use Rattle.sn_rows.specs.declared.device_rows.LocalItem.{LocalItem}
-use Rattle.sn_rows.specs.declared.device_rows.SetRow.{SetRow}
 use Rattle.sn_rows.specs.declared.key.Key.TheVariants as key
-use Rattle.sn_rows.specs.declared.key.Slot.TheVariants.{Older}
 use Rattle.sn_rows.specs.declared.server_rows.ItemRow.{ItemRow}
-use Rattle.sn_rows.specs.declared.value.Value.{Value}
 use Rattle.sn_rows.specs.declared.value.Value.TheVariants as value
-use Rattle.sn_sets.specs.Sets.{OpensHeld, sealed_of}
+use Rattle.sn_sets.specs.Sets.{sealed_of}
 use Rattle.sn_shows.proofs.Facts.{holder_of, removed_shows}
-use Rattle.sn_shows.specs.Devices.{IsSetRow, ShowsContent, ShowsDevice, ShowsDraft, ShowsHolder, ShowsOlder}
+use Rattle.sn_shows.specs.Devices.{ShowsContent, ShowsDevice, ShowsDraft, ShowsHolder}
 use Rattle.sn_shows.specs.Laws.{PutsSettled, SettledShows}
 use Rattle.sn_shows.specs.Servers.{ShowsStrings}
-use Rattle.sn_shows.specs.Sets.{OpensUnder, set_at}
-use Rattle.sn_string.specs.declared.params.KeySet.{KeySet}
+use Rattle.sn_shows.specs.Sets.{OpensUnder}
 use Rattle.sn_sync.specs.Laws.{HasOneStamp}
 use Rattle.sn_sync.specs.declared.item.Body.{Body as Sent}
 use Rattle.sn_sync.specs.declared.item.Body.TheVariants as body
 use Rattle.sn_sync.specs.declared.item.Item.{Item}
 use Rattle.sn_world.proofs.AtLast.{IsAtLast, LastTold, at_gone, at_live, last_told}
 use Rattle.sn_world.proofs.Based.{Based, based_on, given_gone, given_strings, gone_version, live_version, sealed_same}
-use Rattle.sn_world.proofs.DeviceSets.{account_is, identifier_of, one_set_row, present_at, row_draft, set_of_row}
+use Rattle.sn_world.proofs.DeviceSets.{account_is, row_draft}
+use Rattle.sn_world.proofs.HeldStrings.{held_text, one_open}
 use Rattle.sn_world.proofs.Removing.{no_row}
 use Rattle.sn_world.proofs.Standing.{its_last}
 use Rattle.sn_world.specs.Pulled.{HasNoBase}
-use Rattle.sn_world.specs.Settling.{MeetsStored, OneSet, SettlesGone, SettlesOwn, TakesLast}
-use Rattle.sn_client.specs.States.{Columns, IsInSlot}
-
--- under whatever sets of the account strings open, they open to one text
-one_open : (sets : List KeySet) (uuid : Bytes) (sealed : Sealed) (k m : ℕ) (a b : Bytes) → OneContent → OneSet sets → OpensUnder sets k uuid sealed a
-    → OpensUnder sets m uuid sealed b → a ≡ b
-one_open sets uuid sealed k m a b one_text one_set h r =
-    let number : k ≡ m = one_set sealed uuid k m a b h r in
-    let same : h.set ≡ r.set = one_there h.set r.set (set_at k sets) h.at (subst (λ (j : ℕ). set_at j sets ≡ Some r.set) (sym number) r.at) in
-    one_text sealed uuid r.set a b (subst (λ (s : KeySet). OpensItem sealed uuid s a) same h.opens) r.opens
-
--- the older set is one of the account's
-older_at : (a : Account) (found : Option Value) (held : List ℕ) (keys : SetRow) → ShowsOlder a found held → found ≡ Some (value.Set keys)
-    → (k : ℕ) × IsSetRow a k keys
-older_at a found (older ∷ present ∷ []) keys h e =
-    (older, subst (λ (r : SetRow). IsSetRow a older r) (one_set_row h.0 keys found h.1 e) h.2)
-older_at a found held keys h e = absurd (cc)
-
-older_slot : (rows : Rows) (identifier : Bytes) (found : Option KeySet) (set : KeySet) → found ≡ Some set → IsInSlot rows identifier Older found
-    → IsInSlot rows identifier Older (Some set)
-older_slot rows identifier found set e h = subst (λ (o : Option KeySet). IsInSlot rows identifier Older o) e h
+use Rattle.sn_world.specs.Settling.{MeetsStored, SettlesGone, SettlesOwn, TakesLast}
+use Rattle.sn_client.specs.States.{Columns}
 
 module _ (server device : Rows) (s : Ideal) (name : Bytes) (n number : ℕ) (a : Account) (d : Device) (local : LocalItem) (i : Item)
     (one_stamp : HasOneStamp) (one_text : OneContent) (x : MeetsStored server device s name n number a d local i) where
@@ -83,23 +60,6 @@ module _ (server device : Rows) (s : Ideal) (name : Bytes) (n number : ℕ) (a :
 
   holder : ShowsHolder device s name d a
   holder = holder_of device s name d a x.shows x.has
-
-  present : set_at g a.sets ≡ Some x.sets.present
-  present = present_at device s name d a x.owner x.sets holder x.holds
-
-  -- what opens under a set that is held opens under one of the account's
-  held_under : (uuid : Bytes) (sealed : Sealed) (text : Bytes) → OpensHeld x.sets uuid sealed text → (k : ℕ) × OpensUnder a.sets k uuid sealed text
-  held_under uuid sealed text (inl opens) = (g, record { set = x.sets.present; at = present; opens = opens })
-  held_under uuid sealed text (inr older) =
-      let slot = older_slot device x.owner.identifier x.sets.older older.set older.held x.holds.before in
-      let at = older_at a (device (key.Set Older)) d.held slot.0 holder.older slot.1 in (
-        at.0,
-        record {
-          set = older.set;
-          at = set_of_row a at.0 slot.0 x.owner.identifier older.set (identifier_of device s name d a x.owner holder x.holds.owned) at.1 slot.2;
-          opens = older.opens;
-        },
-      )
 
   pub version : (v : Version) × (last_of i.uuid a.versions ≡ Some v) × ShowsStrings a.sets i.uuid row v.body × (row.updated ≡ v.stamp) × (row.kind ≡ v.kind)
   version = its_last server s.accounts n a i.uuid row x.accounts x.at x.stored.1 x.stored.2
@@ -118,9 +78,8 @@ module _ (server device : Rows) (s : Ideal) (name : Bytes) (n number : ℕ) (a :
   texts sealed other text told k ours theirs (inl is) =
       one_open a.sets i.uuid sealed g k text told one_text x.one_set ours (subst (λ (z : Sealed). OpensUnder a.sets k i.uuid z told) (sym is) theirs)
   texts sealed other text told k ours theirs (inr (t, first, second)) =
-      let our = held_under i.uuid sealed t first in
-      let their = held_under i.uuid other t second in
-      one_open a.sets i.uuid sealed g our.0 text t one_text x.one_set ours our.1 ∙ one_open a.sets i.uuid other their.0 k t told one_text x.one_set their.1 theirs
+      held_text device s name d a x.owner x.sets holder x.holds one_text x.one_set i.uuid sealed g text t ours first
+      ∙ sym (held_text device s name d a x.owner x.sets holder x.holds one_text x.one_set i.uuid other k told t theirs second)
 
   -- the draft's content is the version's
   pub content_is : (b : RowBody) (c : Content) (given : Sent) → i.body ≡ given → ShowsContent a.sets g i.uuid b c → HasContentOf x.sets local b i given
@@ -159,12 +118,12 @@ module _ (server device : Rows) (s : Ideal) (name : Bytes) (n number : ℕ) (a :
     abbrev new : LocalItem
     new = p.puts.local
 
-    based : Based a change number i None p version.0
+    based : Based a g change number i None p version.0
     unfolding version
-    based = based_on one_stamp server s.accounts n a i x.accounts x.at x.stored change number None p
+    based = based_on one_stamp server s.accounts n a g i x.accounts x.at x.stored change number None p
 
     -- the row that is put has the version as its base
-    puts_settled : PutsSettled change number a local.uuid p.stands_on.stamp
+    puts_settled : PutsSettled change number a g local.uuid p.stands_on.stamp
     puts_settled =
         record {
           item = new;

@@ -173,7 +173,7 @@ module _ (low : Below) (p : Progress) (device : Rows) (s : Ideal) (name : Bytes)
       let shown_row = held.locals row.number row.item row.stands in
       let drafted : ShowsDraft a.sets (greatest 0 f.held) row.item e =
       subst (λ (o : Option Draft). ShowsDrafted a.sets (greatest 0 f.held) row.item o) (ap (draft_at s other) row.item_is ∙ at) shown_row.draft in
-      let base : IsBase a row.item st = subst (λ (o : Option ℕ). ShowsBase a row.item o) (drafted.base ∙ is) shown_row.base in
+      let base : IsBase a (greatest 0 f.held) row.item st = subst (λ (o : Option ℕ). ShowsBase a (greatest 0 f.held) row.item o) (drafted.base ∙ is) shown_row.base in
       let less : base.listed.version.stamp < stamp =
       each_of (λ (y : Version). y.stamp < stamp) a.versions base.listed.version
       (each_at (λ (b : Account). Each (λ (y : Version). y.stamp < stamp) b.versions) s.accounts n a below v.at) base.listed.among in

@@ -54,7 +54,7 @@ module _ (rise : VersionsRise) (secret : Bytes) (w : World) (s : Ideal) (name : 
       (subst (λ (t : Ideal). Each (λ (b : Account). Rises (map (λ (v : Version). v.stamp) b.versions)) t.accounts) (sym h.reached.is) (rise h.reached.moves h.reached.legal)) at.1
 
   -- the version that a row stands on is its item's last one where their stamps are the same
-  kind_is : (local : LocalItem) (v : Version) → last_of local.uuid a.versions ≡ Some v → IsBase a local v.stamp → local.kind ≡ v.kind
+  kind_is : (local : LocalItem) (v : Version) → last_of local.uuid a.versions ≡ Some v → IsBase a (greatest 0 d.held) local v.stamp → local.kind ≡ v.kind
   kind_is local v last base =
       ⊎_elim (λ (same : base.listed.version ≡ v). sym base.listed.kind_is ∙ ap (λ (y : Version). y.kind) same)
       (λ (less : base.listed.version.stamp < v.stamp). let is : base.listed.version.stamp ≡ v.stamp = base.listed.stamp_is in absurd (omega arith))
@@ -63,16 +63,16 @@ module _ (rise : VersionsRise) (secret : Bytes) (w : World) (s : Ideal) (name : 
   on_last : (uuid : Bytes) (v : Version) → last_of uuid a.versions ≡ Some v → (base : HasBase rows uuid v.stamp) → base.1.kind ≡ v.kind
   on_last uuid v last (number, local, stands, base) =
       kind_is local v (ap (λ (u : Bytes). last_of u a.versions) stands.1 ∙ last)
-      (subst (λ (o : Option ℕ). ShowsBase a local o) base (holder.locals number local stands.0).base)
+      (subst (λ (o : Option ℕ). ShowsBase a (greatest 0 d.held) local o) base (holder.locals number local stands.0).base)
 
   -- a row stands on a version
-  based : (local : LocalItem) → ShowsLocal s name (greatest 0 d.held) a local → (stamp : ℕ) × (local.base ≡ Some stamp) × IsBase a local stamp
+  based : (local : LocalItem) → ShowsLocal s name (greatest 0 d.held) a local → (stamp : ℕ) × (local.base ≡ Some stamp) × IsBase a (greatest 0 d.held) local stamp
   based local shown = by local.base refl shown.base
     where
       none : local.latest ≡ None
       none = (subst (λ (o : Option Draft). ShowsDrafted a.sets (greatest 0 d.held) local o) (undrafted local.uuid) shown.draft).0
 
-      by : (base : Option ℕ) → local.base ≡ base → ShowsBase a local base → (stamp : ℕ) × (local.base ≡ Some stamp) × IsBase a local stamp
+      by : (base : Option ℕ) → local.base ≡ base → ShowsBase a (greatest 0 d.held) local base → (stamp : ℕ) × (local.base ≡ Some stamp) × IsBase a (greatest 0 d.held) local stamp
       by None e k = absurd (nothing (subst (λ (o : Option RowBody). IsSome o) none k.1))
       by (Some stamp) e k = (stamp, e, k)
 

@@ -211,7 +211,7 @@ module _ (synced : SyncedRows) (secret : Bytes) (w : World) (s : Ideal) (h : Hol
       let there = all.has in
       let none : w.devices name key.Owner ≡ None = nothing.none key.Owner in
       absurd (cc)
-  by_device (Some d) is (a, account, holder, _) =
+  by_device (Some d) is (a, account, holder) =
       let has : HasAccount s name d a = record { device = is; account = account } in
       let undrafted = no_draft (w.devices name) s name d a holder none_waits in
       record {

@@ -25,7 +25,7 @@ use Rattle.sn_world.proofs.Based.{Based, based_on, takes_fresh}
 use Rattle.sn_world.proofs.DeviceRows.{one_local, posted_put, unstale_put, unstale_removed}
 use Rattle.sn_world.proofs.DeviceSets.{free_undrafted}
 use Rattle.sn_world.proofs.Frames.{live_kept}
-use Rattle.sn_world.proofs.ShowsLemmas.{IsPut, asks_nothing, put_asks, put_holder, shows_of}
+use Rattle.sn_world.proofs.ShowsLemmas.{IsPut, put_holder, shows_of}
 use Rattle.sn_world.proofs.Standing.{its_last}
 use Rattle.sn_world.proofs.TakenFrames.{Along, Past, Took, number_free, past_put, past_removed, posted_removed, took_clean, took_nothing, undrafted, unsent}
 use Rattle.sn_world.proofs.TakenMet.{own_uuid, past_so, takes_last}
@@ -45,8 +45,8 @@ module _ (one_stamp : HasOneStamp) (server : Rows) (name : Bytes) (n : ℕ) (a :
   -- ---- a row without a draft
 
   module _ (change : Change) (number : ℕ) (t : TakesLast change number i None) (none : draft_at s name i.uuid ≡ None) where
-    based : Based a change number i None t (its_last server s.accounts n a i.uuid stored.0 h.accounts h.at stored.1 stored.2).0
-    based = based_on one_stamp server s.accounts n a i h.accounts h.at stored change number None t
+    based : Based a g change number i None t (its_last server s.accounts n a i.uuid stored.0 h.accounts h.at stored.1 stored.2).0
+    based = based_on one_stamp server s.accounts n a g i h.accounts h.at stored change number None t
 
     abbrev new : LocalItem
     new = t.puts.local
@@ -55,13 +55,12 @@ module _ (one_stamp : HasOneStamp) (server : Rows) (name : Bytes) (n : ℕ) (a :
     shown = record {
       draft = subst (λ (o : Option Draft). ShowsDrafted a.sets g new o) (sym (ap (draft_at s name) based.uuid_is ∙ none))
           (ap (λ (c : Columns). c.latest) t.puts.columns_are ∙ t.stands_on.latest_is, ap (λ (c : Columns). c.posted) t.puts.columns_are ∙ t.stands_on.posted_is);
-      base = subst (λ (b : Option ℕ). ShowsBase a new b) (sym based.base_is) based.on;
+      base = subst (λ (b : Option ℕ). ShowsBase a g new b) (sym based.base_is) based.on;
     }
 
     put_shows : IsPut p.rows s s name g a change number new → ShowsDevice (rows_after p.rows (change ∷ [])) s name
     put_shows put =
         shows_of (rows_after p.rows (change ∷ [])) s name d a h.has (put_holder p.rows s s name d a change number new put holder)
-        (put_asks p.rows s s name d a change number new put (asks_nothing p.rows s name d a h.shows h.has))
 
     -- in the row that the item has
     again_shows : (local : LocalItem) → HasItem p.rows i.uuid number local → ShowsDevice (rows_after p.rows (change ∷ [])) s name

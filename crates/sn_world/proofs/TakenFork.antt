@@ -1,12 +1,11 @@
 -- A draft's text meets another version: it goes on as a copy of its own, in a row of its own, and its row takes the version.
-use Rattle.std.proofs.Common.{◌≡◌, ◌≢◌, ◌<◌, ℕ, List, [], ◌∷◌, ◌++◌, Some, None, true, false, refl, sym, ap, ◌∙◌, subst, ⊎_elim, append_assoc, arith}
+use Rattle.std.proofs.Common.{◌≡◌, ◌≢◌, ◌<◌, ℕ, List, [], ◌∷◌, ◌++◌, Some, None, true, false, refl, sym, ap, ◌∙◌, subst, append_assoc, arith}
 use Rattle.std.specs.Prelude.{IsTrue}
 use Rattle.sn_account.specs.Tells.{IsStored}
 use Rattle.sn_client.specs.Laws.{AreStanding}
 use Rattle.sn_client.specs.States.{Columns, HasItem}
 use Rattle.sn_client.specs.Taking.{Copies, Progress, TakesBody}
 use Rattle.sn_conflict.specs.Meetings.{MeetsText}
-use Rattle.sn_items.specs.Items.{OpensItem}
 use Rattle.sn_laws.proofs.Facts.{found_passes, one_there}
 use Rattle.sn_laws.specs.Lookups.{Bytes, draft_at, greatest, is_draft}
 use Rattle.sn_laws.specs.Moves.{after, allows, copied, forked}
@@ -24,13 +23,12 @@ use Rattle.sn_rows.specs.declared.change.Change.{Change}
 use Rattle.sn_rows.specs.declared.device_rows.LocalItem.{LocalItem}
 use Rattle.sn_rows.specs.declared.device_rows.OwnerRow.{OwnerRow}
 use Rattle.sn_rows.specs.declared.key.Key.TheVariants as key
-use Rattle.sn_sets.specs.Sets.{OpensHeld, OpensOlder, sealed_of}
+use Rattle.sn_sets.specs.Sets.{OpensHeld, sealed_of}
 use Rattle.sn_sets.specs.declared.sets.Sets.{Sets}
 use Rattle.sn_shows.proofs.Facts.{forked_shows, holder_of, removed_shows}
 use Rattle.sn_shows.specs.Devices.{ShowsContent, ShowsDevice, ShowsDraft, ShowsHolder}
 use Rattle.sn_shows.specs.Laws.{PutsItem}
 use Rattle.sn_shows.specs.Sets.{OpensUnder}
-use Rattle.sn_string.specs.declared.params.KeySet.{KeySet}
 use Rattle.sn_sync.specs.declared.item.Body.{Body}
 use Rattle.sn_sync.specs.declared.item.Body.TheVariants as body
 use Rattle.sn_sync.specs.declared.item.Item.{Item}
@@ -40,12 +38,13 @@ use Rattle.sn_world.proofs.DeviceSets.{free_undrafted, present_at}
 use Rattle.sn_world.proofs.DraftMet.{fork_legal, text_of}
 use Rattle.sn_world.proofs.DraftMoves.{moved, moved_keeps, moved_numbers}
 use Rattle.sn_world.proofs.Frames.{live_kept}
+use Rattle.sn_world.proofs.HeldStrings.{held_text}
 use Rattle.sn_world.proofs.Settling.{drafted, shown}
 use Rattle.sn_world.proofs.ShowsLemmas.{draft_is, draft_passes, find_moved}
 use Rattle.sn_world.proofs.Steps.{reached_more}
 use Rattle.sn_world.proofs.TakenFrames.{Along, Past, Took, changes_commute, number_free, past_put, past_removed, sets_after, took_changes}
 use Rattle.sn_world.proofs.TakenLive.{live_past}
-use Rattle.sn_world.proofs.TakenMet.{TakingLaws, met_of, own_uuid, present_only, takes_last}
+use Rattle.sn_world.proofs.TakenMet.{TakingLaws, last_under, met_of, own_uuid, takes_last}
 use Rattle.sn_world.specs.Holds.{NoneStale}
 use Rattle.sn_world.specs.Live.{LiveItem}
 use Rattle.sn_world.specs.Settling.{MeetsStored}
@@ -53,13 +52,6 @@ use Rattle.sn_world.specs.Settling.{MeetsStored}
 abbrev text_in : Content → Bytes
 text_in (Plain text) = text
 text_in Deleted = []
-
--- what opens under a set that is held, where there is no older one
-pub present_opens : (sets : Sets) → sets.older ≡ None → (uuid : Bytes) (strings : RowStrings) (text : Bytes) → OpensHeld sets uuid (sealed_of strings) text
-    → OpensItem (sealed_of strings) uuid sets.present text
-present_opens sets no_older uuid strings text opens =
-    ⊎_elim (λ (present : OpensItem (sealed_of strings) uuid sets.present text). present)
-    (λ (older : OpensOlder sets uuid (sealed_of strings) text). let some : sets.older ≡ Some older.set = older.held in absurd (cc)) opens
 
 module _ (laws : TakingLaws) (server : Rows) (name : Bytes) (n : ℕ) (a : Account) (d : Device) (owner : OwnerRow) (sets : Sets) (no_older : sets.older ≡ None)
     (p : Progress) (s : Ideal) (h : Along server name n a d owner sets p s) (i : Item) (stored : IsStored server n i) (number : ℕ) (local : LocalItem)
@@ -93,27 +85,23 @@ module _ (laws : TakingLaws) (server : Rows) (name : Bytes) (n : ℕ) (a : Accou
 
   legal : IsTrue (allows s (Fork name i.uuid other))
   legal =
-      fork_legal server p.rows s name n number a d local i laws.one_stamp laws.one_text met (present_only server name n a d owner sets p s h) x.strings other refl
+      fork_legal server p.rows s name n number a d local i laws.one_stamp laws.one_text met (last_under server name n a d owner sets p s h i.uuid) x.strings other refl
       x.other.meets.news x.other.differs x.other.differed free
 
   -- ---- the copy is the draft's
 
   shown_text : (text : Bytes) × (own.0.latest ≡ Plain text) × OpensUnder a.sets g i.uuid (sealed_of x.strings) text
-  shown_text =
-      text_of server p.rows s name n number a d local i laws.one_stamp laws.one_text met (present_only server name n a d owner sets p s h) x.strings refl
+  shown_text = text_of server p.rows s name n number a d local i laws.one_stamp laws.one_text met x.strings refl
 
   same_text : shown_text.0 ≡ copies.text
   same_text =
       let drafted_so : local.latest ≡ Some (row.Sealed x.strings) = x.other.meets.drafted in
       let copied_so : local.latest ≡ Some (row.Sealed copies.strings) = copies.drafted in
       let strings : copies.strings ≡ x.strings = cc in
-      let copied_text : OpensItem (sealed_of x.strings) i.uuid sets.present copies.text =
-      subst (λ (u : Bytes). OpensItem (sealed_of x.strings) u sets.present copies.text) stands.1
-      (subst (λ (z : RowStrings). OpensItem (sealed_of z) local.uuid sets.present copies.text) strings
-      (present_opens sets no_older local.uuid copies.strings copies.text copies.opens)) in
-      let only : shown_text.2.set ≡ sets.present = present_only server name n a d owner sets p s h g shown_text.2.set shown_text.2.at in
-      laws.one_text (sealed_of x.strings) i.uuid sets.present shown_text.0 copies.text
-      (subst (λ (k : KeySet). OpensItem (sealed_of x.strings) i.uuid k shown_text.0) only shown_text.2.opens) copied_text
+      let held : OpensHeld sets i.uuid (sealed_of x.strings) copies.text =
+      subst (λ (u : Bytes). OpensHeld sets u (sealed_of x.strings) copies.text) stands.1
+      (subst (λ (z : RowStrings). OpensHeld sets local.uuid (sealed_of z) copies.text) strings copies.opens) in
+      held_text p.rows s name d a owner sets holder h.holds laws.one_text met.one_set i.uuid (sealed_of x.strings) g shown_text.0 copies.text shown_text.2 held
 
   copy_is : copied own.0.latest own.0.uuid ≡ Plain text
   copy_is =

@@ -9,11 +9,13 @@ use Rattle.sn_client.specs.Taking.{Progress, StandsOn}
 use Rattle.sn_items.specs.ItemLaws.{OneContent}
 use Rattle.sn_laws.proofs.Facts.{one_there}
 use Rattle.sn_laws.specs.Laws.{VersionsRise}
-use Rattle.sn_laws.specs.Lookups.{Bytes, greatest}
+use Rattle.sn_laws.specs.Lookups.{Bytes, greatest, last_of}
 use Rattle.sn_laws.specs.Reached.{DeletionsStay}
+use Rattle.sn_laws.specs.Relation.{IsUnder}
 use Rattle.sn_laws.specs.declared.ideal.Account.{Account}
 use Rattle.sn_laws.specs.declared.ideal.Device.{Device}
 use Rattle.sn_laws.specs.declared.ideal.Ideal.{Ideal}
+use Rattle.sn_laws.specs.declared.ideal.Version.{Version}
 use Rattle.sn_rows.specs.Table.{Rows}
 use Rattle.sn_rows.specs.declared.body.RowBody.{RowBody}
 use Rattle.sn_rows.specs.declared.change.Change.{Change}
@@ -27,8 +29,9 @@ use Rattle.sn_string.specs.declared.params.KeySet.{KeySet}
 use Rattle.sn_sync.specs.Laws.{HasOneStamp, HasOneToken}
 use Rattle.sn_sync.specs.declared.item.Body.TheVariants as body
 use Rattle.sn_sync.specs.declared.item.Item.{Item}
+use Rattle.sn_world.proofs.AccountSets.{one_set}
 use Rattle.sn_world.proofs.DeviceSets.{present_at}
-use Rattle.sn_world.proofs.OneSets.{one_number, one_set}
+use Rattle.sn_world.proofs.OneSets.{holds_last, one_number}
 use Rattle.sn_world.proofs.TakenFrames.{Along, Past}
 use Rattle.sn_world.specs.Settling.{AppliesLive, MeetsStored, TakesLast}
 
@@ -72,13 +75,18 @@ past_so rows later now uuid same past = subst (λ (r : Rows). Past rows r uuid) 
 
 module _ (server : Rows) (name : Bytes) (n : ℕ) (a : Account) (d : Device) (owner : OwnerRow) (sets : Sets) (p : Progress) (s : Ideal)
     (h : Along server name n a d owner sets p s) where
-  -- the present set is the account's only one
-  pub present_only : (k : ℕ) (set : KeySet) → set_at k a.sets ≡ Some set → set ≡ sets.present
-  present_only k set is =
-      let g : ℕ = greatest 0 d.held in
-      let present : set_at g a.sets ≡ Some sets.present = present_at p.rows s name d a owner sets (holder_of p.rows s name d a h.shows h.has) h.holds in
-      let same : k ≡ g = one_number s h.reached n a h.at k set is ∙ sym (one_number s h.reached n a h.at g sets.present present) in
-      one_there set sets.present (set_at g a.sets) (subst (λ (m : ℕ). set_at m a.sets ≡ Some set) same is) present
+  present : set_at (greatest 0 d.held) a.sets ≡ Some sets.present
+  present = present_at p.rows s name d a owner sets (holder_of p.rows s name d a h.shows h.has) h.holds
+
+  -- the present set is the account's set of the greatest number that is held
+  pub present_set : (set : KeySet) → set_at (greatest 0 d.held) a.sets ≡ Some set → set ≡ sets.present
+  present_set set is = one_there set sets.present (set_at (greatest 0 d.held) a.sets) is present
+
+  -- the last version of an item is under that set: the account has no other yet
+  pub last_under : (uuid : Bytes) (v : Version) → last_of uuid a.versions ≡ Some v → (k : ℕ) (set : KeySet) → IsUnder k v.body → set_at k a.sets ≡ Some set
+      → k ≡ greatest 0 d.held
+  last_under uuid v last k set under is =
+      one_number s h.reached n a h.at k set is ∙ sym (holds_last s h.reached p.rows name d a h.has h.shows)
 
   abbrev pub met_of : (i : Item) → IsStored server n i → (number : ℕ) (local : LocalItem) → HasItem p.rows i.uuid number local → (latest : RowBody) → local.latest ≡ Some latest
       → MeetsStored server p.rows s name n number a d local i

@@ -27,7 +27,7 @@ use Rattle.sn_world.proofs.TakenEnded.{takes_ended}
 use Rattle.sn_world.proofs.TakenFork.{takes_fork}
 use Rattle.sn_world.proofs.TakenFrames.{Along, Past, Took, took_nothing}
 use Rattle.sn_world.proofs.TakenLive.{live_past, saved_content}
-use Rattle.sn_world.proofs.TakenMet.{TakingLaws, met_of, past_so, present_only}
+use Rattle.sn_world.proofs.TakenMet.{TakingLaws, last_under, met_of, past_so}
 use Rattle.sn_world.proofs.TakenPosted.{takes_posted}
 use Rattle.sn_world.specs.Applying.{SaysServer}
 use Rattle.sn_world.specs.Live.{LiveItem}
@@ -81,7 +81,7 @@ module _ (laws : TakingLaws) (server : Rows) (name : Bytes) (n : ℕ) (a : Accou
       always false q (GiveWay name i.uuid ∷ [])
       (takes_ended laws server name n a d owner sets no_older p s h i stored number local stands row.Deleted x.meets.drafted (GiveWay name i.uuid) refl tt
       (away_legal server p.rows s name n number a d local i laws.one_stamp laws.one_text
-      (met_of server name n a d owner sets p s h i stored number local stands row.Deleted x.meets.drafted) (present_only server name n a d owner sets p s h) refl
+      (met_of server name n a d owner sets p s h i stored number local stands row.Deleted x.meets.drafted) (last_under server name n a d owner sets p s h i.uuid) refl
       x.meets.news x.differs x.differed)
       q standing (live number local stands false linked x.meets.news) i.body refl takes)
 

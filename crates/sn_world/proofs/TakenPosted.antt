@@ -91,8 +91,8 @@ module _ (laws : TakingLaws) (server : Rows) (name : Bytes) (n : ℕ) (a : Accou
     abbrev takes : TakesLast change number i local.latest
     takes = takes_last sets no_older p.words i content enc is local.latest c left change number stands_on puts
 
-    based : Based a change number i local.latest takes (its_last server s.accounts n a i.uuid stored.0 h.accounts h.at stored.1 stored.2).0
-    based = based_on laws.one_stamp server s.accounts n a i h.accounts h.at stored change number local.latest takes
+    based : Based a (greatest 0 d.held) change number i local.latest takes (its_last server s.accounts n a i.uuid stored.0 h.accounts h.at stored.1 stored.2).0
+    based = based_on laws.one_stamp server s.accounts n a (greatest 0 d.held) i h.accounts h.at stored change number local.latest takes
 
     same_stamp : stands_on.stamp ≡ stamp
     same_stamp = one_named laws.one_stamp i stands_on.stamp stamp stands_on.stamped named
@@ -100,14 +100,14 @@ module _ (laws : TakingLaws) (server : Rows) (name : Bytes) (n : ℕ) (a : Accou
     kind_is : local.kind ≡ i.kind
     kind_is = kind_of sets local i x.same.0 content enc (subst (λ (z : Body). HasContentOf sets local x.same.0 i z) is x.same.2)
 
-    answered : PutsAnswered change number a local stamp
+    answered : PutsAnswered change number a (greatest 0 d.held) local stamp
     answered = record {
       again = puts.local;
       puts = puts.puts;
       uuid_is = based.uuid_is ∙ sym stands.1;
       kind_is = ap (λ (k : Columns). k.kind) puts.columns_are ∙ stands_on.kind_is ∙ sym kind_is;
       base = based.base_is ∙ ap Some same_stamp;
-      on = subst (λ (k : ℕ). IsBase a puts.local k) same_stamp based.on;
+      on = subst (λ (k : ℕ). IsBase a (greatest 0 d.held) puts.local k) same_stamp based.on;
       latest = ap (λ (k : Columns). k.latest) puts.columns_are ∙ stands_on.latest_is;
       posted = ap (λ (k : Columns). k.posted) puts.columns_are ∙ stands_on.posted_is;
     }

@@ -8,7 +8,6 @@ use Rattle.sn_client.specs.Laws.{AreStanding}
 use Rattle.sn_client.specs.Sending.{PutsColumns}
 use Rattle.sn_client.specs.States.{Columns, HasLocal}
 use Rattle.sn_client.specs.Taking.{Progress, Renames, new_columns}
-use Rattle.sn_items.specs.Items.{OpensItem}
 use Rattle.sn_laws.proofs.Facts.{allowed_to, last_among, one_there}
 use Rattle.sn_laws.specs.Each.{One}
 use Rattle.sn_laws.specs.Lookups.{Bytes, draft_at, greatest, is_draft}
@@ -40,20 +39,20 @@ use Rattle.sn_sets.specs.declared.sets.Sets.{Sets}
 use Rattle.sn_shows.proofs.Facts.{holder_of, one_at, renamed_shows}
 use Rattle.sn_shows.specs.Devices.{ShowsBase, ShowsContent, ShowsDevice, ShowsDraft, ShowsHolder, ShowsLocal}
 use Rattle.sn_shows.specs.Laws.{PutsItem}
-use Rattle.sn_string.specs.declared.params.KeySet.{KeySet}
 use Rattle.sn_sync.specs.declared.item.Item.{Item}
+use Rattle.sn_world.proofs.AccountSets.{one_set}
 use Rattle.sn_world.proofs.DeviceRows.{one_local, posted_elsewhere, puts_new, unstale_put}
 use Rattle.sn_world.proofs.DeviceSets.{account_is, free_undrafted, present_at, row_draft}
 use Rattle.sn_world.proofs.DraftMoves.{moved, moved_keeps, moved_numbers}
+use Rattle.sn_world.proofs.HeldStrings.{held_text}
 use Rattle.sn_world.proofs.Items.{apart_numbers}
 use Rattle.sn_world.proofs.Lasts.{has_last}
 use Rattle.sn_world.proofs.ShowsLemmas.{draft_is, draft_passes, find_moved}
 use Rattle.sn_world.proofs.Standing.{StandsFor, stands_for}
 use Rattle.sn_world.proofs.Steps.{reached_more}
 use Rattle.sn_world.proofs.TakenEnded.{ends_gone}
-use Rattle.sn_world.proofs.TakenFork.{present_opens}
 use Rattle.sn_world.proofs.TakenFrames.{Along, Took, took_nothing, took_one}
-use Rattle.sn_world.proofs.TakenMet.{TakingLaws, present_only}
+use Rattle.sn_world.proofs.TakenMet.{TakingLaws}
 use Rattle.sn_world.proofs.Tokens.{apart_of}
 use Rattle.sn_world.specs.Applying.{SaysForeign, renaming}
 use Rattle.sn_world.specs.Live.{LiveItem}
@@ -81,7 +80,7 @@ module _ (laws : TakingLaws) (server : Rows) (name : Bytes) (n : ℕ) (a : Accou
   pub no_base : local.base ≡ None
   no_base = by local.base refl shown.base
     where
-      by : (base : Option ℕ) → local.base ≡ base → ShowsBase a local base → local.base ≡ None
+      by : (base : Option ℕ) → local.base ≡ base → ShowsBase a g local base → local.base ≡ None
       by None e k = e
       by (Some stamp) e k =
           let last = has_last local.uuid a.versions k.listed.version k.listed.among k.listed.item_is in
@@ -154,9 +153,8 @@ module _ (laws : TakingLaws) (server : Rows) (name : Bytes) (n : ℕ) (a : Accou
         by : (c : Content) → ShowsContent a.sets g local.uuid (row.Sealed strings) c → c ≡ content.Plain text
         by content.Deleted k = absurd k
         by (content.Plain t) k =
-            ap content.Plain (laws.one_text (sealed_of strings) local.uuid sets.present t text
-            (subst (λ (z : KeySet). OpensItem (sealed_of strings) local.uuid z t) (present_only server name n a d owner sets p s h g k.set k.at) k.opens)
-            (present_opens sets no_older local.uuid strings text opens))
+            ap content.Plain (held_text p.rows s name d a owner sets holder h.holds laws.one_text (one_set s h.reached n a h.at) local.uuid (sealed_of strings) g t
+            text k opens)
 
     legal : IsTrue (allows s (Rename name local.uuid other))
     legal =

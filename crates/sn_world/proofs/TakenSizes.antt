@@ -98,10 +98,14 @@ adds_removed p q c at is gone =
 
 -- ---- strings
 
--- a device without an older set keeps a version's strings as they are given
-kept_weight : (sets : Sets) → sets.older ≡ None → (words : ChaCha) (uuid content enc : Bytes) (strings : RowStrings) (stale : Bool) (left : ChaCha)
+-- strings are kept that are about as long as those that were given
+abbrev pub KeepsWeight : Sets → Type 0
+KeepsWeight sets = (words : ChaCha) (uuid content enc : Bytes) (strings : RowStrings) (stale : Bool) (left : ChaCha)
     → IsKeptAs sets words uuid (record { content = content; enc = enc }) strings stale left
-    → body_size (Some (row.Sealed strings)) ≡ 9 + length content + length enc
+    → body_size (Some (row.Sealed strings)) ≤ 20000 + length content + length enc
+
+-- a device without an older set keeps a version's strings as they are given
+pub kept_weight : (sets : Sets) → sets.older ≡ None → KeepsWeight sets
 kept_weight sets none words uuid content enc strings stale left (inl (closed, same, fresh, left_is)) =
     let size = strings_size strings in
     let c : length strings.content ≡ length content = ap (λ (z : Sealed). length z.content) same in
@@ -131,55 +135,55 @@ new_size uuid kind strings = let most = body_most (Some (row.Sealed strings)) in
 
 -- ---- a version of the server's
 
-module _ (sets : Sets) (none : sets.older ≡ None) where
+module _ (sets : Sets) (weight : KeepsWeight sets) where
   -- a row takes it
   adds_body : (p q : Progress) (number : ℕ) (i : Item) (b : Body) (latest posted : Option RowBody) → AreBytes 16 i.uuid
-      → TakesBody sets p number i b latest posted q → Adds p q (500 + weigh b + body_size latest + body_size posted)
+      → TakesBody sets p number i b latest posted q → Adds p q (20500 + weigh b + body_size latest + body_size posted)
   adds_body p q number i body.Deleted latest posted uuid (c, gone, is) =
-      adds_within p q 100 (500 + 0 + body_size latest + body_size posted) (omega arith) (adds_removed p q c number is gone)
+      adds_within p q 100 (20500 + 0 + body_size latest + body_size posted) (omega arith) (adds_removed p q c number is gone)
   adds_body p q number i (body.Strings content enc) latest posted uuid (cs, left, c, on, puts, is) =
       let body_is : body_size cs.body ≡ body_size (Some (row.Sealed on.strings)) = ap body_size on.body_is in
-      let kept = kept_weight sets none p.words i.uuid content enc on.strings cs.stale left on.kept in
+      let kept = weight p.words i.uuid content enc on.strings cs.stale left on.kept in
       let latest_is : body_size cs.latest ≡ body_size latest = ap body_size on.latest_is in
       let posted_is : body_size cs.posted ≡ body_size posted = ap body_size on.posted_is in
-      adds_within p q (columns_size cs) (500 + (length content + length enc) + body_size latest + body_size posted) (omega arith)
+      adds_within p q (columns_size cs) (20500 + (length content + length enc) + body_size latest + body_size posted) (omega arith)
       (adds_put p q c number cs (ap (λ (z : Progress). z.rows) is) (ap (λ (z : Progress). z.changes) is) puts (subst (AreBytes 16) (sym on.uuid_is) uuid))
 
   -- it meets a row
   abbrev Met : Progress → Progress → Item → Type 0
-  Met p q i = Adds p q (2115000 + weigh i.body)
+  Met p q i = Adds p q (2136000 + weigh i.body)
 
   adds_meets : (p q : Progress) (number : ℕ) (local : LocalItem) (i : Item) (how : Meeting) → AreBytes 16 i.uuid → Meets sets p number local i how q
       → Met p q i
-  adds_meets p q number local i meeting.Same uuid same = adds_within p q 0 (2115000 + weigh i.body) (omega arith) (adds_none p q same)
+  adds_meets p q number local i meeting.Same uuid same = adds_within p q 0 (2136000 + weigh i.body) (omega arith) (adds_none p q same)
   adds_meets p q number local i meeting.Take uuid takes =
-      adds_within p q (500 + weigh i.body + 1 + 1) (2115000 + weigh i.body) (omega arith) (adds_body p q number i i.body None None uuid takes)
+      adds_within p q (20500 + weigh i.body + 1 + 1) (2136000 + weigh i.body) (omega arith) (adds_body p q number i i.body None None uuid takes)
   adds_meets p q number local i (meeting.Own true) uuid takes =
-      adds_within p q (500 + weigh i.body + 1 + 1) (2115000 + weigh i.body) (omega arith) (adds_body p q number i i.body None None uuid takes)
+      adds_within p q (20500 + weigh i.body + 1 + 1) (2136000 + weigh i.body) (omega arith) (adds_body p q number i i.body None None uuid takes)
   adds_meets p q number local i (meeting.Own false) uuid takes =
       let draft = body_most local.latest in
-      adds_within p q (500 + weigh i.body + body_size local.latest + 1) (2115000 + weigh i.body) (omega arith)
+      adds_within p q (20500 + weigh i.body + body_size local.latest + 1) (2136000 + weigh i.body) (omega arith)
       (adds_body p q number i i.body local.latest None uuid takes)
   adds_meets p q number local i meeting.GiveWay uuid takes =
-      adds_within p q (500 + weigh i.body + 1 + 1) (2115000 + weigh i.body) (omega arith) (adds_body p q number i i.body None None uuid takes)
+      adds_within p q (20500 + weigh i.body + 1 + 1) (2136000 + weigh i.body) (omega arith) (adds_body p q number i i.body None None uuid takes)
   adds_meets p q number local i meeting.Fork uuid (r, copies, takes) =
       let new : Columns = new_columns copies.uuid local.kind copies.copy in
       let few = new_size copies.uuid local.kind copies.copy in
       let copied : Adds p r (columns_size new) =
       adds_put p r copies.change p.next new (ap (λ (z : Progress). z.rows) copies.gives) (ap (λ (z : Progress). z.changes) copies.gives) copies.puts
       (sealed_uuid copies.rest sets.present copies.uuid _ copies.copy copies.left copies.seals) in
-      adds_within p q (columns_size new + (500 + weigh i.body + 1 + 1)) (2115000 + weigh i.body) (omega arith)
-      (adds_both p r q (columns_size new) (500 + weigh i.body + 1 + 1) copied (adds_body r q number i i.body None None uuid takes))
+      adds_within p q (columns_size new + (20500 + weigh i.body + 1 + 1)) (2136000 + weigh i.body) (omega arith)
+      (adds_both p r q (columns_size new) (20500 + weigh i.body + 1 + 1) copied (adds_body r q number i i.body None None uuid takes))
 
   -- it makes a row
-  adds_row : (p q : Progress) (i : Item) (b : Body) → AreStringsOf i.uuid b → MakesRow sets p i b q → Adds p q (2115000 + weigh b)
-  adds_row p q i body.Deleted its same = adds_within p q 0 (2115000 + 0) (omega arith) (adds_none p q same)
+  adds_row : (p q : Progress) (i : Item) (b : Body) → AreStringsOf i.uuid b → MakesRow sets p i b q → Adds p q (2136000 + weigh b)
+  adds_row p q i body.Deleted its same = adds_within p q 0 (2136000 + 0) (omega arith) (adds_none p q same)
   adds_row p q i (body.Strings content enc) its (room, cs, left, c, on, puts, is) =
       let body_is : body_size cs.body ≡ body_size (Some (row.Sealed on.strings)) = ap body_size on.body_is in
-      let kept = kept_weight sets none p.words i.uuid content enc on.strings cs.stale left on.kept in
+      let kept = weight p.words i.uuid content enc on.strings cs.stale left on.kept in
       let latest_is : body_size cs.latest ≡ 1 = ap body_size on.latest_is in
       let posted_is : body_size cs.posted ≡ 1 = ap body_size on.posted_is in
-      adds_within p q (columns_size cs) (2115000 + (length content + length enc)) (omega arith)
+      adds_within p q (columns_size cs) (2136000 + (length content + length enc)) (omega arith)
       (adds_put p q c p.next cs (ap (λ (z : Progress). z.rows) is) (ap (λ (z : Progress). z.changes) is) puts
       (subst (AreBytes 16) (sym on.uuid_is) (string_uuid i.uuid content enc its)))
 
@@ -190,50 +194,50 @@ module _ (sets : Sets) (none : sets.older ≡ None) where
 
   -- ---- what isn't saved
 
-  adds_renames : (p q : Progress) (number : ℕ) (local : LocalItem) (latest : Option RowBody) → Renames sets p number local latest q → Adds p q 4230000
-  adds_renames p q number local None same = adds_within p q 0 4230000 (omega arith) (adds_none p q same)
-  adds_renames p q number local (Some row.Deleted) (c, gone, is) = adds_within p q 100 4230000 (omega arith) (adds_removed p q c number is gone)
-  adds_renames p q number local (Some (row.Sealed strings)) (inl (closed, same)) = adds_within p q 0 4230000 (omega arith) (adds_none p q same)
+  adds_renames : (p q : Progress) (number : ℕ) (local : LocalItem) (latest : Option RowBody) → Renames sets p number local latest q → Adds p q 4240000
+  adds_renames p q number local None same = adds_within p q 0 4240000 (omega arith) (adds_none p q same)
+  adds_renames p q number local (Some row.Deleted) (c, gone, is) = adds_within p q 100 4240000 (omega arith) (adds_removed p q c number is gone)
+  adds_renames p q number local (Some (row.Sealed strings)) (inl (closed, same)) = adds_within p q 0 4240000 (omega arith) (adds_none p q same)
   adds_renames p q number local (Some (row.Sealed strings)) (inr (text, uuid, rest, again, left, c, opens, fresh, seals, puts, is)) =
       let few = new_size uuid local.kind again in
-      adds_within p q (columns_size (new_columns uuid local.kind again)) 4230000 (omega arith)
+      adds_within p q (columns_size (new_columns uuid local.kind again)) 4240000 (omega arith)
       (adds_put p q c number (new_columns uuid local.kind again) (ap (λ (z : Progress). z.rows) is) (ap (λ (z : Progress). z.changes) is) puts
       (sealed_uuid rest sets.present uuid text again left seals))
 
   adds_unsaved : (p q : Progress) (number : ℕ) (local : LocalItem) (c : Conflict) → AreBytes 16 local.uuid → TakesUnsaved sets p number local c q
-      → Adds p q 4230000
+      → Adds p q 4240000
   adds_unsaved p q number local (conflict.Sync server) uuid takes = absurd takes
   adds_unsaved p q number local (conflict.Uuid unsaved) uuid renames = adds_renames p q number local local.latest renames
   adds_unsaved p q number local (conflict.Content unsaved) uuid (c, puts, is) =
       let base = body_most local.body in
       let draft = body_most local.latest in
-      adds_within p q (columns_size (unposted (columns local))) 4230000 (omega arith)
+      adds_within p q (columns_size (unposted (columns local))) 4240000 (omega arith)
       (adds_put p q c number (unposted (columns local)) (ap (λ (z : Progress). z.rows) is) (ap (λ (z : Progress). z.changes) is) puts uuid)
 
-  adds_own : (p q : Progress) (uuid : Bytes) (c : Conflict) → FitsUuids p.rows → TakesOwn sets p uuid c q → Adds p q 4230000
+  adds_own : (p q : Progress) (uuid : Bytes) (c : Conflict) → FitsUuids p.rows → TakesOwn sets p uuid c q → Adds p q 4240000
   adds_own p q uuid c have (inl (number, local, stands, takes)) = adds_unsaved p q number local c (have number local stands.0) takes
-  adds_own p q uuid c have (inr (free, same)) = adds_within p q 0 4230000 (omega arith) (adds_none p q same)
+  adds_own p q uuid c have (inr (free, same)) = adds_within p q 0 4240000 (omega arith) (adds_none p q same)
 
   -- ---- all that an answer tells
 
   abbrev pub bound : Told → ℕ
-  bound (is_saved i) = 4230000
-  bound (is_conflict c) = 4230000
-  bound (is_retrieved i) = 2115000 + weigh i.body
+  bound (is_saved i) = 4240000
+  bound (is_conflict c) = 4240000
+  bound (is_retrieved i) = 2136000 + weigh i.body
 
-  adds_conflict : (p q : Progress) (c : Conflict) → IsChecked (is_conflict c) → FitsUuids p.rows → TakesConflict sets p c q → Adds p q 4230000
+  adds_conflict : (p q : Progress) (c : Conflict) → IsChecked (is_conflict c) → FitsUuids p.rows → TakesConflict sets p c q → Adds p q 4240000
   adds_conflict p q (conflict.Sync i) its have takes =
       let short = short_weight i its in
-      adds_within p q (2115000 + weigh i.body) 4230000 (omega arith) (adds_server p q i false its have takes)
+      adds_within p q (2136000 + weigh i.body) 4240000 (omega arith) (adds_server p q i false its have takes)
   adds_conflict p q (conflict.Uuid i) its have takes = adds_own p q i.uuid (conflict.Uuid i) have takes
   adds_conflict p q (conflict.Content i) its have takes = adds_own p q i.uuid (conflict.Content i) have takes
 
   adds_told : (saved : List Item) (p q : Progress) (t : Told) → IsChecked t → FitsUuids p.rows → Takes sets saved p t q → Adds p q (bound t)
   adds_told saved p q (is_saved i) its have takes =
       let short = short_weight i its in
-      adds_within p q (2115000 + weigh i.body) 4230000 (omega arith) (adds_server p q i true its have takes)
+      adds_within p q (2136000 + weigh i.body) 4240000 (omega arith) (adds_server p q i true its have takes)
   adds_told saved p q (is_conflict c) its have takes = adds_conflict p q c its have takes
-  adds_told saved p q (is_retrieved i) its have (inl (passed, same)) = adds_within p q 0 (2115000 + weigh i.body) (omega arith) (adds_none p q same)
+  adds_told saved p q (is_retrieved i) its have (inl (passed, same)) = adds_within p q 0 (2136000 + weigh i.body) (omega arith) (adds_none p q same)
   adds_told saved p q (is_retrieved i) its have (inr (other, takes)) = adds_server p q i false its have takes
 
   abbrev pub bounds : List Told → ℕ
@@ -253,20 +257,20 @@ module _ (sets : Sets) (none : sets.older ≡ None) where
   bounds_append [] ys = omega arith
   bounds_append (x ∷ xs) ys = let rest = bounds_append xs ys in omega arith
 
-  bounds_saved : (saved : List Item) → bounds (map is_saved saved) ≡ 4230000 * length saved
+  bounds_saved : (saved : List Item) → bounds (map is_saved saved) ≡ 4240000 * length saved
   bounds_saved [] = refl
   bounds_saved (i ∷ saved) = let rest = bounds_saved saved in omega arith
 
-  bounds_conflicts : (conflicts : List Conflict) → bounds (map is_conflict conflicts) ≡ 4230000 * length conflicts
+  bounds_conflicts : (conflicts : List Conflict) → bounds (map is_conflict conflicts) ≡ 4240000 * length conflicts
   bounds_conflicts [] = refl
   bounds_conflicts (c ∷ conflicts) = let rest = bounds_conflicts conflicts in omega arith
 
-  bounds_retrieved : (retrieved : List Item) → bounds (map is_retrieved retrieved) ≡ 2115000 * length retrieved + weigh_all retrieved
+  bounds_retrieved : (retrieved : List Item) → bounds (map is_retrieved retrieved) ≡ 2136000 * length retrieved + weigh_all retrieved
   bounds_retrieved [] = refl
   bounds_retrieved (i ∷ retrieved) = let rest = bounds_retrieved retrieved in omega arith
 
   pub bounds_told : (saved : List Item) (conflicts : List Conflict) (retrieved : List Item) → length saved + length conflicts ≤ 150
-      → length retrieved ≤ 150 → weigh_all retrieved ≤ 4194304 → bounds (told_by saved conflicts retrieved) ≤ 956000000
+      → length retrieved ≤ 150 → weigh_all retrieved ≤ 4194304 → bounds (told_by saved conflicts retrieved) ≤ 961000000
   bounds_told saved conflicts retrieved few page weight =
       let a = bounds_append (map is_saved saved) (map is_conflict conflicts ++ map is_retrieved retrieved) in
       let b = bounds_append (map is_conflict conflicts) (map is_retrieved retrieved) in

@@ -111,3 +111,18 @@ token_session apart secret w s h differ name token x k session =
     let there : session_token secret k x.generation ≡ session_token secret k session.account.generation =
     ap (λ (z : ℕ). session_token secret z x.generation) (sym same) ∙ sym x.is ∙ spelled in
     (same, differ k x.generation session.account.generation few_too (omega arith) (omega arith) there)
+
+-- so a device whose token is alive holds its account's last set as its greatest
+pub alive_last : AccountsApart → (secret : Bytes) (w : World) (s : Ideal) → Holds secret w s → TokensDiffer secret → (name token : Bytes)
+    → (x : HasToken secret s.accounts (device_named s name) token) → (k : ℕ) → IsSession w.server token k → greatest 0 x.device.held ≡ length x.account.sets
+alive_last apart secret w s h differ name token x k session =
+    let alike = token_session apart secret w s h differ name token x k session in
+    let b = session_account apart secret w s h token k session in
+    let its : b.0 ≡ x.account =
+    one_there b.0 x.account (account_at k s.accounts) b.1 (subst (λ (j : ℕ). account_at j s.accounts ≡ Some x.account) alike.0 x.at) in
+    let last : session.account.generation ≡ length x.account.sets = b.2 ∙ ap (λ (z : Account). length z.sets) its in
+    let same : x.generation ≡ session.account.generation = alike.1 in
+    let up : x.generation ≤ greatest 0 x.device.held = x.held in
+    let has : HasAccount s name x.device x.account = device_account apart secret w s h name x.number x.account x.device x.at x.named x.own in
+    let within : greatest 0 x.device.held ≤ length x.account.sets = held_within apart secret w s h name x.device x.account has in
+    omega arith

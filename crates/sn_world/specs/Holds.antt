@@ -17,6 +17,8 @@ use Rattle.sn_laws.specs.declared.moves.Move.TheVariants.{Change}
 use Rattle.sn_rows.specs.Table.{Rows}
 use Rattle.sn_rows.specs.declared.device_rows.LocalItem.{LocalItem}
 use Rattle.sn_rows.specs.declared.device_rows.OwnerRow.{OwnerRow}
+use Rattle.sn_rows.specs.declared.key.Key.TheVariants as key
+use Rattle.sn_rows.specs.declared.key.Slot.TheVariants.{Asked}
 use Rattle.sn_rows.specs.declared.server_rows.StoreRow.{StoreRow}
 use Rattle.sn_shows.specs.Devices.{ShowsDevice}
 use Rattle.sn_shows.specs.Laws.{HasAccount}
@@ -75,6 +77,10 @@ NumbersOf s name = (d : Device) (a : Account) → HasAccount s name d a → Post
 -- none is to be sealed again under another set
 abbrev pub NoneStale : Rows → Type 0
 NoneStale rows = (number : ℕ) (local : LocalItem) → HasLocal rows number local → local.stale ≡ false
+
+-- no set is asked for
+abbrev pub AsksNoSet : Rows → Type 0
+AsksNoSet rows = rows (key.Set Asked) ≡ None
 
 -- ---- session tokens
 
@@ -145,10 +151,12 @@ pub record Holds (secret : Bytes) (w : World) (s : Ideal) : Type 0 where
   pub keeps_secret : (store : StoreRow) → HasStore w.server store → store.secret ≡ secret
   pub server : ShowsServer w.server s.accounts
   pub server_sound : (store : StoreRow) → HasStore w.server store → IsSoundServer w.server
-  -- each device: its rows show what the state has of it, and are sound, and no change of password is under way
+  -- each device: its rows show what the state has of it, and are sound, and no change of password is under way: none is to be sealed again, no set is
+  -- asked for
   pub devices : (name : Bytes) → ShowsDevice (w.devices name) s name
   pub sound : (name : Bytes) → IsSound (w.devices name)
   pub unstale : (name : Bytes) → NoneStale (w.devices name)
+  pub unasked : (name : Bytes) → AsksNoSet (w.devices name)
   -- its drafts that were sent, its session token, and its sync token
   pub numbers : (name : Bytes) → NumbersOf s name
   pub own_tokens : (name : Bytes) (d : Device) → device_named s name ≡ Some d → DeviceToken secret (w.devices name) s.accounts d

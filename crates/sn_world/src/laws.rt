@@ -230,7 +230,6 @@ pub fn registers_go()
     says_some();
     registered_begins();
     signed_in_begins();
-    signed_in_renews();
 }
 
 /// So is whatever a sign-in does, where no second password was found that has the check value of the first.
@@ -242,7 +241,6 @@ pub fn sign_ins_go()
     says_some();
     registered_begins();
     signed_in_begins();
-    signed_in_renews();
 }
 
 /// And the first acts of a call alone, behind which its device may be stopped.

@@ -8,5 +8,4 @@ returns c = registers_go (record {
   says = c.says_some.ensures;
   registered = c.registered_begins.ensures;
   begins = c.signed_in_begins.ensures;
-  renews = c.signed_in_renews.ensures;
 })
