@@ -1,0 +1,10 @@
+pub mod Adopting
+pub mod Asking
+pub mod Facts
+pub mod Older
+pub mod Places
+pub mod Reposted
+pub mod Reposting
+pub mod Retiring
+pub mod SetRows
+pub mod Staying
