@@ -1,12 +1,11 @@
 -- The lines of a script that was read are what a call at both ends asks for.
-use Rattle.std.proofs.Common.{◌≡◌, ℕ, zero, suc, ◌<◌, List, [], ◌∷◌, length, get_or, subst, sym, arith}
+use Rattle.std.proofs.Common.{ℕ, zero, suc, ◌<◌, List, [], ◌∷◌, All, length, get_or, arith}
 use Rattle.sn_laws.specs.Each.{Each}
 use Rattle.sn_script.specs.Grammar.{IsLine, Word}
-use Rattle.sn_script.specs.Scripts.{AreLinesFrom, lines_of}
+use Rattle.sn_script.specs.Scripts.{AreLinesFrom, IsScript, lines_of}
 use Rattle.sn_script.specs.declared.script.Line.{Line}
 use Rattle.sn_script.specs.declared.script.Line.TheVariants as line
-use Rattle.sn_script.specs.declared.script.Script.{Script}
-use Rattle.sn_replay.specs.Lines.{IsBounded, IsRead}
+use Rattle.sn_replay.specs.Lines.{IsBounded}
 
 line_bounded : (ws : List Word) (l : Line) → IsLine ws l → IsBounded l
 line_bounded ws (line.Seed bytes) h = tt
@@ -32,10 +31,6 @@ each_at P [] index x h lt = absurd (omega (arith, lt))
 each_at P (y ∷ xs) zero x h lt = h.0
 each_at P (y ∷ xs) (suc index) x h lt = each_at P xs index x h.1 (omega (arith, lt))
 
--- so is each line
-pub read_bounded : (script : Script) (index : ℕ) (lines : List Line) (l : Line) → IsRead script → lines ≡ script.lines → index < length lines
-    → l ≡ get_or lines index l → IsBounded l
-read_bounded script index lines l read lines_are lt at =
-    subst (λ (x : Line). IsBounded x) (sym at)
-    (each_at IsBounded lines index l
-    (subst (λ (ls : List Line). Each IsBounded ls) (sym lines_are) (lines_bounded 0 (lines_of read.text) script.lines read.is)) lt)
+-- so are all lines of a text's script
+pub read_bounded : (text : List ℕ) (lines : List Line) → IsScript text lines → All IsBounded lines
+read_bounded text lines is k d lt = each_at IsBounded lines k d (lines_bounded 0 (lines_of text) lines is) lt

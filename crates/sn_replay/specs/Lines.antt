@@ -9,7 +9,6 @@ use Rattle.sn_course.specs.Settings.{words_of}
 use Rattle.sn_course.specs.declared.settings.Settings.{Settings}
 use Rattle.sn_events.specs.declared.setting.Setting.{Setting}
 use Rattle.sn_laws.specs.Lookups.{Bytes}
-use Rattle.sn_script.specs.Scripts.{IsScript}
 use Rattle.sn_script.specs.declared.script.Fate.{Fate}
 use Rattle.sn_script.specs.declared.script.Line.{Line}
 use Rattle.sn_script.specs.declared.script.Line.TheVariants as line
@@ -22,12 +21,7 @@ use Rattle.sn_replay.specs.declared.error.ReplayError.{ReplayError}
 use Rattle.sn_replay.specs.declared.error.ReplayError.TheVariants as refusal
 use Rattle.sn_replay.specs.declared.settings.Moment.{Moment}
 
--- the script is one that was read from a text
-pub record IsRead (script : Script) : Type 0 where
-  pub text : List ℕ
-  pub is : IsScript text script.lines
-
--- what a call at both ends asks of a line
+-- what a call at both ends asks of a line: an identifier of 1 to 254 bytes, and a cost from 1 up
 abbrev pub IsBounded : Line → Type 0
 IsBounded (line.Register device identifier password fates) = IsIdentifier identifier
 IsBounded (line.SignIn device identifier password fates) = IsIdentifier identifier

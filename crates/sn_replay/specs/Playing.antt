@@ -38,7 +38,7 @@ use Rattle.sn_world.specs.Sessions.{LeadsLine, MayCome, calls}
 use Rattle.sn_world.specs.World.{Made, World}
 use Rattle.sn_replay.specs.Keeping.{IsKeptOf, asked_of, puts_of, requests_of}
 use Rattle.sn_replay.specs.Lines.{reports}
-pub use Rattle.sn_replay.specs.Lines.{IsRead, IsReplayRefusal}
+pub use Rattle.sn_replay.specs.Lines.{IsReplayRefusal}
 use Rattle.sn_replay.specs.Mirrored.{mirrored}
 use Rattle.sn_replay.specs.declared.error.ReplayError.{ReplayError}
 use Rattle.sn_replay.specs.declared.error.ReplayError.TheVariants as refusal

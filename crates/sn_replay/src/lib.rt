@@ -10,6 +10,7 @@ mod known;
 mod labelled;
 mod lasts;
 mod late;
+pub mod laws;
 mod lines;
 mod losses;
 mod mirrors;
@@ -23,6 +24,3 @@ mod told;
 
 pub use error::ReplayError;
 pub use run::replay;
-
-#[cfg(test)]
-mod tests;

@@ -1,12 +1,12 @@
 //! The run over a script.
 
-ghost use Rattle.std.specs.Prelude.{◌≡◌, ◌≤◌, ◌+◌, ◌++◌, ◌∷◌, [], ℕ, List, IfErr, IfOk, IsErrOf, OnOk, length};
+ghost use Rattle.std.specs.Prelude.{◌≡◌, ◌≤◌, ◌+◌, ◌++◌, ◌∷◌, [], ℕ, List, All, IfErr, IfOk, IsErrOf, OnOk, length};
 ghost use Rattle.sn_course.specs.Headline.{Carries, shelf_slots};
 ghost use Rattle.sn_course.specs.declared.settings.Settings.{Settings};
 ghost use Rattle.sn_disk.specs.MemShelf.{shelf_slot};
 ghost use Rattle.sn_disk.specs.Shelf.{unknown};
 ghost use Rattle.sn_laws.specs.Each.{One};
-ghost use Rattle.sn_replay.specs.Lines.{IsBounded, IsRead, IsReplayRefusal};
+ghost use Rattle.sn_replay.specs.Lines.{IsBounded, IsReplayRefusal};
 ghost use Rattle.sn_replay.specs.Playing.{AreSlotsOf, HasPlayedAll, IsPlayed, IsRefusalBehind, KnownOr};
 ghost use Rattle.sn_replay.specs.declared.error.ReplayError.TheVariants as refusal;
 ghost use Rattle.sn_script.specs.declared.script.Line.{Line};
@@ -30,7 +30,7 @@ use std::alloc::{AllocError, Global};
 /// Carries out a script at both ends, line by line, and reports what each line brought about. The disks of both are put on the
 /// shelf: the server's under `server`, and each device's under `device-` and its name.
 pub fn replay(alloc: Global, script: &Script, shelf: &mut MemShelf) -> Result<Report, ReplayError>
-    requires read { IsRead script.now }
+    requires bounded { All IsBounded script.now.lines }
     requires fresh { (name : List ℕ) → shelf_slot shelf.old name ≡ unknown }
     ensures carries { IfOk result (Carries script.now (shelf_slots shelf.new)) }
     ensures refused { IfErr result (IsReplayRefusal script.now) }
@@ -64,7 +64,7 @@ pub(crate) struct State {
 
 // Carries out all lines.
 fn play(alloc: Global, script: &Script) -> Result<State, ReplayError>
-    requires read { IsRead script.now }
+    requires bounded { All IsBounded script.now.lines }
     ensures played { IfOk result (HasPlayedAll script.now) }
     ensures refused { IfErr result (IsReplayRefusal script.now) }
 {

@@ -1,16 +1,16 @@
-use Rattle.std.proofs.Common.{◌≡◌, List, subst, take}
+use Rattle.std.proofs.Common.{◌≡◌, All, List, subst, sym, take}
 use Rattle.sn_laws.specs.Each.{One}
 use Rattle.sn_script.specs.declared.script.Line.{Line}
-use Rattle.sn_replay.specs.Lines.{IsReplayRefusal}
+use Rattle.sn_replay.specs.Lines.{IsBounded, IsReplayRefusal}
 use Rattle.sn_replay.proofs.Lists.{handed_on}
 use Rattle.sn_replay.proofs.Played.{count_of, one_of_lines, played_next, refused_all}
-use Rattle.sn_replay.proofs.ReadLemmas.{read_bounded}
 use Rattle.sn_replay.proofs.run.play.Goals as goal
 
 pub step-requires-clause-bounded : goal.step-requires-clause-bounded
 step-requires-clause-bounded c =
-    read_bounded c.args.script.now c.lines.index c.as_slice-line-items.result.now c.line-item.result c.requires.read c.as_slice-line-items.ensures c.lines-test.true
-    c.line-item.is
+    let items : List Line = c.as_slice-line-items.result.now in
+    let bounded : All IsBounded items = subst (All IsBounded) (sym c.as_slice-line-items.ensures) c.requires.bounded in
+    subst IsBounded (sym c.line-item.is) (bounded c.lines.index c.line-item.result c.lines-test.true)
 
 pub lines-preserved : goal.lines-preserved
 lines-preserved c =
