@@ -13,12 +13,13 @@ _sn_options() {
         edit | del | list) echo "--store --uuid" ;;
         sync) echo "--store --server" ;;
         passwd) echo "--store --server --cost" ;;
+        gen) echo "--number --count" ;;
         show | replay) ;;
     esac
 }
 
 _sn() {
-    local commands="seal open show replay serve register signin put edit del list sync passwd"
+    local commands="seal open show replay gen serve register signin put edit del list sync passwd"
     local current="${COMP_WORDS[COMP_CWORD]}" before="${COMP_WORDS[COMP_CWORD - 1]}" command="${COMP_WORDS[1]}"
     local offered="" option
     COMPREPLY=()

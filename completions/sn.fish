@@ -8,6 +8,7 @@ complete -c sn -n __fish_use_subcommand -a seal -d 'Seal standard input as one 0
 complete -c sn -n __fish_use_subcommand -a open -d 'Open one 003 string'
 complete -c sn -n __fish_use_subcommand -a show -d 'Show the parts of one 003 string'
 complete -c sn -n __fish_use_subcommand -a replay -d 'Carry out a script of several devices and a server'
+complete -c sn -n __fish_use_subcommand -a gen -d 'Make a script from a number, and sum up its report'
 complete -c sn -n __fish_use_subcommand -a serve -d 'Serve the accounts of a store'
 complete -c sn -n __fish_use_subcommand -a register -d 'Begin an account, and a device of it'
 complete -c sn -n __fish_use_subcommand -a signin -d 'Begin another device of an account'
@@ -18,7 +19,7 @@ complete -c sn -n __fish_use_subcommand -a list -d 'List the notes, or write one
 complete -c sn -n __fish_use_subcommand -a sync -d 'Bring the device and its server together'
 complete -c sn -n __fish_use_subcommand -a passwd -d 'Change the password of the account'
 
-complete -c sn -n '__fish_seen_subcommand_from seal open show replay serve register signin put edit del list sync passwd' -s h -l help -d 'Print help'
+complete -c sn -n '__fish_seen_subcommand_from seal open show replay gen serve register signin put edit del list sync passwd' -s h -l help -d 'Print help'
 complete -c sn -n '__fish_seen_subcommand_from serve register signin put edit del list sync passwd' -l store -r -F -d 'The file of the store'
 complete -c sn -n '__fish_seen_subcommand_from register signin sync passwd' -l server -x -d 'The server, HOST:PORT'
 complete -c sn -n '__fish_seen_subcommand_from seal register signin' -l identifier -x -d 'The account'
@@ -29,3 +30,5 @@ complete -c sn -n '__fish_seen_subcommand_from seal' -l nonce -x -d 'The nonce o
 complete -c sn -n '__fish_seen_subcommand_from put' -l title -x -d 'A title, with the text of the note as input'
 complete -c sn -n '__fish_seen_subcommand_from serve' -l port -x -d 'The port, or 0'
 complete -c sn -n '__fish_seen_subcommand_from serve' -l requests -x -d 'How many requests to answer'
+complete -c sn -n '__fish_seen_subcommand_from gen' -l number -x -d 'The number to start at'
+complete -c sn -n '__fish_seen_subcommand_from gen' -l count -x -d 'How many events to make'

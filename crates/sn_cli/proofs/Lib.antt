@@ -1,5 +1,6 @@
 pub mod Accepting
 pub mod DeviceRuns
+pub mod GenLemmas
 pub mod MeetsLemmas
 pub mod RunLemmas
 pub mod ShownLemmas

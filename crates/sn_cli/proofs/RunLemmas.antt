@@ -1,16 +1,18 @@
 -- What a run did, by what its parts did.
 use Rattle.std.proofs.Common.{◌≡◌, inl, ℕ, ◌+◌, List, [], Option, arith}
 use Rattle.std.proofs.KnownBytes.{Consumes-nil}
-use Rattle.sn_cli.specs.Calls.{SealCallsFor, SealRefuses}
-use Rattle.sn_command.specs.CommandLine.{SealLine}
+use Rattle.std.specs.Io.KnownBytes.{Keeps}
+use Rattle.sn_cli.specs.Calls.{GenCallsFor, SealCallsFor, SealRefuses}
+use Rattle.sn_command.specs.CommandLine.{GenLine, SealLine}
 use Rattle.sn_cli.specs.Inputs.{MOST_INPUT, ReadsText, StopsReading}
 use Rattle.sn_status.specs.Lines.{TellsValues}
 use Rattle.sn_cli.specs.Outputs.{Writes}
-use Rattle.sn_cli.specs.Runs.{Draws, RunsOver, SealRuns}
+use Rattle.sn_cli.specs.Runs.{Draws, GenRuns, RunsOver, SealRuns}
 use Rattle.sn_status.specs.declared.refusal.Refusal.{Refusal}
 use Rattle.sn_status.specs.declared.refusal.Refusal.TheVariants.{InputLong, InputUtf8, Form, Item, Line, NotAllowed, PasswordLine, Client}
 use Rattle.sn_status.specs.declared.status.Status.{Status}
 use Rattle.sn_status.specs.declared.status.Status.TheVariants.{Done, Usage, Refused, DiskFault, LinkFault, ReadFault, WriteFault, Memory, Foreign, Server, BadAnswer}
+use Rattle.sn_disk.specs.declared.mem_shelf.MemShelf.{MemShelf}
 use Rattle.sn_io.specs.Streams.{Gains, GivesAtMost, GivesPart, HasGiven}
 
 -- an input that is no text ends the run
@@ -142,3 +144,35 @@ seal_to_memory line status tells i j o p s t runs = record {
   drew = undrawn_to_memory runs.seed status tells s t runs.drew;
   ran = run_to_memory (SealCallsFor line runs.seed) SealRefuses status tells i j o p runs.ran;
 }
+
+-- ---- `gen`
+
+-- a status of writing an output that the line calls for
+pub gen_written : (line : GenLine) (bench : MemShelf) (status : Status) (o p : Option (List ℕ)) (output : List ℕ) → GenCallsFor bench line output
+    → Writes status o p output → GenRuns line bench status o p
+gen_written line bench Done o p output called wrote = record { output = output; called = called; wrote = wrote }
+gen_written line bench Usage o p output called wrote = absurd wrote
+gen_written line bench (Refused refusal) o p output called wrote = absurd wrote
+gen_written line bench DiskFault o p output called wrote = absurd wrote
+gen_written line bench LinkFault o p output called wrote = absurd wrote
+gen_written line bench ReadFault o p output called wrote = absurd wrote
+gen_written line bench WriteFault o p output called wrote = record { output = output; called = called; wrote = wrote }
+gen_written line bench Memory o p output called wrote = absurd wrote
+gen_written line bench (Foreign unfit) o p output called wrote = absurd wrote
+gen_written line bench (Server number tag) o p output called wrote = absurd wrote
+gen_written line bench (BadAnswer place) o p output called wrote = absurd wrote
+
+-- a status for whose line memory was wanting
+pub gen_to_memory : (line : GenLine) (bench : MemShelf) (status : Status) → TellsValues status → (o p : Option (List ℕ)) → GenRuns line bench status o p
+    → Keeps o p
+gen_to_memory line bench Done tells o p ran = absurd tells
+gen_to_memory line bench Usage tells o p ran = absurd tells
+gen_to_memory line bench (Refused refusal) tells o p ran = ran.silent
+gen_to_memory line bench DiskFault tells o p ran = absurd tells
+gen_to_memory line bench LinkFault tells o p ran = absurd tells
+gen_to_memory line bench ReadFault tells o p ran = absurd tells
+gen_to_memory line bench WriteFault tells o p ran = absurd tells
+gen_to_memory line bench Memory tells o p ran = absurd tells
+gen_to_memory line bench (Foreign unfit) tells o p ran = absurd ran
+gen_to_memory line bench (Server number tag) tells o p ran = absurd ran
+gen_to_memory line bench (BadAnswer place) tells o p ran = absurd ran

@@ -1,32 +1,30 @@
--- What each line calls for, of the text that it reads: an output, or a refusal.
-use Rattle.std.specs.Prelude.{◌≡◌, ℕ, List, [], ◌∷◌, ◌++◌, take, drop}
+-- What each line calls for, of the text that it reads, or of its values alone: an output, or a refusal.
+use Rattle.std.specs.Prelude.{◌≡◌, ℕ, List, [], ◌∷◌, ◌++◌}
 use Rattle.rand_chacha.specs.ChaCha.{of_seed}
-use Rattle.sn_command.specs.CommandLine.{SealLine, OpenLine}
+use Rattle.sn_command.specs.CommandLine.{SealLine, OpenLine, GenLine}
 use Rattle.sn_status.specs.Errors.{form_error, item_error}
 use Rattle.sn_cli.specs.Inputs.{IsOneLine}
 use Rattle.sn_status.specs.declared.refusal.Refusal.{Refusal}
 use Rattle.sn_status.specs.declared.refusal.Refusal.TheVariants.{InputLong, InputUtf8, Form, Item, Line, NotAllowed, PasswordLine, Client}
 use Rattle.sn_items.specs.Draws.{drawn}
+pub use Rattle.sn_items.specs.Items.{authentication_half, encryption_half}
 use Rattle.sn_items.specs.Opens.{Opens}
 use Rattle.sn_items.specs.Refusals.{HasCause}
 use Rattle.sn_items.specs.Seals.{IsSealed}
 use Rattle.sn_items.specs.declared.error.ItemError.{ItemError}
-use Rattle.sn_course.specs.Headline.{Carries, IsNotAllowed, shelf_slots}
+use Rattle.sn_course.specs.Headline.{Carries, IsNotAllowed, PasswordsApart, moves_in, shelf_slots}
 use Rattle.sn_disk.specs.declared.mem_shelf.MemShelf.{MemShelf}
+use Rattle.sn_generator.specs.Generated.{IsGenerated}
+use Rattle.sn_laws.specs.Runs.{Legal}
 use Rattle.sn_report.specs.Text.{report_text}
 use Rattle.sn_report.specs.declared.report.Report.{Report}
 use Rattle.sn_script.specs.Scripts.{IsScript, IsFirstWrong}
 use Rattle.sn_script.specs.declared.script.Script.{Script}
+use Rattle.sn_summary.specs.Summaries.{IsSummaryOf, summary_text}
+use Rattle.sn_summary.specs.declared.summary.Summary.{Summary}
 use Rattle.sn_string.specs.Grammar.{parts_of}
 use Rattle.sn_string.specs.Refusals.{Refuses}
 use Rattle.sn_string.specs.declared.params.Params.{Params}
-
--- the halves of an item's key: the first encrypts, the second authenticates
-abbrev pub encryption_half : List ℕ → List ℕ
-encryption_half key = take 32 key
-
-abbrev pub authentication_half : List ℕ → List ℕ
-authentication_half key = drop 32 key
 
 -- the parameters of a line of `seal`
 pub record HasParams (line : SealLine) (params : Params) : Type 0 where
@@ -97,3 +95,26 @@ ReplayRefuses text (Line number) = IsFirstWrong text number
 ReplayRefuses text (NotAllowed number) = (script : Script) × IsScript text script.lines × IsNotAllowed script number
 ReplayRefuses text (PasswordLine length) = ⊥
 ReplayRefuses text (Client refusal) = ⊥
+
+-- `gen` calls for the summary of the report that the script of its number and its count carries over the disks that it leaves on this bench. That script has
+-- one password alone, so of the premises of its report it meets that of passwords.
+pub record GenCallsFor (bench : MemShelf) (line : GenLine) (output : List ℕ) : Type 0 where
+  pub script : Script
+  pub generated : IsGenerated line.number line.count script
+  pub apart : PasswordsApart script
+  pub report : Report
+  pub carries : Carries script (shelf_slots bench) report
+  pub summary : Summary
+  pub sums : Legal (moves_in report.events) → IsSummaryOf report summary
+  pub spelled : output ≡ summary_text summary
+
+-- or the line of this number is the first of that script that may not come
+abbrev pub GenRefuses : GenLine → Refusal → Type 0
+GenRefuses line InputLong = ⊥
+GenRefuses line (InputUtf8 place) = ⊥
+GenRefuses line (Form refusal) = ⊥
+GenRefuses line (Item refusal) = ⊥
+GenRefuses line (Line number) = ⊥
+GenRefuses line (NotAllowed number) = (script : Script) × IsGenerated line.number line.count script × IsNotAllowed script number
+GenRefuses line (PasswordLine length) = ⊥
+GenRefuses line (Client refusal) = ⊥

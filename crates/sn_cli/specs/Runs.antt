@@ -1,8 +1,9 @@
 -- What a run did, by its status: what it read, which output its line called for, and how much of it was appended.
 use Rattle.std.specs.Prelude.{◌≡◌, ◌⊎◌, ℕ, List, ⊤}
 use Rattle.std.specs.declared.option.Option.{Option}
-use Rattle.sn_cli.specs.Calls.{OpenCallsFor, OpenRefuses, ReplayCallsFor, ReplayRefuses, SealCallsFor, SealRefuses, ShowRefuses}
-use Rattle.sn_command.specs.CommandLine.{SealLine, OpenLine, ServeLine, Asks, IsReading, IsServing, IsSealLine, IsOpenLine, IsShowLine, IsReplayLine, IsServeLine, IsUsage}
+use Rattle.std.specs.Io.KnownBytes.{Keeps}
+use Rattle.sn_cli.specs.Calls.{GenCallsFor, GenRefuses, OpenCallsFor, OpenRefuses, ReplayCallsFor, ReplayRefuses, SealCallsFor, SealRefuses, ShowRefuses}
+use Rattle.sn_command.specs.CommandLine.{SealLine, OpenLine, GenLine, ServeLine, Asks, IsGenerating, IsReading, IsServing, IsSealLine, IsOpenLine, IsShowLine, IsReplayLine, IsGenLine, IsServeLine, IsUsage}
 use Rattle.sn_command.specs.DeviceLines.{DeviceLine, IsDeviceLine, IsDevicing}
 use Rattle.sn_cli.specs.Devices.{DeviceRuns}
 use Rattle.sn_cli.specs.Inputs.{ReadsText, StopsReading}
@@ -11,7 +12,7 @@ use Rattle.sn_cli.specs.Outputs.{Writes}
 use Rattle.sn_cli.specs.Shown.{IsShown}
 use Rattle.sn_course.specs.Headline.{IsNotAllowed}
 use Rattle.sn_status.specs.declared.refusal.Refusal.{Refusal}
-use Rattle.sn_status.specs.declared.refusal.Refusal.TheVariants.{InputLong, InputUtf8, Client}
+use Rattle.sn_status.specs.declared.refusal.Refusal.TheVariants.{InputLong, InputUtf8, NotAllowed, Client}
 use Rattle.sn_status.specs.declared.status.Status.{Status}
 use Rattle.sn_status.specs.declared.status.Status.TheVariants.{Done, Usage, Refused, DiskFault, LinkFault, ReadFault, WriteFault, Memory, Foreign, Server, BadAnswer}
 use Rattle.sn_status.specs.declared.status.Unfit.{Unfit}
@@ -69,6 +70,31 @@ RunsOver calls_for refuses (Foreign unfit) input_before input_after out_before o
 RunsOver calls_for refuses (Server number tag) input_before input_after out_before out_after = ⊥
 RunsOver calls_for refuses (BadAnswer place) input_before input_after out_before out_after = ⊥
 
+-- the line of `gen` calls for an output, and that was appended
+pub record WritesGen (bench : MemShelf) (line : GenLine) (status : Status) (out_before out_after : Option (List ℕ)) : Type 0 where
+  pub output : List ℕ
+  pub called : GenCallsFor bench line output
+  pub wrote : Writes status out_before out_after output
+
+-- the line is refused, and nothing was written
+pub record RefusesGen (line : GenLine) (refusal : Refusal) (out_before out_after : Option (List ℕ)) : Type 0 where
+  pub cause : GenRefuses line refusal
+  pub silent : Keeps out_before out_after
+
+-- What a line of `gen` did, which reads no input. Where memory was wanting, nothing was written.
+abbrev pub GenRuns : GenLine → MemShelf → Status → (out_before out_after : Option (List ℕ)) → Type 0
+GenRuns line bench Done out_before out_after = WritesGen bench line Done out_before out_after
+GenRuns line bench Usage out_before out_after = ⊥
+GenRuns line bench (Refused refusal) out_before out_after = RefusesGen line refusal out_before out_after
+GenRuns line bench DiskFault out_before out_after = ⊥
+GenRuns line bench LinkFault out_before out_after = ⊥
+GenRuns line bench ReadFault out_before out_after = ⊥
+GenRuns line bench WriteFault out_before out_after = WritesGen bench line WriteFault out_before out_after
+GenRuns line bench Memory out_before out_after = Keeps out_before out_after
+GenRuns line bench (Foreign unfit) out_before out_after = ⊥
+GenRuns line bench (Server number tag) out_before out_after = ⊥
+GenRuns line bench (BadAnswer place) out_before out_after = ⊥
+
 -- what a command drew that draws one seed: it, once the input is a text, and none before
 abbrev pub Draws : Status → List ℕ → Option (List (List ℕ)) → Option (List (List ℕ)) → Type 0
 Draws Done seed before after = Gains before after seed
@@ -112,14 +138,15 @@ pub record AnswersWith (status : Status) (input_before input_after out_before ou
 
 -- what the words of a run of this status are; want of memory may come at any words
 abbrev pub AreWordsOf : Status → List (List ℕ) → Type 0
-AreWordsOf Done words = IsReading words ⊎ IsServing words ⊎ IsDevicing words ⊎ Asks words
+AreWordsOf Done words = IsReading words ⊎ IsServing words ⊎ IsDevicing words ⊎ IsGenerating words ⊎ Asks words
 AreWordsOf Usage words = IsUsage words
 AreWordsOf (Refused (Client refusal)) words = IsDevicing words
+AreWordsOf (Refused (NotAllowed number)) words = IsReading words ⊎ IsGenerating words
 AreWordsOf (Refused refusal) words = IsReading words
 AreWordsOf DiskFault words = IsServing words ⊎ IsDevicing words
 AreWordsOf LinkFault words = IsServing words ⊎ IsDevicing words
 AreWordsOf ReadFault words = IsReading words
-AreWordsOf WriteFault words = IsReading words ⊎ IsServing words ⊎ IsDevicing words ⊎ Asks words
+AreWordsOf WriteFault words = IsReading words ⊎ IsServing words ⊎ IsDevicing words ⊎ IsGenerating words ⊎ Asks words
 AreWordsOf Memory words = ⊤
 AreWordsOf (Foreign unfit) words = IsServing words ⊎ IsDevicing words
 AreWordsOf (Server number tag) words = IsDevicing words
@@ -162,7 +189,7 @@ IsInputRefusal (Foreign unfit) = ⊥
 IsInputRefusal (Server number tag) = ⊥
 IsInputRefusal (BadAnswer place) = ⊥
 
--- a status that comes of the input alone
+-- a status at which no script was carried out: the input is refused, or a script has a line that may not come
 abbrev pub IsOfInput : Status → Type 0
 IsOfInput Done = ⊥
 IsOfInput Usage = ⊥
@@ -251,6 +278,7 @@ pub record Meets (words : List (List ℕ)) (serves : ServeLine → Status → Ty
       → RunsOver (OpenCallsFor line) (OpenRefuses line) status input_before input_after out_before out_after
   pub show : IsShowLine words → RunsOver IsShown ShowRefuses status input_before input_after out_before out_after
   pub replay : IsReplayLine words → RunsOver (ReplayCallsFor bench_after) ReplayRefuses status input_before input_after out_before out_after
+  pub generate : (line : GenLine) → IsGenLine words line → GenRuns line bench_after status out_before out_after
   pub serve : (line : ServeLine) → IsServeLine words line → serves line status
   pub device : (line : DeviceLine) → IsDeviceLine words line → DeviceRuns ends untouched line input_before input_after out_before out_after status
   pub help : Asks words → AnswersWith status input_before input_after out_before out_after
@@ -258,8 +286,9 @@ pub record Meets (words : List (List ℕ)) (serves : ServeLine → Status → Ty
   pub usage : IsUsage words → ¬ (Asks words) → (status ≡ Usage) ⊎ (status ≡ Memory)
   pub unread : IsUsage words → input_after ≡ input_before
   pub served_unread : IsServing words → input_after ≡ input_before
+  pub gen_unread : IsGenerating words → input_after ≡ input_before
   pub undrawn : ((line : SealLine) → ¬ (IsSealLine words line)) → ¬ (IsServing words) → ¬ (IsDevicing words) → seeds_after ≡ seeds_before
-  pub unplayed : ¬ (IsReplayLine words) → bench_after ≡ bench_before
+  pub unplayed : ¬ (IsReplayLine words) → ¬ (IsGenerating words) → bench_after ≡ bench_before
   pub unserved : ¬ (IsServing words) → left
   pub unasked : ¬ (IsDevicing words) → link_left
   pub unstored : ¬ (IsServing words) → ¬ (IsDevicing words) → shelf_left

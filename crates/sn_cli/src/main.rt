@@ -3,7 +3,7 @@
 
 mod calling;
 mod ends;
-mod halves;
+mod generating;
 mod help;
 mod input;
 mod listing;

@@ -6,12 +6,11 @@ ghost use Rattle.sn_cli.specs.Calls.{OpenCallsFor, OpenRefuses};
 ghost use Rattle.sn_command.specs.Commands.{open_line};
 ghost use Rattle.sn_cli.specs.Runs.{IsSilent, RunsOver};
 
-use crate::halves::halves;
 use crate::input::{input_text, one_line};
 use crate::output::write_out;
 use sn_command::ItemOptions;
 use sn_io::{Sink, Source};
-use sn_items::open_text;
+use sn_items::{halves, open_text};
 use sn_status::{Refusal, Status, item_refusal};
 use std::alloc::Global;
 

@@ -8,17 +8,18 @@ ghost use Rattle.sn_disk.specs.Shelf.{unknown};
 ghost use Rattle.sn_calls.specs.Ends.{handed as handed_call};
 ghost use Rattle.sn_serve.specs.Serving.{handed};
 ghost use Rattle.sn_cli.specs.Calls.{OpenCallsFor, OpenRefuses, ReplayCallsFor, ReplayRefuses, ShowRefuses};
-ghost use Rattle.sn_command.specs.CommandLine.{SealLine, OpenLine, ServeLine, Asks, IsServing, IsSealLine, IsOpenLine, IsShowLine, IsReplayLine, IsServeLine, IsUsage};
+ghost use Rattle.sn_command.specs.CommandLine.{SealLine, OpenLine, GenLine, ServeLine, Asks, IsGenerating, IsServing, IsSealLine, IsOpenLine, IsShowLine, IsReplayLine, IsGenLine, IsServeLine, IsUsage};
 ghost use Rattle.sn_cli.specs.DeviceCalls.{IsPassword, TakesPassword, first_line};
 ghost use Rattle.sn_command.specs.DeviceLines.{DeviceLine, IsDeviceLine, IsDevicing};
 ghost use Rattle.sn_cli.specs.Devices.{DeviceRuns};
 ghost use Rattle.sn_cli.specs.Inputs.{HasText};
 ghost use Rattle.sn_status.specs.Lines.{line_of};
-ghost use Rattle.sn_cli.specs.Runs.{Accepts, AnswersWith, AreLeft, AreWordsOf, EndsCall, Serves, IsInputRefusal, IsOfInput, IsRefusal, IsSilent, Meets, RunsOver, SealRuns};
+ghost use Rattle.sn_cli.specs.Runs.{Accepts, AnswersWith, AreLeft, AreWordsOf, EndsCall, GenRuns, Serves, IsInputRefusal, IsOfInput, IsRefusal, IsSilent, Meets, RunsOver, SealRuns};
 ghost use Rattle.sn_cli.specs.Shown.{IsShown};
 ghost use Rattle.sn_command.specs.Words.{texts};
 
 use crate::calling::call_store;
+use crate::generating::generate_and_replay;
 use crate::help::answer_help;
 use crate::opening::open_input;
 use crate::replaying::replay_input;
@@ -36,7 +37,7 @@ use sn_string::laws::read_back;
 use std::alloc::Global;
 
 /// Carries out the command that the words spell, over the shelf, the bench, the port, the link, the input, the two
-/// outputs, the clock and the seeds that are handed in. `shelf` has the stores, `bench`, which has no disks yet, gets those of a replay.
+/// outputs, the clock and the seeds that are handed in. `shelf` has the stores, `bench`, which has no disks yet, gets those of a replay or of a script that is made.
 pub fn run<S: Shelf, P: Port, L: Link, I: Source, O: Sink, E: Sink, C: Clock, R: Seeds>(
     alloc: Global,
     words: &[String],
@@ -61,6 +62,8 @@ pub fn run<S: Shelf, P: Port, L: Link, I: Source, O: Sink, E: Sink, C: Clock, R:
         (I.left input.old) (I.left input.new) (O.held out.old) (O.held out.new) }
     ensures replay { IsReplayLine (texts words.now) → RunsOver (ReplayCallsFor bench.new) ReplayRefuses result
         (I.left input.old) (I.left input.new) (O.held out.old) (O.held out.new) }
+    // What a line of `gen` calls for by its values alone, and how much of it was appended.
+    ensures generate { (line : GenLine) → IsGenLine (texts words.now) line → GenRuns line bench.new result (O.held out.old) (O.held out.new) }
     // What a line of `serve` did: how the store was loaded, which connections were served, and how many requests.
     ensures serve { (line : ServeLine) → IsServeLine (texts words.now) line →
         Serves ⟦<S::D as Disk>⟧ S.told S.slot S.fault_count P.goes P.bound O.held C.given R.given
@@ -87,9 +90,10 @@ pub fn run<S: Shelf, P: Port, L: Link, I: Source, O: Sink, E: Sink, C: Clock, R:
     // What stays as it was.
     ensures unread { IsUsage (texts words.now) → I.left input.new ≡ I.left input.old }
     ensures served_unread { IsServing (texts words.now) → I.left input.new ≡ I.left input.old }
+    ensures gen_unread { IsGenerating (texts words.now) → I.left input.new ≡ I.left input.old }
     ensures undrawn { ((line : SealLine) → ¬ (IsSealLine (texts words.now) line)) → ¬ (IsServing (texts words.now)) → ¬ (IsDevicing (texts words.now))
         → R.given seeds.new ≡ R.given seeds.old }
-    ensures unplayed { ¬ (IsReplayLine (texts words.now)) → bench.new ≡ bench.old }
+    ensures unplayed { ¬ (IsReplayLine (texts words.now)) → ¬ (IsGenerating (texts words.now)) → bench.new ≡ bench.old }
     ensures unserved { ¬ (IsServing (texts words.now)) → AreLeft port.old port.new clock.old clock.new }
     ensures unasked { ¬ (IsDevicing (texts words.now)) → link.new ≡ link.old }
     ensures unstored { ¬ (IsServing (texts words.now)) → ¬ (IsDevicing (texts words.now)) → shelf.new ≡ shelf.old }
@@ -146,6 +150,7 @@ fn answer<S: Shelf, P: Port, L: Link, I: Source, O: Sink, C: Clock, R: Seeds>(
         Ok(Command::Open(item)) => open_input(alloc, &item, input, out),
         Ok(Command::Show) => show_input(alloc, input, out),
         Ok(Command::Replay) => replay_input(alloc, bench, input, out),
+        Ok(Command::Gen(options)) => generate_and_replay(alloc, &options, bench, out),
         Ok(Command::Serve(options)) => {
             serve_store(alloc, &options, shelf, port, out, clock, seeds)
         }

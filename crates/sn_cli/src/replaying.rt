@@ -1,10 +1,10 @@
 // `replay`.
-ghost use Rattle.std.specs.Prelude.{◌≡◌, List, ℕ, IfErr, IfOk, IsErrOf};
+ghost use Rattle.std.specs.Prelude.{◌≡◌, List, ℕ, All, IfErr, IfOk, IsErrOf};
 ghost use Rattle.std.specs.Io.KnownBytes.{Keeps};
 ghost use Rattle.sn_io.specs.Causes.{Rose};
 ghost use Rattle.sn_disk.specs.MemShelf.{shelf_slot};
 ghost use Rattle.sn_disk.specs.Shelf.{unknown};
-ghost use Rattle.sn_replay.specs.Lines.{IsRead, IsReplayRefusal};
+ghost use Rattle.sn_replay.specs.Lines.{IsBounded, IsReplayRefusal};
 ghost use Rattle.sn_replay.specs.declared.error.ReplayError.TheVariants as refused;
 ghost use Rattle.sn_script.specs.Scripts.{IsScript};
 ghost use Rattle.sn_cli.specs.Calls.{ReplayCallsFor, ReplayRefuses};
@@ -14,6 +14,7 @@ use crate::input::input_text;
 use crate::output::write_out;
 use sn_disk::MemShelf;
 use sn_io::{Sink, Source};
+use sn_replay::laws::reads_bounded;
 use sn_replay::{ReplayError, replay};
 use sn_report::report_text;
 use sn_script::{Script, ScriptError, read_script};
@@ -40,6 +41,7 @@ pub fn replay_input<I: Source, O: Sink>(
         Ok(text) => text,
         Err(status) => return status,
     };
+    reads_bounded();
     match read_script(alloc, &text) {
         Ok(script) => match report_of(alloc, &script, bench) {
             Ok(report) => write_out(out, report.as_str().as_bytes()),
@@ -55,7 +57,7 @@ pub fn replay_input<I: Source, O: Sink>(
 
 // The text of the report that the script carries over the disks that it leaves.
 fn report_of(alloc: Global, script: &Script, bench: &mut MemShelf) -> Result<Text, ReplayError>
-    requires read { IsRead script.now }
+    requires bounded { All IsBounded script.now.lines }
     requires fresh { (name : List ℕ) → shelf_slot bench.old name ≡ unknown }
     ensures carries { (input : List ℕ) → IsScript input script.now.lines → IfOk result (λ text. ReplayCallsFor bench.new input text) }
     ensures refused { IfErr result (IsReplayRefusal script.now) }

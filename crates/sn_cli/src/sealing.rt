@@ -10,12 +10,11 @@ ghost use Rattle.sn_cli.specs.Calls.{HasParams, encryption_half, authentication_
 ghost use Rattle.sn_command.specs.Commands.{seal_line};
 ghost use Rattle.sn_cli.specs.Runs.{IsSilent, SealRuns};
 
-use crate::halves::halves;
 use crate::input::input_text;
 use crate::output::write_out;
 use sn_command::{ItemOptions, ParamsOptions};
 use sn_io::{Seeds, Sink, Source};
-use sn_items::{Words, seal_owned_text};
+use sn_items::{Words, halves, seal_owned_text};
 use sn_status::Status;
 use sn_string::{Params, Text};
 use std::alloc::{AllocError, Global};

@@ -128,6 +128,14 @@ const SERVE_TOO_MANY: &[&str] = &[
     "1000001",
 ];
 
+const GEN: &[&str] = &["gen", "--number", "1", "--count", "8"];
+
+const GEN_NUMBER: &[&str] = &["gen", "--number", "65537", "--count", "1"];
+
+const GEN_NOTHING: &[&str] = &["gen", "--number", "1", "--count", "0"];
+
+const GEN_TOO_MANY: &[&str] = &["gen", "--number", "1", "--count", "100001"];
+
 const OTHER_ORDER: &[&str] = &[
     "seal",
     "--nonce=6e",
@@ -177,7 +185,37 @@ struct Case {
     err: &'static [u8],
 }
 
-static CASES: [Case; 42] = [
+static CASES: [Case; 45] = [
+    Case {
+        name: "gen: a number above the last",
+        words: GEN_NUMBER,
+        input: b"x",
+        failing_reads: &[0],
+        failing_writes: &[],
+        status: 2,
+        out: b"",
+        err: b"sn: usage\n",
+    },
+    Case {
+        name: "gen: no events",
+        words: GEN_NOTHING,
+        input: b"x",
+        failing_reads: &[0],
+        failing_writes: &[],
+        status: 2,
+        out: b"",
+        err: b"sn: usage\n",
+    },
+    Case {
+        name: "gen: too many events",
+        words: GEN_TOO_MANY,
+        input: b"x",
+        failing_reads: &[0],
+        failing_writes: &[],
+        status: 2,
+        out: b"",
+        err: b"sn: usage\n",
+    },
     Case {
         name: "serve: no disk of this name",
         words: SERVE,
@@ -601,7 +639,27 @@ static CASES: [Case; 42] = [
 ];
 
 // Scripts that are carried out.
-static REPLAYS: [Case; 7] = [
+static REPLAYS: [Case; 13] = [
+    Case {
+        name: "gen: reads no input",
+        words: GEN,
+        input: b"x",
+        failing_reads: &[0],
+        failing_writes: &[],
+        status: 0,
+        out: b"events 13\nitems 5\nversions 5\nforks 0\ndrafts 0\n",
+        err: b"",
+    },
+    Case {
+        name: "gen: the write fails",
+        words: GEN,
+        input: b"",
+        failing_reads: &[],
+        failing_writes: &[0],
+        status: 7,
+        out: b"",
+        err: b"sn: write fault\n",
+    },
     Case {
         name: "replays",
         words: REPLAY,
@@ -631,6 +689,46 @@ static REPLAYS: [Case; 7] = [
         status: 0,
         out: b"3 register alice set 1\n3 join A alice set 1\n3 = ok\n4 edit A #1 {\"title\":\"x\"}\n4 = ok\n5 post A #1\n5 accept #1 @1000 set 1\n5 settle A #1\n5 = ok\n6 account alice set 1\n6 item #1 @1000 set 1 {\"title\":\"x\"}\n6 device A alice sets 1\n6 = ok\n",
         err: b"",
+    },
+    Case {
+        name: "replay: two devices and losses",
+        words: REPLAY,
+        input: b"cost 1\nclock 1000\nregister a u p\nput a {}\nsync a drop-reply\nsync a\nsignin b u p\nsync b\nedit b #1 {\"k\":1}\nsync b drop-request\nlate b 3\nput c {}\nshow\n",
+        failing_reads: &[],
+        failing_writes: &[],
+        status: 0,
+        out: b"3 register u set 1\n3 join a u set 1\n3 = ok\n4 edit a #1 {}\n4 = ok\n5 post a #1\n5 accept #1 @1000 set 1\n5 = link\n6 settle a #1\n6 = ok\n7 join b u set 1\n7 = ok\n8 = ok\n9 edit b #1 {\"k\":1}\n9 = ok\n10 post b #1\n10 = link\n11 = answer 200\n12 = refused client.1 NoAccount\n13 account u set 1\n13 item #1 @1000 set 1 {}\n13 device a u sets 1\n13 device b u sets 1\n13 draft b #1 {\"k\":1}\n13 device c none\n13 = ok\n",
+        err: b"",
+    },
+    Case {
+        name: "replay: an item that was never put",
+        words: REPLAY,
+        input: b"register a u p\nput a {}\ndel a #2\n",
+        failing_reads: &[],
+        failing_writes: &[],
+        status: 3,
+        out: b"",
+        err: b"sn: replay.2 NotAllowed 3\n",
+    },
+    Case {
+        name: "replay: an item before there is any",
+        words: REPLAY,
+        input: b"cost 1\nedit a #1 {}\n",
+        failing_reads: &[],
+        failing_writes: &[],
+        status: 3,
+        out: b"",
+        err: b"sn: replay.2 NotAllowed 2\n",
+    },
+    Case {
+        name: "replay: a request that was never made",
+        words: REPLAY,
+        input: b"register a u p\nlate a 1\nlate a 2\n",
+        failing_reads: &[],
+        failing_writes: &[],
+        status: 3,
+        out: b"",
+        err: b"sn: replay.2 NotAllowed 3\n",
     },
     Case {
         name: "replay: the empty script",

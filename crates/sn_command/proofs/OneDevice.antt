@@ -144,3 +144,26 @@ other_command words name line other named is =
     let same : named_for line.task ≡ name = one_command words (named_for line.task) name is.command named in
     let both : true ≡ false = sym (third_of line.task) ∙ ap (λ (n : List ℕ). is_third (get_or n 2 0)) same ∙ other in
     cc
+
+-- the first letter is one of those names'
+abbrev pub is_first : ℕ → Bool
+is_first letter = eqb letter 114 || (eqb letter 115 || (eqb letter 112 || (eqb letter 101 || (eqb letter 100 || eqb letter 108))))
+
+first_of : (task : Task) → is_first (get_or (named_for task) 0 0) ≡ true
+first_of (register server identifier cost) = refl
+first_of (sign_in server identifier) = refl
+first_of (put title) = refl
+first_of (edit uuid) = refl
+first_of (delete uuid) = refl
+first_of list = refl
+first_of (content uuid) = refl
+first_of (sync server) = refl
+first_of (change_password server cost) = refl
+
+-- and so words whose name begins otherwise
+pub other_beginning : (words : List (List ℕ)) (name : List ℕ) (line : DeviceLine) → is_first (get_or name 0 0) ≡ false → Names words name
+    → IsDeviceLine words line → ⊥
+other_beginning words name line other named is =
+    let same : named_for line.task ≡ name = one_command words (named_for line.task) name is.command named in
+    let both : true ≡ false = sym (first_of line.task) ∙ ap (λ (n : List ℕ). is_first (get_or n 0 0)) same ∙ other in
+    cc

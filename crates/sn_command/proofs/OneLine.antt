@@ -4,7 +4,7 @@ use Rattle.std.specs.Fmt.{decimal}
 use Rattle.std.proofs.lemmas.Fmt.{decimal_injective}
 use Rattle.hex.proofs.HexLemmas.{decode_sized-encode_lower}
 use Rattle.hex.specs.Hex.{decode_sized, encode_lower}
-use Rattle.sn_command.specs.CommandLine.{SealLine, OpenLine, ServeLine, GivesItem, IsSealLine, IsOpenLine, IsServeLine}
+use Rattle.sn_command.specs.CommandLine.{SealLine, OpenLine, GenLine, ServeLine, GivesItem, IsSealLine, IsOpenLine, IsGenLine, IsServeLine}
 use Rattle.sn_command.specs.Named.{GivesCost, Names}
 use Rattle.sn_command.specs.Syntax.{value_of}
 use Rattle.sn_string.specs.Hex.{IsLowerHex}
@@ -91,3 +91,12 @@ one_serve words a b first second =
     let requests : a.requests ≡ b.requests =
     one_number a.requests b.requests _ (omega (arith, first.most_requests)) (omega (arith, second.most_requests)) first.requests_given second.requests_given in
     λ i. record { store = store i; port = port i; requests = requests i }
+
+-- and one of `gen`
+pub one_gen : (words : List (List ℕ)) (a b : GenLine) → IsGenLine words a → IsGenLine words b → a ≡ b
+one_gen words a b first second =
+    let number : a.number ≡ b.number =
+    one_number a.number b.number _ (omega (arith, first.most_number)) (omega (arith, second.most_number)) first.number_given second.number_given in
+    let count : a.count ≡ b.count =
+    one_number a.count b.count _ (omega (arith, first.most_events)) (omega (arith, second.most_events)) first.count_given second.count_given in
+    λ i. record { number = number i; count = count i }

@@ -31,6 +31,11 @@ pub record ServeLine : Type 0 where
   pub port : ℕ
   pub requests : ℕ
 
+-- what a line of `gen` says: the number that a script is made from, and how many events are to be made
+pub record GenLine : Type 0 where
+  pub number : ℕ
+  pub count : ℕ
+
 -- the words give an item's uuid and key, each in its form
 pub record GivesItem (words : List (List ℕ)) (uuid key : List ℕ) : Type 0 where
   pub uuid_form : IsUuidText (uuid_text uuid) uuid
@@ -65,6 +70,19 @@ IsShowLine words = Names words (codes "show")
 -- the words are a line of `replay`
 abbrev pub IsReplayLine : List (List ℕ) → Type 0
 IsReplayLine words = Names words (codes "replay")
+
+-- the words are a line of `gen` that says this
+pub record IsGenLine (words : List (List ℕ)) (line : GenLine) : Type 0 where
+  pub command : Names words (codes "gen")
+  pub most_number : line.number ≤ 65536
+  pub number_given : value_of words (codes "number") ≡ Some (decimal line.number)
+  pub some_events : 1 ≤ line.count
+  pub most_events : line.count ≤ 100000
+  pub count_given : value_of words (codes "count") ≡ Some (decimal line.count)
+
+-- the words are a line of `gen`
+abbrev pub IsGenerating : List (List ℕ) → Type 0
+IsGenerating words = (line : GenLine) × IsGenLine words line
 
 -- the words are a line of `serve` that says this
 pub record IsServeLine (words : List (List ℕ)) (line : ServeLine) : Type 0 where
@@ -103,6 +121,7 @@ pub record IsUsage (words : List (List ℕ)) : Type 0 where
   pub no_open : (line : OpenLine) → ¬ (IsOpenLine words line)
   pub no_show : ¬ (IsShowLine words)
   pub no_replay : ¬ (IsReplayLine words)
+  pub no_gen : (line : GenLine) → ¬ (IsGenLine words line)
   pub no_serve : (line : ServeLine) → ¬ (IsServeLine words line)
   pub no_device : (line : DeviceLine) → ¬ (IsDeviceLine words line)
   pub no_help : fault_of sn_app words ≢ DisplayHelp ∷ []

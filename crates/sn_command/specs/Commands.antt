@@ -1,14 +1,15 @@
 -- The words of a command with its options.
 use denote.Ref.{Bor}
 use Rattle.std.specs.Prelude.{ℕ, List, Option, option_map, ⊤}
-use Rattle.sn_command.specs.CommandLine.{SealLine, OpenLine, ServeLine, IsSealLine, IsOpenLine, IsShowLine, IsReplayLine, IsServeLine, IsUsage}
+use Rattle.sn_command.specs.CommandLine.{SealLine, OpenLine, GenLine, ServeLine, IsSealLine, IsOpenLine, IsShowLine, IsReplayLine, IsGenLine, IsServeLine, IsUsage}
 use Rattle.sn_command.specs.DeviceLines.{DeviceLine, IsDeviceLine, Task, register, sign_in, put, edit, delete, list, content, sync, change_password}
 use Rattle.sn_command.specs.Syntax.{AsksForHelp, AsksForVersion}
 use Rattle.sn_command.specs.declared.command_line.ItemOptions.{ItemOptions}
 use Rattle.sn_command.specs.declared.command_line.ParamsOptions.{ParamsOptions}
+use Rattle.sn_command.specs.declared.command_line.GenOptions.{GenOptions}
 use Rattle.sn_command.specs.declared.command_line.ServeOptions.{ServeOptions}
 use Rattle.sn_command.specs.declared.command_line.Command.{Command}
-use Rattle.sn_command.specs.declared.command_line.Command.TheVariants.{Seal, Open, Show, Replay, Serve, Device, Help, Version}
+use Rattle.sn_command.specs.declared.command_line.Command.TheVariants.{Seal, Open, Show, Replay, Gen, Serve, Device, Help, Version}
 use Rattle.sn_command.specs.declared.command_line.LineError.{LineError}
 use Rattle.sn_command.specs.declared.device_line.DeviceCommand.{DeviceCommand}
 use Rattle.sn_command.specs.declared.device_line.DeviceCommand.TheVariants as device
@@ -26,6 +27,9 @@ seal_line item params = record {
 
 abbrev pub open_line : ItemOptions → OpenLine
 open_line item = record { uuid = item.uuid; key = item.key }
+
+abbrev pub gen_line : GenOptions → GenLine
+gen_line options = record { number = options.number; count = options.count }
 
 abbrev pub serve_line : ServeOptions → ServeLine
 serve_line options = record { store = options.store.now; port = options.port; requests = options.requests }
@@ -54,6 +58,7 @@ IsCommand words (Seal item params) = IsSealLine words (seal_line item params)
 IsCommand words (Open item) = IsOpenLine words (open_line item)
 IsCommand words Show = IsShowLine words
 IsCommand words Replay = IsReplayLine words
+IsCommand words (Gen options) = IsGenLine words (gen_line options)
 IsCommand words (Serve options) = IsServeLine words (serve_line options)
 IsCommand words (Device options) = IsDeviceLine words (device_line options)
 IsCommand words (Help text) = AsksForHelp words

@@ -27,6 +27,9 @@ show_shape = command_shape (codes "show") []
 unfoldable pub replay_shape : Shape
 replay_shape = command_shape (codes "replay") []
 
+unfoldable pub gen_shape : Shape
+gen_shape = command_shape (codes "gen") (option_rule (codes "number") true ∷ option_rule (codes "count") true ∷ [])
+
 unfoldable pub serve_shape : Shape
 serve_shape = command_shape (codes "serve") (option_rule (codes "store") true ∷ option_rule (codes "port") true
     ∷ option_rule (codes "requests") true ∷ [])
@@ -74,10 +77,11 @@ unfoldable pub with_devices : App → App
 with_devices app =
     with_subcommand (with_subcommand (with_subcommand (with_subcommand (with_accounts app) put_shape) edit_shape) delete_shape) list_shape
 
--- with the commands on single strings and on a script, and with that of a server
+-- with the commands on single strings and on scripts, and with that of a server
 unfoldable pub with_others : App → App
 with_others app = with_subcommand
-    (with_subcommand (with_subcommand (with_subcommand (with_subcommand app seal_shape) open_shape) show_shape) replay_shape) serve_shape
+    (with_subcommand (with_subcommand (with_subcommand (with_subcommand (with_subcommand app seal_shape) open_shape) show_shape) replay_shape)
+    gen_shape) serve_shape
 
 unfoldable pub sn_app : App
 sn_app = with_devices (with_others sn_top)

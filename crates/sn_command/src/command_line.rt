@@ -2,7 +2,7 @@
 ghost use Rattle.std.specs.Fmt.{decimal};
 ghost use Rattle.std.specs.Prelude.{◌≡◌, ◌≢◌, ℕ, List, codes, Some, IsSome, IfSome, IfNone, IfOk, IfErr, IsTrue, ◌↔◌, ◌<◌, ◌≤◌, ◌^◌, length};
 ghost use Rattle.sn_string.specs.Bounds.{IsIdentifier, IsCost, IsNonce};
-ghost use Rattle.sn_command.specs.CommandLine.{SealLine, OpenLine, ServeLine, IsSealLine, IsOpenLine, IsServeLine, GivesItem, GivesParams};
+ghost use Rattle.sn_command.specs.CommandLine.{SealLine, OpenLine, GenLine, ServeLine, IsSealLine, IsOpenLine, IsGenLine, IsServeLine, GivesItem, GivesParams};
 ghost use Rattle.sn_command.specs.Commands.{IsCommand, IsLineError};
 ghost use Rattle.sn_command.specs.Given.{IsGivenBy};
 ghost use Rattle.sn_command.specs.Syntax.{value_of};
@@ -16,6 +16,12 @@ use clap::Error;
 use sn_string::{key_bytes, uuid_of};
 use std::alloc::Global;
 use uuid::Uuid;
+
+/// The greatest number that a script is made from.
+const MOST_NUMBER: u32 = 65_536;
+
+/// The most events that a script is made of.
+const MOST_EVENTS: u32 = 100_000;
 
 /// The most requests of one run of the server.
 const MOST_REQUESTS: u32 = 1_000_000;
@@ -35,6 +41,13 @@ pub struct ParamsOptions<'a> {
     pub nonce: &'a str,
 }
 
+/// The number that a script is made from, 0 to 65536, and how many events are to be made, 1 to 100000.
+#[derive(Drop)]
+pub struct GenOptions {
+    pub number: u32,
+    pub count: u32,
+}
+
 /// A store, the number of a port, at 0 one that the system chooses, and how many requests are to be served.
 #[derive(Drop)]
 pub struct ServeOptions<'a> {
@@ -50,6 +63,7 @@ pub enum Command<'a> {
     Open(ItemOptions),
     Show,
     Replay,
+    Gen(GenOptions),
     Serve(ServeOptions<'a>),
     Device(DeviceOptions<'a>),
     Help(Error),
@@ -90,6 +104,7 @@ fn given_command<'a>(given: &Given<'a>) -> Option<Command<'a>>
         "open" => open_command(given),
         "show" => Some(Command::Show),
         "replay" => Some(Command::Replay),
+        "gen" => gen_command(given),
         "serve" => serve_command(given),
         _ => device_line(given),
     }
@@ -120,6 +135,20 @@ fn open_command<'a>(given: &Given<'a>) -> Option<Command<'a>>
     }
 }
 
+fn gen_command<'a>(given: &Given<'a>) -> Option<Command<'a>>
+    requires { given.now.command.now ≡ codes "gen" }
+    ensures some { IfSome result (λ command. (words : List (List ℕ)) → IsGivenBy words given.now → IsCommand words command) }
+    ensures none { IfNone result ((words : List (List ℕ)) → IsGivenBy words given.now → (line : GenLine) → ¬ (IsGenLine words line)) }
+{
+    let Some(number) = number_option(given) else {
+        return None;
+    };
+    let Some(count) = count_option(given) else {
+        return None;
+    };
+    Some(Command::Gen(GenOptions { number, count }))
+}
+
 fn serve_command<'a>(given: &Given<'a>) -> Option<Command<'a>>
     requires { given.now.command.now ≡ codes "serve" }
     ensures some { IfSome result (λ command. (words : List (List ℕ)) → IsGivenBy words given.now → IsCommand words command) }
@@ -146,6 +175,7 @@ fn device_line<'a>(given: &Given<'a>) -> Option<Command<'a>>
     requires not_open { given.now.command.now ≢ codes "open" }
     requires not_show { given.now.command.now ≢ codes "show" }
     requires not_replay { given.now.command.now ≢ codes "replay" }
+    requires not_gen { given.now.command.now ≢ codes "gen" }
     requires not_serve { given.now.command.now ≢ codes "serve" }
     ensures some { IfSome result (λ command. (words : List (List ℕ)) → IsGivenBy words given.now → IsCommand words command) }
     ensures none { IfNone result ((words : List (List ℕ)) → IsGivenBy words given.now → IsLineError words LineError.Usage) }
@@ -153,6 +183,44 @@ fn device_line<'a>(given: &Given<'a>) -> Option<Command<'a>>
     match device_options(given) {
         Some(options) => Some(Command::Device(options)),
         None => None,
+    }
+}
+
+fn number_option(given: &Given<'_>) -> Option<u32>
+    ensures some { IfSome result (λ number. (number ≤ 65536)
+        × ((words : List (List ℕ)) → IsGivenBy words given.now → value_of words (codes "number") ≡ Some (decimal number))) }
+    ensures none { IfNone result ((words : List (List ℕ)) (number : ℕ) → IsGivenBy words given.now → number ≤ 65536
+        → ¬ (value_of words (codes "number") ≡ Some (decimal number))) }
+{
+    let Some(text) = value(given, "number") else {
+        return None;
+    };
+    let Some(number) = whole_number(text) else {
+        return None;
+    };
+    if number <= MOST_NUMBER {
+        Some(number)
+    } else {
+        None
+    }
+}
+
+fn count_option(given: &Given<'_>) -> Option<u32>
+    ensures some { IfSome result (λ count. (1 ≤ count) × (count ≤ 100000)
+        × ((words : List (List ℕ)) → IsGivenBy words given.now → value_of words (codes "count") ≡ Some (decimal count))) }
+    ensures none { IfNone result ((words : List (List ℕ)) (count : ℕ) → IsGivenBy words given.now → 1 ≤ count → count ≤ 100000
+        → ¬ (value_of words (codes "count") ≡ Some (decimal count))) }
+{
+    let Some(text) = value(given, "count") else {
+        return None;
+    };
+    let Some(count) = positive_number(text) else {
+        return None;
+    };
+    if count <= MOST_EVENTS {
+        Some(count)
+    } else {
+        None
     }
 }
 

@@ -9,5 +9,7 @@ mod number;
 mod server;
 mod syntax;
 
-pub use command_line::{Command, ItemOptions, LineError, ParamsOptions, ServeOptions, command_of};
+pub use command_line::{
+    Command, GenOptions, ItemOptions, LineError, ParamsOptions, ServeOptions, command_of,
+};
 pub use device_line::{DeviceCommand, DeviceOptions, LEAST_COST};

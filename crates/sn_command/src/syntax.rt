@@ -3,13 +3,13 @@ ghost use Rattle.std.specs.Prelude.{◌≡◌, IfOk, false};
 ghost use Rattle.clap.specs.Simple.{app_of, shape_of, with_rule, with_subcommand};
 ghost use Rattle.clap.specs.Walk.{rule_of};
 ghost use Rattle.clap.specs.declared.builder.command.Command.TheViews.{out-Command as fields_of};
-ghost use Rattle.sn_command.specs.Syntax.{sn_app, sn_top, seal_shape, open_shape, show_shape, replay_shape, serve_shape, register_shape, sign_in_shape, put_shape, edit_shape, delete_shape, list_shape, sync_shape, change_password_shape, with_accounts, with_devices, with_others, option_rule};
+ghost use Rattle.sn_command.specs.Syntax.{sn_app, sn_top, seal_shape, open_shape, show_shape, replay_shape, gen_shape, serve_shape, register_shape, sign_in_shape, put_shape, edit_shape, delete_shape, list_shape, sync_shape, change_password_shape, with_accounts, with_devices, with_others, option_rule};
 
 use clap::{Arg, Command};
 use std::alloc::{AllocError, Global};
 
 const ABOUT: &str =
-    "Keeps notes encrypted (encryption protocol 003) on devices and on a server: a device registers or signs in, puts, edits, deletes and lists notes, changes the account's password, and syncs with the server, which serves a store of accounts. Besides, it seals, opens and shows single strings, and replays scripts of several devices and a server.";
+    "Keeps notes encrypted (encryption protocol 003) on devices and on a server: a device registers or signs in, puts, edits, deletes and lists notes, changes the account's password, and syncs with the server, which serves a store of accounts. Besides, it seals, opens and shows single strings, replays scripts of several devices and a server, and makes such scripts from a number.";
 
 const AFTER: &str =
     "Passwords and contents come on standard input and never stand on the command line. Status 0 is success, 2 a faulty command line, 3 a refusal, 4 a failed disk, 5 a failed port or link, 6 and 7 a failed read or write, 8 want of memory, 9 a file that is no store or a damaged one, 10 the server's refusal, 11 an answer that may not be used; each but 0 has one line on standard error.";
@@ -25,6 +25,9 @@ const SHOW: &str =
 
 const REPLAY: &str =
     "Carries out a script of several devices and a server in memory, and reports what each line brought about.";
+
+const GEN: &str =
+    "Makes a script from a number, as long as asked, carries it out as `replay` does, and writes a summary of the report: its events, the items on the server, the versions, the forks, and the drafts left on devices, a line each. It reads no input, and the same options give the same output. For example: sn gen --number 7 --count 2000";
 
 const SERVE: &str =
     "Serves the accounts of a store to devices, over HTTP on 127.0.0.1, until so many requests are answered. Once it listens it writes `listening`, the port and a line feed. A store that isn't there is made. For example: sn serve --store notes.store --port 8080 --requests 1000000";
@@ -61,6 +64,10 @@ const DEVICE_COST: &str = "Iterations of PBKDF2, 110000 to 10000000; 110000 wher
 
 const TITLE: &str = "The title of a note, of which standard input is the text";
 
+const NUMBER: &str = "The number to start at, 0 to 65536";
+
+const COUNT: &str = "How many events to make, 1 to 100000";
+
 const PORT: &str = "The port, 0 to 65535; at 0 the system chooses one";
 
 const REQUESTS: &str =
@@ -93,6 +100,7 @@ fn with_other_commands<'a>(alloc: Global, command: Command<'a>) -> Result<Comman
     let command = with_command(command, open_one(alloc)?)?;
     let command = with_command(command, show(alloc))?;
     let command = with_command(command, replay(alloc))?;
+    let command = with_command(command, generate(alloc)?)?;
     with_command(command, serve(alloc)?)
 }
 
@@ -167,6 +175,16 @@ fn replay<'a>(alloc: Global) -> Command<'a>
     ensures local { (fields_of result).has_globals ≡ false }
 {
     Command::new(alloc, "replay").about(REPLAY)
+}
+
+#[tactic(auto, unfolding(crate::specs::Syntax::gen_shape))]
+fn generate<'a>(alloc: Global) -> Result<Command<'a>, AllocError>
+    ensures shape { IfOk result (λ command. shape_of command ≡ gen_shape) }
+    ensures local { IfOk result (λ command. (fields_of command).has_globals ≡ false) }
+{
+    let command = Command::new(alloc, "gen").about(GEN);
+    let command = with_option(alloc, command, "number", "N", NUMBER, true)?;
+    with_option(alloc, command, "count", "N", COUNT, true)
 }
 
 #[tactic(auto, unfolding(crate::specs::Syntax::serve_shape))]

@@ -1,13 +1,13 @@
 use Rattle.std.proofs.Common.{◌≡◌, inl, inr, List, ℕ, Option, codes, refl, subst}
 use Rattle.sn_calls.specs.declared.ends.CallEnd.{CallEnd}
 use Rattle.sn_command.specs.CommandLine.{ServeLine}
-use Rattle.sn_command.specs.Commands.{IsCommand, device_line, open_line, seal_line, serve_line, task_of}
+use Rattle.sn_command.specs.Commands.{IsCommand, device_line, gen_line, open_line, seal_line, serve_line, task_of}
 use Rattle.sn_cli.specs.Runs.{AreLeft}
 use Rattle.sn_command.specs.Words.{texts}
 use Rattle.sn_status.specs.declared.status.Status.{Status}
 use Rattle.sn_client.specs.Runs.{Call}
 use Rattle.sn_cli.proofs.DeviceRuns.{has_bounds}
-use Rattle.sn_cli.proofs.MeetsLemmas.{IsLeft, answered, called_so, opened, replayed, sealed, served_so, shown, wanted}
+use Rattle.sn_cli.proofs.MeetsLemmas.{IsLeft, answered, called_so, generated, opened, replayed, sealed, served_so, shown, wanted}
 use Rattle.sn_command.proofs.OneDevice.{other_command}
 use Rattle.sn_serve.specs.Serving.{ServeEnds, handed}
 use Rattle.sn_cli.proofs.program.answer.Goals as goal
@@ -46,6 +46,12 @@ returns-in-Ok-Replay-clause-met g c =
     replayed (texts c.args.words.now) _ _ _ _ _ _ _ _ _ _ _ _ _ _ (same _ _ _ _ c.args.shelf.now c.args.port.now c.args.link.now c.args.clock.now)
     (subst (IsCommand (texts c.args.words.now)) c.in-Ok-Replay.field-0-is c.in-Ok-Replay.ensures.command) c.replay_input.ensures.ran
     c.replay_input.ensures.unplayed
+
+pub returns-in-Ok-Gen-clause-met : goal.returns-in-Ok-Gen-clause-met
+returns-in-Ok-Gen-clause-met g c =
+    generated (texts c.args.words.now) _ _ _ _ _ _ (gen_line c.in-Ok-Gen.options) _ _ _ _ _ _ _ (same _ _ _ _ c.args.shelf.now c.args.port.now c.args.link.now c.args.clock.now)
+    (subst (IsCommand (texts c.args.words.now)) c.in-Ok-Gen.field-0-is c.in-Ok-Gen.ensures.command) c.generate_and_replay.ensures.ran
+    c.generate_and_replay.ensures.unplayed
 
 pub returns-in-Ok-Serve-clause-met : goal.returns-in-Ok-Serve-clause-met
 returns-in-Ok-Serve-clause-met g c =

@@ -32,6 +32,13 @@ returns-clause-replay g c =
     (handed c.answer-status.new.shelf c.answer-status.new.port c.answer-status.new.out c.answer-status.new.clock c.answer-status.new.seeds)
     (texts c.args.words.now) _ _ _ _ _ c.answer-status.result c.tell.result _ _ _ _ _ _ _ _ c.tell.ensures.same c.answer-status.ensures.met).replay
 
+pub returns-clause-generate : goal.returns-clause-generate
+returns-clause-generate g c =
+    (told_so g.S.D.Disk g.S.Shelf.told g.S.Shelf.slot g.S.Shelf.fault_count g.P.Port.goes g.P.Port.bound g.O.Sink.held g.C.Clock.given g.R.Seeds.given
+    (handed c.args.shelf.now c.args.port.now c.args.out.now c.args.clock.now c.args.seeds.now)
+    (handed c.answer-status.new.shelf c.answer-status.new.port c.answer-status.new.out c.answer-status.new.clock c.answer-status.new.seeds)
+    (texts c.args.words.now) _ _ _ _ _ c.answer-status.result c.tell.result _ _ _ _ _ _ _ _ c.tell.ensures.same c.answer-status.ensures.met).generate
+
 pub returns-clause-serve : goal.returns-clause-serve
 returns-clause-serve g c =
     (told_so g.S.D.Disk g.S.Shelf.told g.S.Shelf.slot g.S.Shelf.fault_count g.P.Port.goes g.P.Port.bound g.O.Sink.held g.C.Clock.given g.R.Seeds.given

@@ -21,6 +21,7 @@ returns-in-None-clause-none c words given =
       no_open = λ line is. c.requires.not_open (same_name words c.args.given.now (codes "open") given is.command);
       no_show = λ is. c.requires.not_show (same_name words c.args.given.now (codes "show") given is);
       no_replay = λ is. c.requires.not_replay (same_name words c.args.given.now (codes "replay") given is);
+      no_gen = λ line is. c.requires.not_gen (same_name words c.args.given.now (codes "gen") given is.command);
       no_serve = λ line is. c.requires.not_serve (same_name words c.args.given.now (codes "serve") given is.command);
       no_device = λ line is. c.in-None.ensures.none words line given is;
       no_help = λ e. cc;

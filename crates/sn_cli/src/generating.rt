@@ -1,0 +1,62 @@
+// `gen`.
+ghost use Rattle.std.specs.Prelude.{◌≡◌, List, ℕ, IfOk, IsErrOf};
+ghost use Rattle.std.specs.Io.KnownBytes.{Keeps};
+ghost use Rattle.sn_io.specs.Causes.{Rose};
+ghost use Rattle.sn_command.specs.Commands.{gen_line};
+ghost use Rattle.sn_disk.specs.MemShelf.{shelf_slot};
+ghost use Rattle.sn_disk.specs.Shelf.{unknown};
+ghost use Rattle.sn_replay.specs.declared.error.ReplayError.TheVariants as refused;
+ghost use Rattle.sn_status.specs.declared.refusal.Refusal.TheVariants.{NotAllowed};
+ghost use Rattle.sn_cli.specs.Calls.{GenCallsFor, GenRefuses};
+ghost use Rattle.sn_cli.specs.Runs.{GenRuns, IsOfInput, IsSilent};
+
+use crate::output::write_out;
+use sn_command::GenOptions;
+use sn_disk::MemShelf;
+use sn_generator::generate;
+use sn_io::Sink;
+use sn_replay::{ReplayError, replay};
+use sn_status::{Refusal, Status};
+use sn_string::Text;
+use sn_summary::{summary_of, summary_text};
+use std::alloc::Global;
+
+/// Makes the script of the number, carries it out over disks that it leaves on the bench, and writes the summary of its report.
+pub fn generate_and_replay<O: Sink>(
+    alloc: Global,
+    options: &GenOptions,
+    bench: &mut MemShelf,
+    out: &mut O,
+) -> Status
+    requires fresh { (name : List ℕ) → shelf_slot bench.old name ≡ unknown }
+    ensures ran { GenRuns (gen_line options.now) bench.new result (O.held out.old) (O.held out.new) }
+    ensures unplayed { IsOfInput result → bench.new ≡ bench.old }
+    ensures silent { IsSilent result → Keeps (O.held out.old) (O.held out.new) }
+    ensures write { result ≡ Status.WriteFault → Rose (O.fault_count out.old) (O.fault_count out.new) }
+{
+    match summary_for(alloc, options, bench) {
+        Ok(summary) => write_out(out, summary.as_str().as_bytes()),
+        Err(ReplayError::NotAllowed { number }) => {
+            Status::Refused(Refusal::NotAllowed { number })
+        }
+        Err(ReplayError::Memory) => Status::Memory,
+    }
+}
+
+// The summary of the report that the script of the number carries over the disks that it leaves.
+fn summary_for(
+    alloc: Global,
+    options: &GenOptions,
+    bench: &mut MemShelf,
+) -> Result<Text, ReplayError>
+    requires fresh { (name : List ℕ) → shelf_slot bench.old name ≡ unknown }
+    ensures called { IfOk result (GenCallsFor bench.new (gen_line options.now)) }
+    ensures refused { (number : ℕ) → IsErrOf result (refused.NotAllowed number) → GenRefuses (gen_line options.now) (NotAllowed number) }
+    ensures untouched { (number : ℕ) → IsErrOf result (refused.NotAllowed number) → bench.new ≡ bench.old }
+{
+    let script = generate(alloc, options.number, options.count)?;
+    let report = replay(alloc, &script, bench)?;
+    let summary = summary_of(alloc, &report)?;
+    let text = summary_text(alloc, &summary)?;
+    Ok(text)
+}
