@@ -57,7 +57,8 @@ class TryIt(unittest.TestCase):
     def wanted(self):
         """What each block writes, in order."""
         served = b'listening 8003\n{"error":{"tag":"unknown"}}'
-        return [b"sn 0.1.0\n", report(), b"as worked out by hand\n", served, b"my note"]
+        summed = b"events 13\nitems 5\nversions 5\nforks 0\ndrafts 0\n"
+        return [b"sn 0.1.0\n", report(), b"as worked out by hand\n", summed, served, b"my note"]
 
     def test_each_is_known(self):
         self.assertEqual(len(blocks()), len(self.wanted()))
