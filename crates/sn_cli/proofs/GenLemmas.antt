@@ -1,5 +1,5 @@
 -- Scripts that are made from a number, as a replay takes them: their lines are bounded, and they have one password.
-use Rattle.std.proofs.Common.{◌≡◌, ◌⊎◌, inl, inr, ℕ, zero, suc, List, [], ◌∷◌, ◌++◌, All, Some, None, codes, refl, sym, ◌∙◌, ap, subst, slice_get, slice_index_or}
+use Rattle.std.proofs.Common.{◌≡◌, ◌⊎◌, inl, inr, ℕ, suc, List, [], ◌∷◌, ◌++◌, All, Some, None, codes, refl, sym, ◌∙◌, ap, subst, slice_get, slice_index_or}
 use Rattle.sn_course.specs.Headline.{IsPasswordOf, PasswordsApart}
 use Rattle.sn_course.specs.Lines.{password_of}
 use Rattle.sn_generator.specs.Generated.{IsEvent, IsGenerated, closing, edits, loses, opening, puts, syncs}

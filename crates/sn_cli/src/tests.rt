@@ -1,13 +1,17 @@
-//! Runs over an outside in memory. The strings are those of an independent implementation for the seed of zeros; the
-//! reports are worked out by hand from what each line asks for.
+//! Runs over an outside in memory. The strings are those of an independent implementation for the seed of zeros.
 
 use crate::program::run;
+use case::{Case, REPLAY};
+use scripts::REPLAYS;
 use sn_disk::MemShelf;
 use sn_io::{MemSeeds, MemSink, MemSource};
 use sn_net::{MemClock, MemLink, MemPort};
 use sn_status::Status;
 use std::alloc::Global;
 use std::test::Fail;
+
+mod case;
+mod scripts;
 
 const SEAL: &[&str] = &[
     "seal",
@@ -74,8 +78,6 @@ const SHOW: &[&str] = &["show"];
 
 const SHOW_MORE: &[&str] = &["show", "--uuid", "00000000-0000-4000-8000-000000000001"];
 
-const REPLAY: &[&str] = &["replay"];
-
 const REPLAY_MORE: &[&str] = &["replay", "--cost", "1"];
 
 const SERVE: &[&str] = &[
@@ -128,8 +130,6 @@ const SERVE_TOO_MANY: &[&str] = &[
     "1000001",
 ];
 
-const GEN: &[&str] = &["gen", "--number", "1", "--count", "8"];
-
 const GEN_NUMBER: &[&str] = &["gen", "--number", "65537", "--count", "1"];
 
 const GEN_NOTHING: &[&str] = &["gen", "--number", "1", "--count", "0"];
@@ -173,17 +173,6 @@ const UPPER_CASE: &[&str] = &[
     "--key",
     "000102030405060708090A0B0C0D0E0F101112131415161718191A1B1C1D1E1F202122232425262728292A2B2C2D2E2F303132333435363738393A3B3C3D3E3F",
 ];
-
-struct Case {
-    name: &'static str,
-    words: &'static [&'static str],
-    input: &'static [u8],
-    failing_reads: &'static [u64],
-    failing_writes: &'static [u64],
-    status: u8,
-    out: &'static [u8],
-    err: &'static [u8],
-}
 
 static CASES: [Case; 45] = [
     Case {
@@ -639,139 +628,6 @@ static CASES: [Case; 45] = [
 ];
 
 // Scripts that are carried out.
-static REPLAYS: [Case; 13] = [
-    Case {
-        name: "gen: reads no input",
-        words: GEN,
-        input: b"x",
-        failing_reads: &[0],
-        failing_writes: &[],
-        status: 0,
-        out: b"events 13\nitems 5\nversions 5\nforks 0\ndrafts 0\n",
-        err: b"",
-    },
-    Case {
-        name: "gen: the write fails",
-        words: GEN,
-        input: b"",
-        failing_reads: &[],
-        failing_writes: &[0],
-        status: 7,
-        out: b"",
-        err: b"sn: write fault\n",
-    },
-    Case {
-        name: "replays",
-        words: REPLAY,
-        input: b"cost 1\nclock 1000\nregister A alice p1\nput A {\"title\":\"x\"}\nsync A\nshow\n",
-        failing_reads: &[],
-        failing_writes: &[],
-        status: 0,
-        out: b"3 register alice set 1\n3 join A alice set 1\n3 = ok\n4 edit A #1 {\"title\":\"x\"}\n4 = ok\n5 post A #1\n5 accept #1 @1000 set 1\n5 settle A #1\n5 = ok\n6 account alice set 1\n6 item #1 @1000 set 1 {\"title\":\"x\"}\n6 device A alice sets 1\n6 = ok\n",
-        err: b"",
-    },
-    Case {
-        name: "replay: two items in one sync, and a sync of none",
-        words: REPLAY,
-        input: b"cost 1\nclock 1000\nregister A alice p1\nput A {\"n\":1}\nput A {\"n\":2}\nsync A\nsync A\nshow\n",
-        failing_reads: &[],
-        failing_writes: &[],
-        status: 0,
-        out: b"3 register alice set 1\n3 join A alice set 1\n3 = ok\n4 edit A #1 {\"n\":1}\n4 = ok\n5 edit A #2 {\"n\":2}\n5 = ok\n6 post A #1\n6 post A #2\n6 accept #1 @1000 set 1\n6 accept #2 @1001 set 1\n6 settle A #1\n6 settle A #2\n6 = ok\n7 = ok\n8 account alice set 1\n8 item #1 @1000 set 1 {\"n\":1}\n8 item #2 @1001 set 1 {\"n\":2}\n8 device A alice sets 1\n8 = ok\n",
-        err: b"",
-    },
-    Case {
-        name: "replay: no line feed at the end",
-        words: REPLAY,
-        input: b"cost 1\nclock 1000\nregister A alice p1\nput A {\"title\":\"x\"}\nsync A\nshow",
-        failing_reads: &[],
-        failing_writes: &[],
-        status: 0,
-        out: b"3 register alice set 1\n3 join A alice set 1\n3 = ok\n4 edit A #1 {\"title\":\"x\"}\n4 = ok\n5 post A #1\n5 accept #1 @1000 set 1\n5 settle A #1\n5 = ok\n6 account alice set 1\n6 item #1 @1000 set 1 {\"title\":\"x\"}\n6 device A alice sets 1\n6 = ok\n",
-        err: b"",
-    },
-    Case {
-        name: "replay: two devices and losses",
-        words: REPLAY,
-        input: b"cost 1\nclock 1000\nregister a u p\nput a {}\nsync a drop-reply\nsync a\nsignin b u p\nsync b\nedit b #1 {\"k\":1}\nsync b drop-request\nlate b 3\nput c {}\nshow\n",
-        failing_reads: &[],
-        failing_writes: &[],
-        status: 0,
-        out: b"3 register u set 1\n3 join a u set 1\n3 = ok\n4 edit a #1 {}\n4 = ok\n5 post a #1\n5 accept #1 @1000 set 1\n5 = link\n6 settle a #1\n6 = ok\n7 join b u set 1\n7 = ok\n8 = ok\n9 edit b #1 {\"k\":1}\n9 = ok\n10 post b #1\n10 = link\n11 = answer 200\n12 = refused client.1 NoAccount\n13 account u set 1\n13 item #1 @1000 set 1 {}\n13 device a u sets 1\n13 device b u sets 1\n13 draft b #1 {\"k\":1}\n13 device c none\n13 = ok\n",
-        err: b"",
-    },
-    Case {
-        name: "replay: an item that was never put",
-        words: REPLAY,
-        input: b"register a u p\nput a {}\ndel a #2\n",
-        failing_reads: &[],
-        failing_writes: &[],
-        status: 3,
-        out: b"",
-        err: b"sn: replay.2 NotAllowed 3\n",
-    },
-    Case {
-        name: "replay: an item before there is any",
-        words: REPLAY,
-        input: b"cost 1\nedit a #1 {}\n",
-        failing_reads: &[],
-        failing_writes: &[],
-        status: 3,
-        out: b"",
-        err: b"sn: replay.2 NotAllowed 2\n",
-    },
-    Case {
-        name: "replay: a request that was never made",
-        words: REPLAY,
-        input: b"register a u p\nlate a 1\nlate a 2\n",
-        failing_reads: &[],
-        failing_writes: &[],
-        status: 3,
-        out: b"",
-        err: b"sn: replay.2 NotAllowed 3\n",
-    },
-    Case {
-        name: "replay: the empty script",
-        words: REPLAY,
-        input: b"",
-        failing_reads: &[],
-        failing_writes: &[],
-        status: 0,
-        out: b"",
-        err: b"",
-    },
-    Case {
-        name: "replay: settings alone",
-        words: REPLAY,
-        input: b"cost 1\nclock 1000\n",
-        failing_reads: &[],
-        failing_writes: &[],
-        status: 0,
-        out: b"",
-        err: b"",
-    },
-    Case {
-        name: "replay: the first write fails",
-        words: REPLAY,
-        input: b"cost 1\nclock 1000\nregister A alice p1\nput A {\"title\":\"x\"}\nsync A\nshow\n",
-        failing_reads: &[],
-        failing_writes: &[0],
-        status: 7,
-        out: b"",
-        err: b"sn: write fault\n",
-    },
-    Case {
-        name: "replay: the second write fails",
-        words: REPLAY,
-        input: b"cost 1\nclock 1000\nregister A alice p1\nput A {\"title\":\"x\"}\nsync A\nshow\n",
-        failing_reads: &[],
-        failing_writes: &[1],
-        status: 7,
-        out: b"3 register alice set 1\n3 join A alice set 1\n3 = ok",
-        err: b"sn: write fault\n",
-    },
-];
-
 fn owned(alloc: Global, words: &[&str]) -> Result<Vec<String>, Fail> {
     let mut owned = Vec::new(alloc);
     for word in words {
