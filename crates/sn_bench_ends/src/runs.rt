@@ -54,7 +54,7 @@ pub extern "C" fn sn_bench_edits(
     rounds: u64,
     lists: u64,
 ) -> u64 {
-    match edited(alloc, content, count, drafts, rounds, lists) {
+    match edited(alloc, content, count, drafts, rounds, lists, false) {
         Some(found) => found,
         None => u64::MAX,
     }
@@ -70,7 +70,7 @@ pub extern "C" fn sn_bench_drafts(
     rounds: u64,
     lists: u64,
 ) -> u64 {
-    match sent(alloc, content, count, drafts, rounds, lists) {
+    match edited(alloc, content, count, drafts, rounds, lists, true) {
         Some(found) => found,
         None => u64::MAX,
     }
@@ -98,6 +98,7 @@ fn pulled(alloc: Global, content: &[u8], count: u64, others: u64, lists: u64) ->
     Some(found)
 }
 
+// Rounds of edits of the first items, each with a sync at its end or without one.
 fn edited(
     alloc: Global,
     content: &[u8],
@@ -105,28 +106,15 @@ fn edited(
     drafts: usize,
     rounds: u64,
     lists: u64,
+    syncs: bool,
 ) -> Option<u64> {
     let mut ends = pushed(alloc, content, count)?.reloaded()?;
     let content = text_of(content)?;
     'rounds: for _ in 0..rounds {
         ends.edit(content, drafts)?;
-    }
-    clean(ends.device(), lists)
-}
-
-fn sent(
-    alloc: Global,
-    content: &[u8],
-    count: u64,
-    drafts: usize,
-    rounds: u64,
-    lists: u64,
-) -> Option<u64> {
-    let mut ends = pushed(alloc, content, count)?.reloaded()?;
-    let content = text_of(content)?;
-    'rounds: for _ in 0..rounds {
-        ends.edit(content, drafts)?;
-        ends.sync()?;
+        if syncs {
+            ends.sync()?;
+        }
     }
     clean(ends.device(), lists)
 }
