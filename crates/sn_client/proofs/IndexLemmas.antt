@@ -1,7 +1,6 @@
 -- Walks over the rows of a kind, and where items stand in an index as changes come.
-use Rattle.std.proofs.Common.{arith, ◌+◌, ◌<◌, ◌≤◌, ◌≡◌, ◌∙◌, ◌⊎◌, ℕ, suc, Bool, true, false, cond, List, [], ◌∷◌, ◌++◌, Option, Some, None, IfNone, IfSome, All, IsTrue, refl, sym, ap, subst, ⊎_elim, inl, inr, length, get_or}
+use Rattle.std.proofs.Common.{arith, ◌+◌, ◌<◌, ◌≤◌, ◌≡◌, ◌∙◌, ◌⊎◌, ℕ, suc, Bool, true, false, cond, List, [], ◌∷◌, ◌++◌, Option, Some, None, IfNone, All, IsTrue, refl, sym, ap, subst, ⊎_elim, inl, inr, length, get_or}
 use Rattle.std.specs.Prelude.{◌==◌, if◌then◌else◌, IsSome, is_some}
-use Rattle.std.specs.Borrow.{Bor}
 use Rattle.std.specs.BTreeMap.{BTreeMap, get, is_at}
 use Rattle.std.specs.Cmp.{unsigned_tied}
 use Rattle.std.specs.Cmp.Lexicographic.{slice_cmp}
@@ -30,7 +29,7 @@ use Rattle.sn_rows.specs.declared.key.Key.TheVariants as key
 use Rattle.sn_rows.specs.declared.kind.RowKind.{RowKind}
 use Rattle.sn_rows.specs.declared.value.Value.{Value}
 use Rattle.sn_rows.specs.declared.value.Value.TheVariants as value
-use Rattle.sn_client.specs.Index.{Indexes, IndexesChange, IndexesRow, IsBehind, IsIndexed, IsNextListed, KeepsIndexed, NoneListed, Waits, WaitsIn, numbers_at}
+use Rattle.sn_client.specs.Index.{Indexes, IndexesChange, IndexesRow, IsIndexed, KeepsIndexed, numbers_at}
 use Rattle.sn_client.specs.Sending.{IsWaiting}
 use Rattle.sn_client.specs.States.{Bytes, HasLocal}
 use Rattle.sn_client.specs.declared.index.Index.{Index}
@@ -164,65 +163,6 @@ settled old new rows number names is none indexes n local stands = (
       ap is_some (is n ∙ ap (λ (b : Bool). cond b None (get nat_cmp old.waiting n)) apart) ∙ (indexes n local stands).1 waits)
       (cases_Bool (is_at (nat_cmp number) n)),
 )
-
--- without its number, no more stand there, and not this one
-module _ (old new : BTreeMap ℕ (Unit {0})) (number : ℕ) (is : (q : ℕ) → get nat_cmp new q ≡ cond (is_at (nat_cmp number) q) None (get nat_cmp old q)) where
-  gone : (n : ℕ) → is_at (nat_cmp number) n ≡ true → ¬ (IsSome (get nat_cmp new n))
-  gone n same waits =
-      absurd (let wrong : false ≡ true = sym (ap is_some (is n ∙ ap (λ (b : Bool). cond b None (get nat_cmp old n)) same)) ∙ waits in cc)
-
-  pub fewer : (n : ℕ) → IsSome (get nat_cmp new n) → IsSome (get nat_cmp old n)
-  fewer n waits =
-      ⊎_elim
-      (λ (same : is_at (nat_cmp number) n ≡ true). absurd (gone n same waits))
-      (λ (apart : is_at (nat_cmp number) n ≡ false).
-      sym (ap is_some (is n ∙ ap (λ (b : Bool). cond b None (get nat_cmp old n)) apart)) ∙ waits)
-      (cases_Bool (is_at (nat_cmp number) n))
-
--- what is taken out stands there no more
-pub taken_out : (rows : Rows) (waiting : BTreeMap ℕ (Unit {0})) (number n : ℕ) → get nat_cmp waiting number ≡ None → number ≡ n
-    → IsSome (get nat_cmp waiting n) → WaitsIn rows n
-taken_out rows waiting number n none same waits =
-    let here : IsSome (get nat_cmp waiting number) = subst (λ (m : ℕ). IsSome (get nat_cmp waiting m)) (sym same) waits in
-    absurd (let wrong : false ≡ true = sym (ap is_some none) ∙ here in cc)
-
--- what is found waits
-pub found_waits : (rows : Rows) (number n : ℕ) (found : Option (Bor LocalItem)) (b : Bool)
-    → IfSome found (λ item. HasLocal rows number item.now × IsWaiting item.now) → b ≡ is_some found → b ≡ true → number ≡ n → WaitsIn rows n
-found_waits rows number n None b some is there same = absurd (let wrong : true ≡ false = sym there ∙ is in cc)
-found_waits rows number n (Some item) b some is there same = subst (WaitsIn rows) same (item.now, some.0, some.1)
-
--- each number that stands waits, or comes at or behind the next one
-abbrev pub IsListedAhead : Option ℕ → ℕ → Type 0
-IsListedAhead None n = ⊥
-IsListedAhead (Some next) n = next ≤ n
-
-abbrev pub AreSettled : Index → Rows → Option ℕ → Type 0
-AreSettled index rows next = (n : ℕ) → Waits index n → WaitsIn rows n ⊎ IsListedAhead next n
-
-listed_ahead : (index : Index) (behind next : Option ℕ) → IfSome next (IsNextListed index behind) → IfNone next (NoneListed index behind)
-    → (n : ℕ) → IsBehind behind n → Waits index n → IsListedAhead next n
-listed_ahead index behind None some none n later waits = none n later waits
-listed_ahead index behind (Some next) some none n later waits = some.least n later waits
-
-pub settled_first : (index : Index) (rows : Rows) (next : Option ℕ) → IfSome next (IsNextListed index None) → IfNone next (NoneListed index None)
-    → AreSettled index rows next
-settled_first index rows next some none n waits = inr (listed_ahead index None next some none n tt waits)
-
-pub settled_more : (old new : Index) (rows : Rows) (number : ℕ) (next : Option ℕ) → AreSettled old rows (Some number)
-    → (Waits new number → WaitsIn rows number) → ((n : ℕ) → Waits new n → Waits old n) → IfSome next (IsNextListed new (Some number))
-    → IfNone next (NoneListed new (Some number)) → AreSettled new rows next
-settled_more old new rows number next before here less some none n waits =
-    ⊎_elim
-    (λ (done : WaitsIn rows n). inl done)
-    (λ (upto : number ≤ n). ⊎_elim
-    (λ (same : number ≡ n). inl (subst (λ (m : ℕ). WaitsIn rows m) same (here (subst (λ (m : ℕ). Waits new m) (sym same) waits))))
-    (λ (later : number < n). inr (listed_ahead new (Some number) next some none n later waits))
-    (eq-or-lt_of_le upto))
-    (before n (less n waits))
-
-pub settled_last : (index : Index) (rows : Rows) → AreSettled index rows None → (n : ℕ) → Waits index n → WaitsIn rows n
-settled_last index rows settled n waits = ⊎_elim (λ (done : WaitsIn rows n). done) (λ (none : ⊥). absurd none) (settled n waits)
 
 -- ---- changes
 

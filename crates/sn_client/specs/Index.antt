@@ -47,10 +47,6 @@ IndexesRow index k v = (n : ℕ) (local : LocalItem) → k ≡ key.Local n → v
 abbrev pub IndexesChange : Index → Change → Type 0
 IndexesChange index change = (n : ℕ) (local : LocalItem) → Puts change (key.Local n) (value.Local local) → IsIndexed index n local
 
--- the number's item waits to be sent
-abbrev pub WaitsIn : Rows → ℕ → Type 0
-WaitsIn rows n = (local : LocalItem) × HasLocal rows n local × IsWaiting local
-
 -- what stands there stays
 pub record KeepsIndexed (old new : Index) : Type 0 where
   pub names : (uuid : Bytes) (n : ℕ) → Lists old uuid n → Lists new uuid n

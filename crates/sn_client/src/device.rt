@@ -8,7 +8,7 @@ ghost use Rattle.sn_client.specs.Index.{Indexes, indexes-prop};
 
 use crate::called::Called;
 use crate::error::of_commit;
-use crate::index::Index;
+use crate::index::{Index, changed_numbers};
 use sn_disk::{Disk, MemDisk, Stop};
 use sn_rows::Change;
 use sn_table::{CommitError, Committed, Table};
@@ -79,7 +79,8 @@ impl<D: Disk> Device<D> {
             mut index,
             least_cost,
         } = self;
-        let Ok(()) = index.add_all(&changes) else {
+        let (Ok(()), Ok(numbers)) = (index.add_all(&changes), changed_numbers(alloc, &changes))
+        else {
             let device = Device {
                 alloc,
                 table,
@@ -89,12 +90,15 @@ impl<D: Disk> Device<D> {
             return Committed::Refused(device, CommitError::Memory);
         };
         match table.commit(changes) {
-            Committed::Done(table) => Committed::Done(Device {
-                alloc,
-                table,
-                index,
-                least_cost,
-            }),
+            Committed::Done(table) => {
+                index.settle(table.rows(), &numbers);
+                Committed::Done(Device {
+                    alloc,
+                    table,
+                    index,
+                    least_cost,
+                })
+            }
             Committed::Refused(table, error) => {
                 let device = Device {
                     alloc,

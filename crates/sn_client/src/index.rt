@@ -1,13 +1,12 @@
 //! Where items are found: by their uuids, and those that wait to be sent.
 
-ghost use Rattle.std.specs.Prelude.{◌≡◌, ◌↔◌, ◌++◌, ◌∷◌, ℕ, [], IfNone, IfOk, IfSome, IsTrue, OnOk, Option};
-ghost use Rattle.sn_client.specs.Index.{Indexes, IndexesChange, IndexesRow, IsIndexed, IsNextListed, KeepsIndexed, Lists, NoneListed, Waits, WaitsIn, numbers_at};
+ghost use Rattle.std.specs.Prelude.{◌≡◌, ◌↔◌, ◌++◌, ◌∷◌, [], IfNone, IfOk, IfSome, IsTrue, OnOk, Option};
+ghost use Rattle.sn_client.specs.Index.{Indexes, IndexesChange, IndexesRow, IsIndexed, IsNextListed, KeepsIndexed, Lists, NoneListed, Waits, numbers_at};
 ghost use Rattle.sn_client.specs.Sending.{IsWaiting};
 ghost use Rattle.sn_client.specs.States.{HasLocal};
 ghost use Rattle.sn_row_map.specs.RowMaps.{row_in};
 ghost use Rattle.sn_rows.specs.Table.{Rows, rows_after};
 ghost use Rattle.sn_rows.specs.declared.device_rows.LocalItem.{LocalItem};
-ghost use Rattle.sn_rows.specs.declared.key.Key.TheVariants.{Local};
 
 use sn_row_map::RowMap;
 use sn_rows::{Change, Key, LocalItem, RowKind, Value};
@@ -19,7 +18,8 @@ use std::ops::Bound::{Excluded, Unbounded};
 use uuid::Uuid;
 
 /// The local numbers of items by their uuids, and of those that wait to be sent. At a uuid may stand items that have
-/// it no more, or don't have it yet, and among those that wait some that don't; so each is to be looked up in the rows.
+/// it no more, or don't have it yet, and among those that wait some whose commit was refused; so each is to be looked up
+/// in the rows.
 #[derive(Drop)]
 pub(crate) struct Index {
     alloc: Global,
@@ -147,41 +147,35 @@ impl Index {
         }
     }
 
-    /// Takes the numbers of the changed items out that don't wait in the rows. Takes no memory.
-    pub(crate) fn settle(&mut self, rows: &RowMap, changes: &[Change])
+    /// Takes these numbers out where their items don't wait in the rows. Takes no memory.
+    pub(crate) fn settle(&mut self, rows: &RowMap, numbers: &[u64])
         ensures { Indexes self.old (row_in rows.now) → Indexes self.new (row_in rows.now) }
     {
-        'changes: for change in changes {
-            self.settle_one(rows, change.key());
-        }
-    }
-
-    /// Takes all numbers out whose items don't wait in the rows. Takes no memory.
-    pub(crate) fn settle_all(&mut self, rows: &RowMap)
-        ensures indexes { Indexes self.old (row_in rows.now) → Indexes self.new (row_in rows.now) }
-        ensures exact { (n : ℕ) → Waits self.new n → WaitsIn (row_in rows.now) n }
-    {
-        let mut next = self.next_listed(None);
-        'numbers: while let Some(number) = next {
-            self.settle_one(rows, Key::Local(number));
-            next = self.next_listed(Some(number));
+        'numbers: for number in numbers {
+            self.settle_one(rows, *number);
         }
     }
 
     // Takes the number of an item out if it doesn't wait.
-    fn settle_one(&mut self, rows: &RowMap, key: Key)
-        ensures indexes { Indexes self.old (row_in rows.now) → Indexes self.new (row_in rows.now) }
-        ensures exact { (n : ℕ) → key ≡ Local n → Waits self.new n → WaitsIn (row_in rows.now) n }
-        ensures fewer { (n : ℕ) → Waits self.new n → Waits self.old n }
+    fn settle_one(&mut self, rows: &RowMap, number: u64)
+        ensures { Indexes self.old (row_in rows.now) → Indexes self.new (row_in rows.now) }
     {
-        let Key::Local(number) = key else {
-            return;
-        };
         if waiting_item(rows, number).is_some() {
             return;
         }
         self.waiting.remove(&number);
     }
+}
+
+/// The local numbers of the items that changes put or remove.
+pub(crate) fn changed_numbers(alloc: Global, changes: &[Change]) -> Result<Vec<u64>, AllocError> {
+    let mut numbers = Vec::new(alloc);
+    'changes: for change in changes {
+        if let Key::Local(number) = change.key() {
+            numbers.push(number)?;
+        }
+    }
+    Ok(numbers)
 }
 
 // The numbers, and one more.

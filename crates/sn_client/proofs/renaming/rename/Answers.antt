@@ -1,5 +1,5 @@
 use Rattle.std.proofs.Common.{◌≤◌, List, ℕ, Option, IfSome, IfNone, String, Global, subst, sym, length, string_bytes}
-use Rattle.sn_conflict.proofs.MeetLemmas.{not_holds}
+use Rattle.sn_conflict.proofs.Facts.{not_holds}
 use Rattle.sn_row_map.specs.RowMaps.{row_in}
 use Rattle.sn_sets.proofs.Facts.{opened_is_short}
 use Rattle.sn_sets.specs.Seals.{longest_sealed}

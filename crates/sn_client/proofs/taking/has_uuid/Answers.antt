@@ -1,7 +1,6 @@
 use Rattle.std.proofs.Common.{arith, ◌≡◌, rules}
 use Rattle.std.specs.Prelude.{IsTrue, ◌↔◌}
-use Rattle.sn_conflict.proofs.ListLemmas.{named_here, named_nowhere, none_beyond}
-use Rattle.sn_conflict.proofs.MeetLemmas.{not_holds}
+use Rattle.sn_conflict.proofs.Facts.{named_here, named_nowhere, none_beyond, not_holds}
 use Rattle.sn_sync.specs.declared.item.Item.{Item}
 use Rattle.sn_client.proofs.taking.has_uuid.Goals as goal
 

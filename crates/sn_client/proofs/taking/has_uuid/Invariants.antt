@@ -1,5 +1,5 @@
 use Rattle.std.proofs.Common.{◌≡◌}
-use Rattle.sn_conflict.proofs.ListLemmas.{NoneBefore}
+use Rattle.sn_conflict.proofs.Facts.{NoneBefore}
 use Rattle.sn_sync.specs.declared.item.Item.{Item}
 use Rattle.sn_client.proofs.taking.has_uuid.Given as goal
 

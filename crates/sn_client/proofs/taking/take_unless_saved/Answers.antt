@@ -1,6 +1,6 @@
 use Rattle.std.proofs.Common.{refl}
 use Rattle.std.proofs.lemmas.Result.{IfErr-weaker}
-use Rattle.sn_conflict.proofs.MeetLemmas.{not_holds}
+use Rattle.sn_conflict.proofs.Facts.{not_holds}
 use Rattle.sn_row_map.specs.RowMaps.{row_in}
 use Rattle.std.proofs.Common.{false}
 use Rattle.sn_client.specs.Taken.{StopsServer, so_far}

@@ -3,6 +3,7 @@ use Rattle.std.proofs.Common.{sym, ap, subst, ◌∙◌}
 use Rattle.std.proofs.Math.Path.{fun_ext}
 use Rattle.sn_journal.specs.declared.owner.Owner.{Owner}
 use Rattle.sn_row_map.specs.RowMaps.{row_in}
+use Rattle.sn_row_map.specs.declared.row_map.RowMap.{RowMap}
 use Rattle.sn_rows.specs.Table.{Rows, rows_after}
 use Rattle.sn_rows.specs.declared.change.Change.{Change}
 use Rattle.sn_table.specs.Batches.{IsOf}
@@ -20,9 +21,11 @@ invariant_of-device g c = record { owner = c.args.self.owner; indexed = c.add_al
 pub invariant_of-result : goal.invariant_of-result
 invariant_of-result g c = record {
   owner = c.in-Done.ensures.owner ∙ c.args.self.owner;
-  indexed = subst (λ (r : Rows). Indexes c.add_all.new.self r)
+  indexed = subst (λ (m : RowMap). Indexes c.settle.new.self (row_in m)) c.rows.ensures.rows
+      (c.settle.ensures (subst (λ (m : RowMap). Indexes c.add_all.new.self (row_in m)) (sym c.rows.ensures.rows)
+      (subst (λ (r : Rows). Indexes c.add_all.new.self r)
       (ap (λ (l : List Change). rows_after (row_in (table_rows c.args.self.table)) l) c.deref.ensures.value ∙ sym (fun_ext c.in-Done.ensures.rows))
-      (c.in-Ok.ensures.added (row_in (table_rows c.args.self.table)) c.args.self.indexed);
+      (c.in-Ok-Ok.ensures.added (row_in (table_rows c.args.self.table)) c.args.self.indexed))));
 }
 
 pub invariant_of-device-in-Refused : goal.invariant_of-device-in-Refused

@@ -1,4 +1,4 @@
 use Rattle.sn_client.proofs.index.Index.settle.Goals as goal
 
-pub changes-preserved : goal.changes-preserved
-changes-preserved c = λ indexes. c.settle_one.ensures.indexes (c.changes.invariant indexes)
+pub numbers-preserved : goal.numbers-preserved
+numbers-preserved c = λ indexes. c.settle_one.ensures (c.numbers.invariant indexes)
