@@ -15,7 +15,7 @@ use Rattle.sn_rows.specs.declared.server_rows.ItemRow.{ItemRow}
 use Rattle.sn_rows.specs.declared.server_rows.StoreRow.{StoreRow}
 use Rattle.sn_rows.specs.declared.value.Value.TheVariants as value
 use Rattle.sn_string.specs.declared.params.Params.{Params}
-use Rattle.sn_sync.proofs.TokenFacts.{length-token-le}
+use Rattle.sn_sync.proofs.Facts.{length-token-le}
 use Rattle.sn_sync.specs.Fits.{FitsKind, FitsSent}
 use Rattle.sn_sync.specs.Stamps.{last_stamp}
 use Rattle.sn_sync.specs.Tokens.{IsToken}

@@ -7,7 +7,7 @@ use Rattle.serde_json.specs.Data.{Data, Items, Members, boolean, item, member, n
 use Rattle.serde_json.specs.Written.{comma_if, compact_text, items_text, members_text}
 use Rattle.uuid.proofs.TextLemmas.{by_index_length}
 use Rattle.sn_string.specs.Uuids.{uuid_text}
-use Rattle.sn_sync.proofs.Padded.{length-padded}
+use Rattle.sn_sync.proofs.Facts.{length-padded}
 use Rattle.sn_sync.specs.Answers.{content_error, sync_conflict, uuid_conflict}
 use Rattle.sn_sync.specs.Stamps.{Moment, moment_text}
 use Rattle.sn_sync.specs.Written.{AreConflictsData, AreItemsData, IsConflictData, IsCreatedData, IsItemData, item_data, optional_data, uuid_data}

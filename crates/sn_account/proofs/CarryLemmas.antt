@@ -8,7 +8,7 @@ use Rattle.sn_string.specs.declared.params.Params.{Params}
 use Rattle.sn_string.specs.declared.reader.Parts.{Parts}
 use Rattle.sn_string.specs.declared.reader.StringError.{StringError}
 use Rattle.sn_string.specs.declared.reader.StringError.TheVariants as error
-use Rattle.sn_string.proofs.Unique.{one_reading, read_back}
+use Rattle.sn_string.proofs.Facts.{one_reading, read_back}
 use Rattle.sn_account.specs.Rules.{Carries, CarriesText}
 
 -- a text that is read carries what it is read with, and nothing else

@@ -16,7 +16,7 @@ use Rattle.sn_string.specs.declared.params.Params.{Params}
 use Rattle.sn_string.specs.declared.reader.Parts.{Parts}
 use Rattle.sn_string.specs.declared.reader.StringError.{StringError}
 use Rattle.sn_string.specs.declared.reader.StringError.TheVariants as error
-use Rattle.sn_string.proofs.Unique.{one_reading, read_back}
+use Rattle.sn_string.proofs.Facts.{one_reading, read_back}
 use Rattle.sn_sync.specs.Laws.{AreBytes, FitsKind}
 use Rattle.sn_sync.specs.Stamps.{last_stamp}
 use Rattle.sn_sync.specs.declared.answer.Conflict.TheVariants as conflict

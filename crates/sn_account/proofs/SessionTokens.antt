@@ -8,7 +8,7 @@ use Rattle.hex.specs.Hex.{encode_lower}
 use Rattle.uuid.proofs.TextLemmas.{by_index_length}
 use Rattle.sn_hmac.specs.Hmac.{hmac_sha256}
 use Rattle.sn_string.specs.Uuids.{IsUuidText, uuid_text}
-use Rattle.sn_string.proofs.UuidFacts.{parsed-spelled}
+use Rattle.sn_string.proofs.Facts.{parsed-spelled}
 use Rattle.sn_rows.specs.Table.{Rows}
 use Rattle.sn_rows.specs.declared.server_rows.AccountRow.{AccountRow}
 use Rattle.sn_rows.specs.declared.value.Value.TheVariants as value

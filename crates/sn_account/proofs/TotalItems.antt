@@ -9,7 +9,7 @@ use Rattle.sn_rows.specs.declared.key.Key.TheVariants as key
 use Rattle.sn_rows.specs.declared.server_rows.ItemRow.{ItemRow}
 use Rattle.sn_rows.specs.declared.value.Value.TheVariants as value
 use Rattle.sn_string.specs.declared.params.Params.{Params}
-use Rattle.sn_sync.proofs.OneStamp.{one_spelling}
+use Rattle.sn_sync.proofs.Facts.{one_spelling}
 use Rattle.sn_sync.specs.Fits.{FitsKind, FitsSent}
 use Rattle.sn_sync.specs.Stamps.{IsStampText, last_stamp}
 use Rattle.sn_sync.specs.declared.answer.Conflict.TheVariants as conflict

@@ -6,7 +6,7 @@ use Rattle.sn_rows.specs.declared.key.Key.TheVariants as key
 use Rattle.sn_rows.specs.declared.server_rows.ItemRow.{ItemRow}
 use Rattle.sn_rows.specs.declared.value.Value.TheVariants as value
 use Rattle.sn_string.specs.declared.params.Params.{Params}
-use Rattle.sn_sync.proofs.OneStamp.{one_spelling}
+use Rattle.sn_sync.proofs.Facts.{one_spelling}
 use Rattle.sn_sync.specs.Stamps.{last_stamp}
 use Rattle.sn_sync.specs.declared.answer.Conflict.TheVariants as conflict
 use Rattle.sn_sync.specs.declared.item.Item.{Item}

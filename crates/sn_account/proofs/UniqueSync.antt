@@ -10,7 +10,7 @@ use Rattle.sn_rows.specs.declared.server_rows.StoreRow.{StoreRow}
 use Rattle.sn_rows.specs.declared.value.Value.TheVariants as value
 use Rattle.sn_string.proofs.Facts.{same_params}
 use Rattle.sn_string.specs.declared.params.Params.{Params}
-use Rattle.sn_sync.proofs.TokenFacts.{one_token}
+use Rattle.sn_sync.proofs.Facts.{one_token}
 use Rattle.sn_sync.specs.declared.answer.Answer.{Answer}
 use Rattle.sn_sync.specs.declared.answer.Answer.TheVariants as answer
 use Rattle.sn_sync.specs.declared.answer.More.{More}

@@ -4,7 +4,7 @@ use Rattle.std.proofs.lemmas.Bool.Decides.{nat_tests}
 use Rattle.std.proofs.lemmas.List.Elements.{All-head, All-tail}
 use Rattle.std.specs.Prelude.{◌==◌, length}
 use Rattle.rand_chacha.specs.ChaCha.{ChaCha}
-use Rattle.sn_client.proofs.AdoptRows.{Adopted, IsAdopted as IsRekeyed, adopted, adopted_device, adopted_sets}
+use Rattle.sn_client.proofs.Facts.{Adopted, IsAdopted as IsRekeyed, adopted, adopted_device, adopted_sets}
 use Rattle.sn_client.specs.States.{HasLocal, OwnerColumns}
 use Rattle.sn_client.specs.Steps.{Adopts}
 use Rattle.sn_journal.specs.declared.owner.Owner.TheVariants.{Device as device_owner}
@@ -29,9 +29,7 @@ use Rattle.sn_rows.specs.declared.key.Key.{Key}
 use Rattle.sn_rows.specs.declared.key.Key.TheVariants as key
 use Rattle.sn_rows.specs.declared.key.Slot.TheVariants.{Older}
 use Rattle.sn_sets.specs.Sets.{OpensNowhere, sealed_of}
-use Rattle.sn_shows.proofs.AdoptedSets.{greatest_of_one, greatest_of_two}
-use Rattle.sn_shows.proofs.DeviceLookups.{find_changed}
-use Rattle.sn_shows.proofs.Facts.{adopted_shows, holder_of, retired_shows}
+use Rattle.sn_shows.proofs.Facts.{adopted_shows, find_changed, greatest_of_one, greatest_of_two, holder_of, retired_shows}
 use Rattle.sn_shows.specs.Adopting.{AdoptsSet, HasItemAt, WasAdopted}
 use Rattle.sn_shows.specs.Devices.{IsDeviceKey, ShowsDevice, ShowsHolder, ShowsLocal}
 use Rattle.sn_shows.specs.Laws.{HasAccount}

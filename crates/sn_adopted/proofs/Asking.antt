@@ -16,8 +16,7 @@ use Rattle.sn_rows.specs.declared.key.Key.TheVariants as key
 use Rattle.sn_rows.specs.declared.key.Slot.TheVariants.{Asked, Older, Present}
 use Rattle.sn_rows.specs.declared.value.Value.{Value}
 use Rattle.sn_rows.specs.declared.value.Value.TheVariants as value
-use Rattle.sn_shows.proofs.DeviceStates.{holder_from, shows_of}
-use Rattle.sn_shows.proofs.Facts.{holder_of, tokens_show}
+use Rattle.sn_shows.proofs.Facts.{holder_from, holder_of, shows_of, tokens_show}
 use Rattle.sn_shows.specs.Devices.{HasRow, IsDeviceKey, ShowsDevice, ShowsHolder, ShowsOlder}
 use Rattle.sn_adopted.proofs.SetRows.{identifier_of}
 use Rattle.sn_adopted.specs.Laws.{AskShows, ForgetShows, RenewShows}

@@ -13,7 +13,7 @@ use Rattle.sn_laws.specs.declared.ideal.Draft.{Draft}
 use Rattle.sn_laws.specs.declared.ideal.Ideal.{Ideal}
 use Rattle.sn_laws.specs.declared.ideal.Posted.{Posted}
 use Rattle.sn_laws.specs.declared.moves.Move.TheVariants.{Post, Unpost}
-use Rattle.sn_shows.proofs.DeviceLookups.{find_changed, find_past_changed}
+use Rattle.sn_shows.proofs.Facts.{find_changed, find_past_changed}
 use Rattle.sn_adopted.specs.Laws.{RepostsAllowed, RepostsMove}
 use Rattle.sn_adopted.specs.Moves.{reposting, sent_again}
 

@@ -3,11 +3,7 @@ use Rattle.std.proofs.Common.{◌≡◌, ◌<◌, ℕ, List, [], ◌∷◌, Opti
 use Rattle.std.specs.List.{AllZip}
 use Rattle.std.specs.Prelude.{length}
 use Rattle.rand_chacha.specs.ChaCha.{ChaCha}
-use Rattle.sn_client.proofs.AdoptSound.{past_asked}
-use Rattle.sn_client.proofs.Frames.{Parts, item_after}
-use Rattle.sn_client.proofs.SoundSteps.{begin_empty}
-use Rattle.sn_client.proofs.Standing.{IsKept, Stand}
-use Rattle.sn_client.proofs.StepStands.{apply_parts, apply_stands, delete_parts, delete_stands, edit_parts, edit_stands, new_stands, post_parts, post_stands, put_parts, renew_parts}
+use Rattle.sn_client.proofs.Facts.{IsKept, Parts, Stand, apply_parts, apply_stands, begin_empty, delete_parts, delete_stands, edit_parts, edit_stands, item_after, new_stands, past_asked, post_parts, post_stands, put_parts, renew_parts}
 use Rattle.sn_client.specs.Sending.{Posts}
 use Rattle.sn_client.specs.States.{Columns, HasLocal, HasOwner, HasSets, IsSound}
 use Rattle.sn_client.specs.Steps.{AppliesAnswer, AppliesTo, Step, What, adopts, applies, asks, begins, deletes, edits, forgets, posts, puts, renews}
@@ -28,8 +24,7 @@ use Rattle.sn_rows.specs.declared.key.Key.TheVariants as key
 use Rattle.sn_rows.specs.declared.key.Slot.TheVariants.{Asked}
 use Rattle.sn_sets.specs.Sets.{OpensNot, OpensOlder, sealed_of}
 use Rattle.sn_sets.specs.declared.sets.Sets.{Sets}
-use Rattle.sn_shows.proofs.AdoptedSets.{greatest_of_two}
-use Rattle.sn_shows.proofs.Facts.{holder_of, one_set}
+use Rattle.sn_shows.proofs.Facts.{greatest_of_two, holder_of, one_set}
 use Rattle.sn_shows.specs.Devices.{ShowsHolder}
 use Rattle.sn_shows.specs.Sets.{OpensUnder, set_at}
 use Rattle.sn_string.specs.declared.params.KeySet.{KeySet}

@@ -2,7 +2,7 @@
 use Rattle.std.proofs.Common.{◌≡◌, ℕ, zero, suc, ◌+◌, ◌*◌, ◌/◌, ◌%◌, ◌<◌, ◌≤◌, List, ◌++◌, length, take, drop, refl, sym, ap, ap₂, ◌∙◌, add-one, arith, below_more}
 use Rattle.std.proofs.lemmas.List.{drop-drop}
 use Rattle.sn_aes.specs.Cipher.{aes256, xor_bytes}
-use Rattle.sn_aes.proofs.InverseLemmas.{xor_bytes_cancel}
+use Rattle.sn_aes.proofs.Facts.{xor_bytes_cancel}
 use Rattle.sn_cbc.specs.Cbc.{block_of, block_before, IsChained}
 use Rattle.sn_cbc.proofs.BlockLemmas.{before_write, at_write, after_write}
 

@@ -1,4 +1,5 @@
 pub mod BlockLemmas
 pub mod Chains
+pub mod Facts
 pub mod PaddingLemmas
 pub mod UniqueLemmas

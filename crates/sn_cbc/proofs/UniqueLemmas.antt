@@ -3,8 +3,7 @@ use Rattle.std.proofs.Common.{◌≡◌, ℕ, zero, suc, ◌+◌, ◌*◌, ◌/�
 use Rattle.std.proofs.lemmas.List.{length-take, length-take-le, length-drop, get_or-take, get_or-drop, get_or_past, ext_get_or, get_or-replicate, length-replicate}
 use Rattle.std.proofs.lemmas.Bool.{cases_lt}
 use Rattle.sn_aes.specs.Cipher.{aes256, xor_bytes}
-use Rattle.sn_aes.proofs.InverseLemmas.{xor_bytes_cancel, length-xor_bytes, xor_bytes_small, append_small}
-use Rattle.sn_aes.proofs.Injective.{aes256_injective}
+use Rattle.sn_aes.proofs.Facts.{aes256_injective, append_small, length-xor_bytes, xor_bytes_cancel, xor_bytes_small}
 use Rattle.sn_cbc.specs.Cbc.{block_of, block_before, IsChained, padded, padding_count, AreBytes}
 
 length-block_of : (text : List ℕ) (n : ℕ) → 16 * n + 16 ≤ length text → length (block_of text n) ≡ 16

@@ -11,8 +11,7 @@ use Rattle.sn_laws.specs.Lookups.{Bytes, account_named, is_account}
 use Rattle.sn_laws.specs.Moves.{changed_where}
 use Rattle.sn_laws.specs.declared.ideal.Account.{Account}
 use Rattle.sn_laws.specs.declared.ideal.Ideal.{Ideal}
-use Rattle.sn_shows.proofs.DeviceLookups.{find_changed, find_past_changed}
-use Rattle.sn_shows.proofs.ServersApart.{each_at}
+use Rattle.sn_shows.proofs.Facts.{each_at, find_changed, find_past_changed}
 use Rattle.sn_shows.specs.Laws.{AreApart}
 use Rattle.sn_shows.specs.Servers.{account_at}
 use Rattle.sn_changed.proofs.Found.{apart_numbers, apart_texts, each_got, found_at}

@@ -12,7 +12,7 @@ use Rattle.sn_laws.specs.declared.ideal.Account.{Account}
 use Rattle.sn_laws.specs.declared.ideal.Body.{Body}
 use Rattle.sn_laws.specs.declared.ideal.Body.TheVariants.{Under, Gone}
 use Rattle.sn_laws.specs.declared.ideal.Version.{Version}
-use Rattle.sn_shows.proofs.ServersLists.{last_own}
+use Rattle.sn_shows.proofs.Facts.{last_own}
 use Rattle.sn_string.specs.declared.params.KeySet.{KeySet}
 use Rattle.sn_changed.proofs.Left.{comes_last}
 use Rattle.sn_changed.specs.Leaves.{ChangeBehind, IsItemBehind, NoneIsBehind, RewrapBehind, resealed_at, with_version}

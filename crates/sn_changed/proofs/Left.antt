@@ -9,7 +9,7 @@ use Rattle.sn_laws.specs.Relation.{IsOnLast}
 use Rattle.sn_laws.specs.declared.ideal.Account.{Account}
 use Rattle.sn_laws.specs.declared.ideal.Version.{Version}
 use Rattle.sn_laws.specs.declared.moves.Move.TheVariants as move
-use Rattle.sn_shows.proofs.ServersLists.{last_other, last_own, set_last}
+use Rattle.sn_shows.proofs.Facts.{last_other, last_own, set_last}
 use Rattle.sn_shows.specs.Servers.{account_at}
 use Rattle.sn_shows.specs.Sets.{set_at}
 use Rattle.sn_string.specs.declared.params.KeySet.{KeySet}

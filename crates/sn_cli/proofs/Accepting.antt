@@ -23,7 +23,7 @@ use Rattle.sn_status.specs.declared.refusal.Refusal.TheVariants.{InputLong, Inpu
 use Rattle.sn_status.specs.declared.status.Status.{Status}
 use Rattle.sn_status.specs.declared.status.Status.TheVariants.{Done, Usage, Refused, DiskFault, LinkFault, ReadFault, WriteFault, Memory, Foreign, Server, BadAnswer}
 use Rattle.sn_io.specs.Streams.{GivesPart, HasGiven}
-use Rattle.sn_items.proofs.Utf8Bytes.{utf8_bytes}
+use Rattle.sn_items.proofs.Facts.{utf8_bytes}
 use Rattle.sn_items.specs.Laws.{SealedOpens}
 use Rattle.sn_items.specs.Refusals.{HasCause}
 use Rattle.sn_items.specs.declared.error.ItemError.{ItemError}

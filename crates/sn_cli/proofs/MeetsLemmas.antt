@@ -25,8 +25,7 @@ use Rattle.sn_status.specs.declared.status.Status.{Status}
 use Rattle.sn_status.specs.declared.status.Status.TheVariants.{Done, Usage, Refused, DiskFault, LinkFault, ReadFault, WriteFault, Memory, Foreign, Server, BadAnswer}
 use Rattle.sn_disk.specs.declared.mem_shelf.MemShelf.{MemShelf}
 use Rattle.sn_cli.proofs.DeviceRuns.{device_to_memory, words_of_device}
-use Rattle.sn_command.proofs.OneDevice.{one_device, other_beginning, other_command}
-use Rattle.sn_command.proofs.OneLine.{one_command, one_gen, one_open, one_seal, one_serve}
+use Rattle.sn_command.proofs.Facts.{one_command, one_device, one_gen, one_open, one_seal, one_serve, other_beginning, other_command}
 use Rattle.sn_cli.proofs.RunLemmas.{gen_to_memory, none_read, run_to_memory, seal_to_memory}
 
 -- words that ask are no line

@@ -1,4 +1,5 @@
 pub mod DeviceNames
+pub mod Facts
 pub mod Free
 pub mod Givens
 pub mod Numerals

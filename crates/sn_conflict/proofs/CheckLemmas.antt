@@ -12,7 +12,7 @@ use Rattle.sn_sync.specs.Versions.{NamesStamp, item_of}
 use Rattle.sn_sync.specs.declared.answer.Conflict.{Conflict}
 use Rattle.sn_sync.specs.declared.answer.Conflict.TheVariants as conflict
 use Rattle.sn_sync.specs.declared.item.Item.{Item}
-use Rattle.sn_sync.proofs.OneStamp.{one_stamp}
+use Rattle.sn_sync.proofs.Facts.{one_stamp}
 
 -- an item names one stamp at most
 pub names_once : (i : Item) (a b : ℕ) → NamesStamp i a → NamesStamp i b → a ≡ b

@@ -1,5 +1,6 @@
-pub mod ListLemmas
-pub mod StringLemmas
 pub mod CheckLemmas
+pub mod Facts
+pub mod ListLemmas
 pub mod MeetLemmas
 pub mod OneMeeting
+pub mod StringLemmas

@@ -1,11 +1,12 @@
+pub mod Answering
 pub mod Carrying
 pub mod Digits
 pub mod Ends
+pub mod Facts
 pub mod Finding
-pub mod Taking
-pub mod Writing
-pub mod Trims
-pub mod WrittenFields
 pub mod ReadBack
-pub mod Answering
+pub mod Taking
+pub mod Trims
 pub mod Unique
+pub mod Writing
+pub mod WrittenFields

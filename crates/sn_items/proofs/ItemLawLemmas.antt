@@ -17,7 +17,7 @@ use Rattle.sn_string.specs.Grammar.{Reading, Is003}
 use Rattle.sn_string.specs.Hex.{IsLowerHex}
 use Rattle.sn_string.specs.declared.params.KeySet.{KeySet}
 use Rattle.sn_string.specs.declared.params.Params.{Params}
-use Rattle.sn_string.proofs.Unique.{one_reading}
+use Rattle.sn_string.proofs.Facts.{one_reading}
 
 one_text : (text uuid ek ak a b : List ℕ) → Opens text uuid ek ak a → Opens text uuid ek ak b → a ≡ b
 one_text text uuid ek ak a b first second =

@@ -1,3 +1,4 @@
+pub mod Facts
 pub mod ItemLawLemmas
 pub mod ItemLemmas
 pub mod ObjectLemmas

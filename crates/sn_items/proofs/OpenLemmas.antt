@@ -3,8 +3,7 @@ use Rattle.std.proofs.Common.{◌≡◌, ◌⊎◌, inl, inr, ℕ, List, [], Res
 use Rattle.std.specs.declared.alloc.Global.{Global}
 use Rattle.std.specs.Str.{IsUtf8}
 use Rattle.sn_cbc.specs.Cbc.{AreBytes, IsCbc, IsWhole, padded}
-use Rattle.sn_cbc.proofs.PaddingLemmas.{padded_injective}
-use Rattle.sn_cbc.proofs.UniqueLemmas as unique
+use Rattle.sn_cbc.proofs.Facts.{one_text, padded_bytes, padded_injective}
 use Rattle.sn_items.specs.Opens.{Opens, Decrypts, IsAuthentic, hash_of}
 use Rattle.sn_items.specs.Refusals.{HasCause}
 use Rattle.sn_items.specs.Utf8.{IsValidTo}
@@ -17,10 +16,7 @@ use Rattle.sn_string.specs.Refusals.{Refuses}
 use Rattle.sn_string.specs.Uuids.{IsUuidText}
 use Rattle.sn_string.specs.declared.reader.StringError.{StringError}
 use Rattle.sn_string.specs.declared.reader.StringError.TheVariants as string
-use Rattle.sn_string.proofs.Base64Facts.{same_bytes}
-use Rattle.sn_string.proofs.HexFacts.{decode_sized-lower}
-use Rattle.sn_string.proofs.Unique.{one_reading, read_back}
-use Rattle.sn_string.proofs.UuidFacts.{parsed-spelled}
+use Rattle.sn_string.proofs.Facts.{decode_sized-lower, one_reading, parsed-spelled, read_back, same_bytes}
 
 ok_value : {E : Type 0} → List ℕ → Result (List ℕ) E → List ℕ
 ok_value none (Ok x) = x
@@ -40,8 +36,8 @@ one_plain iv_part ciphertext_part key plain other plain_small other_small first 
     let bytes_same : second.bytes ≡ first.bytes = same_bytes ciphertext_part second.bytes first.bytes second.bytes_are first.bytes_are in
     let cbc : IsCbc key first.iv other first.bytes =
     subst (λ iv. IsCbc key iv other first.bytes) iv_same (subst (IsCbc key second.iv other) bytes_same second.cbc) in
-    padded_injective plain other (unique.one_text key first.iv (padded plain) (padded other) first.bytes first.iv_is.count first.iv_is.fit
-    first.bytes_are.fit (unique.padded_bytes plain plain_small) (unique.padded_bytes other other_small) first.cbc cbc)
+    padded_injective plain other (one_text key first.iv (padded plain) (padded other) first.bytes first.iv_is.count first.iv_is.fit
+    first.bytes_are.fit (padded_bytes plain plain_small) (padded_bytes other other_small) first.cbc cbc)
 
 -- a text opens to one plain text
 pub opens_once : (text uuid encryption_key authentication_key plain other : List ℕ) → AreBytes plain → AreBytes other

@@ -1,6 +1,7 @@
+pub mod Facts
 pub mod Gates
-pub mod Starts
-pub mod Wholes
 pub mod Loads
 pub mod Passing
 pub mod Settling
+pub mod Starts
+pub mod Wholes

@@ -1,4 +1,5 @@
 pub mod ApartLemmas
+pub mod Facts
 pub mod Forks
 pub mod Meets
 pub mod OneSaid

@@ -1,19 +1,19 @@
 -- What a commit says is what is computed.
 use Rattle.std.proofs.Common.{◌≡◌, ◌⊎◌, ℕ, Bool, true, false, List, [], ◌∷◌, ◌++◌, length, Option, Some, None, refl, sym, ap, ◌∙◌, subst, inl, inr, ⊎_elim}
 use Rattle.std.proofs.lemmas.Bool.{cases_Bool}
-use Rattle.std.proofs.lemmas.List.{append-nil}
 use Rattle.std.specs.List.{AllZip, flat_map, list_any}
 use Rattle.std.specs.Option.{option_and_then, option_to_list}
 use Rattle.std.specs.Prelude.{◌&&◌, if◌then◌else◌, is_none}
 use Rattle.std.specs.Str.{bytes_eq}
 use Rattle.rand_chacha.specs.ChaCha.{ChaCha}
+use Rattle.sn_adopted.specs.Moves.{IsRetiring}
 use Rattle.sn_client.specs.Laws.{AreStanding, StayStanding}
 use Rattle.sn_client.specs.Sending.{PostsAll, PutsColumns}
-use Rattle.sn_client.specs.States.{AreSoundLocals, HasItem, HasLocal, columns}
-use Rattle.sn_client.specs.Steps.{Applies, AppliesTo, Deletes, Edits, IsUnknown, adopts, applies, asks, begins, deletes, drafted, edits, forgets, posts, puts, renews, start}
+use Rattle.sn_client.specs.States.{AreSoundLocals, HasItem, HasLocal, IsInSlot, columns}
+use Rattle.sn_client.specs.Steps.{Applies, AppliesTo, Deletes, Edits, IsUnknown, Retires, adopts, applies, asks, begins, deletes, drafted, edits, forgets, posts, puts, renews, start}
 use Rattle.sn_client.specs.Taking.{told_by}
 use Rattle.sn_laws.proofs.Facts.{one_there}
-use Rattle.sn_laws.specs.Lookups.{Bytes, account_named}
+use Rattle.sn_laws.specs.Lookups.{Bytes, account_named, device_named, held_by}
 use Rattle.sn_laws.specs.declared.ideal.Account.{Account}
 use Rattle.sn_laws.specs.declared.ideal.Content.TheVariants as content
 use Rattle.sn_laws.specs.declared.moves.Move.{Move}
@@ -25,8 +25,10 @@ use Rattle.sn_rows.specs.declared.change.Change.{Change}
 use Rattle.sn_rows.specs.declared.device_rows.LocalItem.{LocalItem}
 use Rattle.sn_rows.specs.declared.key.Key.{Key}
 use Rattle.sn_rows.specs.declared.key.Key.TheVariants as key
+use Rattle.sn_rows.specs.declared.key.Slot.TheVariants.{Older}
 use Rattle.sn_rows.specs.declared.value.Value.{Value}
 use Rattle.sn_rows.specs.declared.value.Value.TheVariants as value
+use Rattle.sn_string.specs.declared.params.KeySet.{KeySet}
 use Rattle.sn_sync.specs.Laws.{HasOneStamp}
 use Rattle.sn_sync.specs.declared.answer.Answer.{Answer}
 use Rattle.sn_sync.specs.declared.answer.Answer.TheVariants as answer
@@ -41,7 +43,8 @@ use Rattle.sn_moves.specs.Drafts.{answered, item_at, item_left, item_move}
 use Rattle.sn_laws.specs.Reached.{DeletionsStay}
 use Rattle.sn_world.specs.Happens.{commits}
 use Rattle.sn_world.specs.Laws.{SaysSome}
-use Rattle.sn_moves.specs.Laws.{KeepsDeletions, SaysComputed, SaysOne}
+use Rattle.sn_world.specs.Plain.{PlainRows}
+use Rattle.sn_moves.specs.Laws.{HoldsNoOlder, KeepsDeletions, SaysComputed, SaysOne}
 use Rattle.sn_moves.specs.Foreign.{foreign_in, foreign_of}
 use Rattle.sn_moves.specs.declared.done.Done.{Done}
 use Rattle.sn_moves.specs.declared.done.Done.TheVariants as done
@@ -134,10 +137,24 @@ posts_one rows name (n ∷ ns) (c ∷ cs) (m ∷ ms) (one, rest) ((l, has, is), 
 
 -- ---- an answer
 
+no_older : (rows : Rows) (identifier : Bytes) (found : Option KeySet) → HoldsNoOlder rows → IsInSlot rows identifier Older found → found ≡ None
+no_older rows identifier None none is = refl
+no_older rows identifier (Some set) none (keys, has, of) = absurd (cc)
+
+none_retires : (rows : Rows) (cursor : Option Bytes) (found : Option KeySet) (changes : List Change) → found ≡ None → Retires rows cursor found changes
+    → changes ≡ []
+none_retires rows cursor None changes none is = is
+none_retires rows cursor (Some set) changes none is = absurd (cc)
+
+none_retiring : (rows : Rows) (cursor : Option Bytes) (found : Option KeySet) (name : Bytes) (held : List ℕ) (moves : List Move) → found ≡ None
+    → IsRetiring rows cursor found name held moves → moves ≡ []
+none_retiring rows cursor None name held moves none is = is
+none_retiring rows cursor (Some set) name held moves none is = absurd (cc)
+
 module _ (one_stamp : HasOneStamp) (stays : StayStanding) (rows : Rows) (sound : AreSoundLocals rows) (stay : KeepsDeletions rows) (name : Bytes) (words left : ChaCha)
     (sent : List Item) (conflicts : List Conflict) (cursor : Option Bytes) (retrieved saved : List Item) (token : Bytes) (changes : List Change)
-    (moves : List Move) (x : Applies rows words sent conflicts cursor retrieved saved token changes left)
-    (says : SaysApplied rows name conflicts cursor retrieved saved token changes moves) where
+    (moves : List Move) (older : HoldsNoOlder rows) (held : List ℕ) (x : Applies rows words sent conflicts cursor retrieved saved token changes left)
+    (says : SaysApplied rows held name conflicts cursor retrieved saved token changes moves) where
   abbrev foreign : List Bytes
   foreign = flat_map foreign_of conflicts
 
@@ -153,9 +170,9 @@ module _ (one_stamp : HasOneStamp) (stays : StayStanding) (rows : Rows) (sound :
       ⊎_elim (λ (among : IsIn l.uuid foreign). inr (subst (λ (us : List Bytes). IsIn l.uuid us) (sym (told_all saved conflicts retrieved)) among))
       (λ (out : IsOut l.uuid foreign). inl out) (cases_Bool (list_any (bytes_eq l.uuid) foreign))
 
-  said : Said name foreign (start rows says.owner says.words) says.end moves
+  said : Said name foreign (start rows says.owner says.words) says.end says.first
   said =
-      all_said one_stamp stays name foreign says.sets saved (told_by saved conflicts retrieved) (start rows says.owner says.words) says.end moves
+      all_said one_stamp stays name foreign says.sets saved (told_by saved conflicts retrieved) (start rows says.owner says.words) says.end says.first
       (told_checked sent saved conflicts retrieved cursor x.passes) (told_apart sent saved conflicts retrieved cursor x.passes) standing stay before says.told
 
   -- the device's own row says nothing
@@ -164,25 +181,39 @@ module _ (one_stamp : HasOneStamp) (stays : StayStanding) (rows : Rows) (sound :
       ap (λ (found : Option LocalItem). option_to_list (item_move name foreign None found (item_left says.counted)) ++ [])
       (ap (λ (k : Key). item_at k (says.end.rows k)) says.counted_is.puts_it.key_is)
 
+  -- and no older set ends
+  none : says.sets.older ≡ None
+  none = no_older rows says.owner.identifier says.sets.older older says.holds.before
+
+  changes_so : changes ≡ says.end.changes ++ says.counted ∷ []
+  changes_so =
+      says.changes_are
+      ∙ ap (λ (c : List Change). says.end.changes ++ says.counted ∷ c) (none_retires says.end.rows cursor says.sets.older says.retired none says.retires)
+
+  moves_so : moves ≡ says.first ++ []
+  moves_so =
+      says.moves_are ∙ ap (λ (m : List Move). says.first ++ m) (none_retiring says.end.rows cursor says.sets.older name held says.later none says.retiring)
+
   pub applied_one : moves ≡ answered name foreign None rows changes
   applied_one =
-      sym (append-nil moves)
-      ∙ ap (λ (m : List Move). moves ++ m) (sym own)
+      moves_so
+      ∙ ap (λ (m : List Move). says.first ++ m) (sym own)
       ∙ sym (said.says (says.counted ∷ []))
-      ∙ ap (answered name foreign None rows) (ap (λ (c : List Change). c ++ says.counted ∷ []) (sym said.changes_are) ∙ sym says.changes_are)
+      ∙ ap (answered name foreign None rows) (ap (λ (c : List Change). c ++ says.counted ∷ []) (sym said.changes_are) ∙ sym changes_so)
 
-answer_one : HasOneStamp → StayStanding → (rows : Rows) → AreSoundLocals rows → KeepsDeletions rows → (name : Bytes) (words left : ChaCha) (r : Request) (given : Answer)
-    (changes : List Change) (moves : List Move) → AppliesTo rows words r given changes left → SaysAnswer rows name given changes moves
+answer_one : HasOneStamp → StayStanding → (rows : Rows) → AreSoundLocals rows → KeepsDeletions rows → HoldsNoOlder rows → (held : List ℕ) (name : Bytes)
+    (words left : ChaCha) (r : Request) (given : Answer) (changes : List Change) (moves : List Move) → AppliesTo rows words r given changes left
+    → SaysAnswer rows held name given changes moves
     → moves ≡ moves_of rows name (done.Applies (foreign_in given)) changes
-answer_one one_stamp stays rows sound stay name words left (request.Sync token items limit sync_token cursor_token) (answer.Sync conflicts cursor retrieved saved next_token) changes moves step says =
-    applied_one one_stamp stays rows sound stay name words left items conflicts cursor retrieved saved next_token changes moves step says
-answer_one one_stamp stays rows sound stay name words left r (answer.Account other identifier uuid) changes moves step says = absurd says
-answer_one one_stamp stays rows sound stay name words left r (answer.Params params) changes moves step says = absurd says
-answer_one one_stamp stays rows sound stay name words left r (answer.Refused status tag more) changes moves step says = absurd says
-answer_one one_stamp stays rows sound stay name words left (request.Register params pw) given changes moves step says = absurd step
-answer_one one_stamp stays rows sound stay name words left (request.Params identifier) given changes moves step says = absurd step
-answer_one one_stamp stays rows sound stay name words left (request.SignIn identifier pw) given changes moves step says = absurd step
-answer_one one_stamp stays rows sound stay name words left (request.ChangePw token current pw cost nonce) given changes moves step says = absurd step
+answer_one one_stamp stays rows sound stay older held name words left (request.Sync token items limit sync_token cursor_token) (answer.Sync conflicts cursor retrieved saved next_token) changes moves step says =
+    applied_one one_stamp stays rows sound stay name words left items conflicts cursor retrieved saved next_token changes moves older held step says
+answer_one one_stamp stays rows sound stay older held name words left r (answer.Account other identifier uuid) changes moves step says = absurd says
+answer_one one_stamp stays rows sound stay older held name words left r (answer.Params params) changes moves step says = absurd says
+answer_one one_stamp stays rows sound stay older held name words left r (answer.Refused status tag more) changes moves step says = absurd says
+answer_one one_stamp stays rows sound stay older held name words left (request.Register params pw) given changes moves step says = absurd step
+answer_one one_stamp stays rows sound stay older held name words left (request.Params identifier) given changes moves step says = absurd step
+answer_one one_stamp stays rows sound stay older held name words left (request.SignIn identifier pw) given changes moves step says = absurd step
+answer_one one_stamp stays rows sound stay older held name words left (request.ChangePw token current pw cost nonce) given changes moves step says = absurd step
 
 -- ---- each of them
 
@@ -191,29 +222,30 @@ done_as : (rows : Rows) (name : Bytes) (changes : List Change) (moves : List Mov
 done_as rows name changes moves did is same said = said ∙ ap (λ (d : Done). moves_of rows name d changes) (sym same)
 
 pub says_one : HasOneStamp → StayStanding → SaysOne
-says_one one_stamp stays rows s name words left (begins set uuid token) changes moves did sound stay (a, named, is) step (b, there, says) =
+says_one one_stamp stays rows s name words left (begins set uuid token) changes moves did sound stay older (a, named, is) step (b, there, says) =
     let same : b ≡ a = one_there b a (account_named s set.params.identifier) there named in
     done_as rows name changes moves did _ is (says ∙ ap (λ (x : Account). Join name set.params.identifier (length x.sets) ∷ []) same)
-says_one one_stamp stays rows s name words left (renews token) changes moves did sound stay is step says = done_as rows name changes moves did _ is says
-says_one one_stamp stays rows s name words left (puts uuid kind text) changes moves did sound stay is step says = done_as rows name changes moves did _ is says
-says_one one_stamp stays rows s name words left (edits uuid text) changes moves did sound stay is step says =
+says_one one_stamp stays rows s name words left (renews token) changes moves did sound stay older is step says = done_as rows name changes moves did _ is says
+says_one one_stamp stays rows s name words left (puts uuid kind text) changes moves did sound stay older is step says = done_as rows name changes moves did _ is says
+says_one one_stamp stays rows s name words left (edits uuid text) changes moves did sound stay older is step says =
     done_as rows name changes moves did _ is (edit_one rows sound words left name uuid text changes moves step says)
-says_one one_stamp stays rows s name words left (deletes uuid) changes moves did sound stay is step says =
+says_one one_stamp stays rows s name words left (deletes uuid) changes moves did sound stay older is step says =
     done_as rows name changes moves did _ is (deletion_one rows sound name uuid changes moves step.0 says)
-says_one one_stamp stays rows s name words left (posts numbers) changes moves did sound stay is step says =
+says_one one_stamp stays rows s name words left (posts numbers) changes moves did sound stay older is step says =
     done_as rows name changes moves did _ is (posts_one rows name numbers changes moves step.0 says)
-says_one one_stamp stays rows s name words left (applies r given) changes moves did sound stay is step says =
-    done_as rows name changes moves did _ is (answer_one one_stamp stays rows sound stay name words left r given changes moves step says)
-says_one one_stamp stays rows s name words left (asks set) changes moves did sound stay is step says = absurd says
-says_one one_stamp stays rows s name words left (adopts set token) changes moves did sound stay is step says = absurd says
-says_one one_stamp stays rows s name words left forgets changes moves did sound stay is step says = absurd says
+says_one one_stamp stays rows s name words left (applies r given) changes moves did sound stay older is step says =
+    done_as rows name changes moves did _ is (answer_one one_stamp stays rows sound stay older (held_by (device_named s name)) name words left r given changes moves step says)
+says_one one_stamp stays rows s name words left (asks set) changes moves did sound stay older is step says = absurd is
+says_one one_stamp stays rows s name words left (adopts set token) changes moves did sound stay older is step says = absurd is
+says_one one_stamp stays rows s name words left forgets changes moves did sound stay older is step says = absurd is
 
 -- ---- in the world
 
-pub says_computed : DeletionsStay → SaysOne → SaysSome → SaysComputed
-says_computed law one some secret w next s name what changes did h x may is =
-    let said : (moves : List Move) × SaysCommit (w.devices name) s name what changes moves = some secret w next s (commits name what changes true) h (x, may) in
-    let stay : KeepsDeletions (w.devices name) = keeps_deletions law (w.devices name) s h.reached name (h.devices name) in
+pub says_computed : DeletionsStay → SaysOne → SaysSome → PlainRows → SaysComputed
+says_computed law one some plain secret w next s name what changes did hp x may is =
+    let said : (moves : List Move) × SaysCommit (w.devices name) s name what changes moves =
+    some secret w next s (commits name what changes true) hp.holds (x, may) in
+    let stay : KeepsDeletions (w.devices name) = keeps_deletions law (w.devices name) s hp.holds.reached name (hp.holds.devices name) in
     let same : said.0 ≡ moves_of (w.devices name) name did changes =
-    one (w.devices name) s name x.words x.left what changes said.0 did (h.sound name).locals stay is x.step said.1 in
+    one (w.devices name) s name x.words x.left what changes said.0 did (hp.holds.sound name).locals stay (plain secret w s name hp).1 is x.step said.1 in
     subst (λ (m : List Move). SaysCommit (w.devices name) s name what changes m) same said.1

@@ -1,5 +1,5 @@
--- What the rows of a device in the world have of deletions.
-use Rattle.std.proofs.Common.{◌≡◌, ℕ, List, Option, Some, None, refl, ap, ◌∙◌, subst}
+-- What the rows of a device in the world have of deletions; and that none adopts a set where each account has one.
+use Rattle.std.proofs.Common.{◌≡◌, ◌≢◌, ◌<◌, ℕ, List, length, Option, Some, None, refl, ap, ◌∙◌, subst, arith}
 use Rattle.sn_laws.specs.Lookups.{Bytes, device_named, draft_at, greatest}
 use Rattle.sn_laws.specs.Reached.{DeletionsStay}
 use Rattle.sn_laws.specs.declared.ideal.Content.{Content}
@@ -14,8 +14,12 @@ use Rattle.sn_rows.specs.declared.body.RowBody.TheVariants as row
 use Rattle.sn_rows.specs.declared.device_rows.LocalItem.{LocalItem}
 use Rattle.sn_rows.specs.declared.key.Key.TheVariants as key
 use Rattle.sn_shows.specs.Devices.{ShowsContent, ShowsDevice, ShowsDeviceAs, ShowsDrafted, ShowsPosted}
+use Rattle.sn_shows.specs.Sets.{set_at}
 use Rattle.sn_string.specs.declared.params.KeySet.{KeySet}
+use Rattle.sn_world.specs.Committing.{MayAdopt}
 use Rattle.sn_world.specs.Holds.{Reached}
+use Rattle.sn_world.specs.Plain.{HoldsPlain}
+use Rattle.sn_world.specs.World.{World}
 use Rattle.sn_moves.specs.Laws.{KeepsDeletions}
 
 content_deleted : (sets : List KeySet) (number : ℕ) (uuid : Bytes) (c : Content) → ShowsContent sets number uuid row.Deleted c → c ≡ content.Deleted
@@ -53,3 +57,24 @@ module _ (law : DeletionsStay) (rows : Rows) (s : Ideal) (reached : Reached s) (
   -- where a deletion was sent, the draft is one
   pub keeps_deletions : ShowsDevice rows s name → KeepsDeletions rows
   keeps_deletions shown = of_device (device_named s name) shown
+
+-- ---- a device holds a set, and where it is the only one there is none above it
+
+no_number : (k : ℕ) (sets : List KeySet) (set : KeySet) → set_at k sets ≡ Some set → k ≢ 0
+no_number k sets set at none = let nothing : None ≡ Some set = subst (λ (j : ℕ). set_at j sets ≡ Some set) none at in absurd (cc)
+
+holds_some : (rows : Rows) (s : Ideal) (name : Bytes) (found : Option Device) (d : Device) → found ≡ Some d → ShowsDeviceAs rows s name found
+    → greatest 0 d.held ≢ 0
+holds_some rows s name None d is shown = absurd (cc)
+holds_some rows s name (Some e) d is (a, named, holder) =
+    let same : e ≡ d = cc in
+    subst (λ (x : Device). greatest 0 x.held ≢ 0) same
+    (no_number (greatest 0 e.held) a.sets holder.present.is.set holder.present.is.at)
+
+pub none_adopts : (secret : Bytes) (w : World) (s : Ideal) (name : Bytes) (set : KeySet) (token : Bytes) → HoldsPlain secret w s
+    → MayAdopt secret s name set token → ⊥
+none_adopts secret w s name set token h may =
+    let one : length may.account.sets ≡ 1 = h.plain.one_set may.number may.account may.at in
+    let above : greatest 0 may.device.held < length may.account.sets = may.above in
+    let none : greatest 0 may.device.held ≡ 0 = omega arith in
+    holds_some (w.devices name) s name (device_named s name) may.device may.named (h.holds.devices name) none

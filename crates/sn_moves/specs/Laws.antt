@@ -1,5 +1,5 @@
 -- What a commit of a device says is what these functions compute.
-use Rattle.std.specs.Prelude.{◌≡◌, ℕ, List, length, Some}
+use Rattle.std.specs.Prelude.{◌≡◌, ℕ, List, length, Some, None}
 use Rattle.rand_chacha.specs.ChaCha.{ChaCha}
 use Rattle.sn_client.specs.States.{AreSoundLocals, HasLocal}
 use Rattle.sn_client.specs.Steps.{Step, What, adopts, applies, asks, begins, deletes, edits, forgets, posts, puts, renews}
@@ -11,8 +11,10 @@ use Rattle.sn_rows.specs.Table.{Rows}
 use Rattle.sn_rows.specs.declared.body.RowBody.TheVariants as row
 use Rattle.sn_rows.specs.declared.change.Change.{Change}
 use Rattle.sn_rows.specs.declared.device_rows.LocalItem.{LocalItem}
+use Rattle.sn_rows.specs.declared.key.Key.TheVariants as key
+use Rattle.sn_rows.specs.declared.key.Slot.TheVariants.{Older}
 use Rattle.sn_world.specs.Committing.{Commits, MayCommit, SaysCommit}
-use Rattle.sn_world.specs.Holds.{Holds}
+use Rattle.sn_world.specs.Plain.{HoldsPlain}
 use Rattle.sn_world.specs.World.{World}
 use Rattle.sn_moves.specs.Commits.{moves_of}
 use Rattle.sn_moves.specs.Foreign.{foreign_in}
@@ -41,14 +43,18 @@ IsDone s forgets what = ⊥
 abbrev pub KeepsDeletions : Rows → Type 0
 KeepsDeletions rows = (number : ℕ) (local : LocalItem) → HasLocal rows number local → local.posted ≡ Some row.Deleted → local.latest ≡ Some row.Deleted
 
--- a commit of a device whose items are sound says one list of moves, and it is this one
+-- no older set is held, which an answer could end
+abbrev pub HoldsNoOlder : Rows → Type 0
+HoldsNoOlder rows = rows (key.Set Older) ≡ None
+
+-- a commit of a device whose items are sound and that holds no older set says one list of moves, and it is this one
 abbrev pub SaysOne : Type 0
 SaysOne = (rows : Rows) (s : Ideal) (name : Bytes) (words left : ChaCha) (what : What) (changes : List Change) (moves : List Move) (did : Done)
-    → AreSoundLocals rows → KeepsDeletions rows → IsDone s what did → Step rows words what changes left → SaysCommit rows s name what changes moves
+    → AreSoundLocals rows → KeepsDeletions rows → HoldsNoOlder rows → IsDone s what did → Step rows words what changes left → SaysCommit rows s name what changes moves
     → moves ≡ moves_of rows name did changes
 
--- in the world, where the invariant holds, a commit says what is computed
+-- in the world, where the invariant holds and no password has been changed, a commit says what is computed
 abbrev pub SaysComputed : Type 0
 SaysComputed = (secret : Bytes) (w next : World) (s : Ideal) (name : Bytes) (what : What) (changes : List Change) (did : Done)
-    → Holds secret w s → Commits w next name what changes → MayCommit secret w.server (w.devices name) s name what → IsDone s what did
+    → HoldsPlain secret w s → Commits w next name what changes → MayCommit secret w.server (w.devices name) s name what → IsDone s what did
     → SaysCommit (w.devices name) s name what changes (moves_of (w.devices name) name did changes)

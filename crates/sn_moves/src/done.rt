@@ -4,7 +4,7 @@ use sn_string::{Many, Text};
 use uuid::Uuid;
 
 /// What a device did in a commit, as far as its rows and its changes don't tell it. A change of password isn't among
-/// it: its moves aren't defined yet.
+/// it.
 #[derive(Drop)]
 pub enum Done {
     /// It took up the account of this identifier, with the account's last set, of this number.

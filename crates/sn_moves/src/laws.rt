@@ -6,9 +6,9 @@ ghost use Rattle.sn_moves.specs.Laws.{SaysComputed, SaysOne};
 use sn_client::stay_standing;
 use sn_laws::state_laws::deletions_stay;
 use sn_sync::laws::one_stamp;
-use sn_world::says_some;
+use sn_world::{plain_rows, says_some};
 
-/// A commit of a device with sound rows says one list of moves, the one that `moves_of` computes.
+/// A commit of a device with sound rows and no older set says one list of moves, the one that `moves_of` computes.
 pub fn says_one()
     ensures { SaysOne }
 {
@@ -16,11 +16,12 @@ pub fn says_one()
     stay_standing();
 }
 
-/// And in the world it says that list.
+/// And in a world without a change of password it says that list.
 pub fn says_computed()
     ensures { SaysComputed }
 {
     deletions_stay();
     says_one();
     says_some();
+    plain_rows();
 }

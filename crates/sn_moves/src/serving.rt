@@ -5,7 +5,8 @@ ghost use Rattle.std.specs.Option.{option_copied};
 ghost use Rattle.sn_row_map.specs.RowMaps.{row_in};
 ghost use Rattle.sn_rows.specs.declared.key.Key.TheVariants as key;
 ghost use Rattle.sn_rows.specs.declared.value.Value.TheVariants as value;
-ghost use Rattle.sn_world.specs.Serving.{accept_of, accepts_in, generation_of, move_of, moves_for, number_of, registers_in};
+ghost use Rattle.sn_world.specs.Plain.{accept_of, accepts_in, move_of, moves_for};
+ghost use Rattle.sn_world.specs.Serving.{generation_of, number_of, registers_in};
 
 use sn_laws::Move;
 use sn_row_map::RowMap;

@@ -12,9 +12,7 @@ use Rattle.sn_items.specs.declared.error.ItemError.{ItemError}
 use Rattle.sn_items.specs.declared.error.ItemError.TheVariants.{Form, OtherUuid, HashMismatch, Padding, NotUtf8, NotItemKey, NotObject, OtherSet, Memory}
 use Rattle.sn_items.specs.declared.sealed.Sealed.{Sealed}
 use Rattle.sn_items.specs.declared.sealed.Which.{Which}
-use Rattle.sn_items.proofs.ItemLawLemmas.{no_item_refusal}
-use Rattle.sn_items.proofs.OpenLemmas.{no_refusal, opens_once}
-use Rattle.sn_items.proofs.Utf8Bytes.{utf8_bytes}
+use Rattle.sn_items.proofs.Facts.{no_item_refusal, no_refusal, opens_once, utf8_bytes}
 use Rattle.sn_rekey.specs.Rewraps.{DrawsOneAtMost, RefusalDraws, Rewraps}
 use Rattle.sn_sets.specs.Seals.{IsLater}
 use Rattle.sn_sets.specs.Sets.{OpensNot}

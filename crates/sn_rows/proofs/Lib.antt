@@ -1,4 +1,5 @@
 pub mod ColumnLemmas
+pub mod Facts
 pub mod FaultAgain
 pub mod FaultChanges
 pub mod FaultLemmas

@@ -1,3 +1,4 @@
+pub mod Facts
 pub mod FirstBatch
 pub mod Gaining
 pub mod Handles

@@ -19,7 +19,7 @@ use Rattle.sn_rows.specs.declared.value.Value.{Value}
 use Rattle.sn_rows.specs.declared.value.Value.TheVariants as value
 use Rattle.sn_account.specs.Sound.{IsSound}
 use Rattle.sn_account.specs.Unsound.{IsFirstUnsound}
-use Rattle.sn_account.proofs.FirstLemmas.{first_sound}
+use Rattle.sn_account.proofs.Facts.{first_sound}
 use Rattle.sn_table.specs.Batches.{IsStore}
 use Rattle.sn_server.specs.Beginning.{IsBegun, PutsFirst}
 use Rattle.sn_server.specs.Emptiness.{IsKindEmptyIff}

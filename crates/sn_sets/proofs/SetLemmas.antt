@@ -6,7 +6,7 @@ use Rattle.sn_items.specs.declared.error.ItemError.{ItemError}
 use Rattle.sn_items.specs.declared.error.ItemError.TheVariants.{Memory}
 use Rattle.sn_items.specs.declared.sealed.Sealed.{Sealed}
 use Rattle.sn_items.specs.declared.sealed.Which.{Which}
-use Rattle.sn_items.proofs.ItemLawLemmas.{no_item_refusal, one_content}
+use Rattle.sn_items.proofs.Facts.{no_item_refusal, one_content}
 use Rattle.sn_sets.specs.Laws.{OneHeld}
 use Rattle.sn_sets.specs.Sets.{OpensHeld, OpensNot, OpensNowhere}
 use Rattle.sn_sets.specs.declared.sets.Sets.{Sets}

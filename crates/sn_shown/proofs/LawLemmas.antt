@@ -3,7 +3,7 @@ use Rattle.std.proofs.Common.{List}
 use Rattle.sn_laws.specs.Runs.{Legal, end}
 use Rattle.sn_laws.specs.declared.moves.Move.{Move}
 use Rattle.sn_laws.proofs.Facts.{devices_all_hold, nonces_differ}
-use Rattle.sn_shows.proofs.ServersApart.{accounts_apart}
+use Rattle.sn_shows.proofs.Facts.{accounts_apart}
 use Rattle.sn_shown.specs.Shown.{IsRegular}
 
 pub regular : (moves : List Move) → Legal moves → IsRegular (end moves)

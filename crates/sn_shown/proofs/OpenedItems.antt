@@ -7,7 +7,7 @@ use Rattle.sn_items.specs.declared.error.ItemError.{ItemError}
 use Rattle.sn_items.specs.declared.error.ItemError.TheVariants.{Memory}
 use Rattle.sn_items.specs.declared.sealed.Sealed.{Sealed}
 use Rattle.sn_items.specs.declared.sealed.Which.{Which}
-use Rattle.sn_items.proofs.ItemLawLemmas.{no_item_refusal, one_content}
+use Rattle.sn_items.proofs.Facts.{no_item_refusal, one_content}
 use Rattle.sn_laws.specs.Lookups.{Bytes}
 use Rattle.sn_string.specs.declared.params.KeySet.{KeySet}
 

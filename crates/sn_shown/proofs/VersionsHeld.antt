@@ -15,11 +15,7 @@ use Rattle.sn_laws.specs.declared.ideal.Ideal.{Ideal}
 use Rattle.sn_laws.specs.declared.ideal.Version.{Version}
 use Rattle.sn_laws.specs.declared.moves.Move.{Move}
 use Rattle.sn_laws.specs.declared.moves.Move.TheVariants.{Register, Accept, Rewrap, Change}
-use Rattle.sn_laws.proofs.ChangedLemmas.{each_changed, each_more, each_weaker, one_front}
-use Rattle.sn_laws.proofs.Facts.{among, devices_all_hold, identifiers_differ, last_among}
-use Rattle.sn_laws.proofs.IdentifierLemmas.{one_account}
-use Rattle.sn_laws.proofs.RunLemmas.{reached_by}
-use Rattle.sn_laws.proofs.SetLemmas.{carries_sets}
+use Rattle.sn_laws.proofs.Facts.{among, carries_sets, devices_all_hold, each_changed, each_more, each_weaker, identifiers_differ, last_among, one_account, one_front, reached_by}
 use Rattle.sn_shown.proofs.Finds.{account_identifier, each_one}
 use Rattle.sn_shown.proofs.VersionsHeldBy.{HasDevice, IsOwned, all_owned, with_last}
 use Rattle.sn_shown.specs.HeldLaws.{AcceptsGrow, ChangesNoSet, EmptyHeld, IsAcceptAmong, NamesGrow, VersionsHeld}

@@ -12,9 +12,7 @@ use Rattle.sn_laws.specs.declared.ideal.Ideal.{Ideal}
 use Rattle.sn_laws.specs.declared.ideal.Version.{Version}
 use Rattle.sn_laws.specs.declared.moves.Move.{Move}
 use Rattle.sn_laws.specs.declared.moves.Move.TheVariants.{Register, Accept, Rewrap, Change}
-use Rattle.sn_laws.proofs.ChangedLemmas.{each_changed, each_more, each_weaker}
-use Rattle.sn_laws.proofs.Facts.{StaysDevice, device_stays, found_passes, last_among, one_from, same_text}
-use Rattle.sn_laws.proofs.RunLemmas.{reached_by}
+use Rattle.sn_laws.proofs.Facts.{StaysDevice, device_stays, each_changed, each_more, each_weaker, found_passes, last_among, one_from, reached_by, same_text}
 use Rattle.sn_shown.proofs.Finds.{account_identifier, each_one}
 use Rattle.sn_shown.specs.HeldLaws.{IsAcceptAmong}
 

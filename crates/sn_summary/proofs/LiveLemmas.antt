@@ -23,10 +23,7 @@ use Rattle.sn_laws.specs.declared.ideal.Ideal.{Ideal}
 use Rattle.sn_laws.specs.declared.ideal.Version.{Version}
 use Rattle.sn_laws.specs.declared.moves.Move.{Move}
 use Rattle.sn_laws.specs.declared.moves.Move.TheVariants.{Register, Join, Edit, Drop, Post, Unpost, Accept, Rewrap, Settle, SettlePosted, Fork, Rename, GiveWay, Change, Retire}
-use Rattle.sn_laws.proofs.AccountLemmas.{Gains, accept_gains, free_has, more, more_sets, rewrap_gains, sealed_again}
-use Rattle.sn_laws.proofs.Facts.{allowed_from, clash, end_from-append, found_passes, legal_after, legal_before, same_text, text_same, one_from}
-use Rattle.sn_laws.proofs.LastLemmas.{last_item, last_other, last_own}
-use Rattle.sn_laws.proofs.OwnerLemmas.{one_owner}
+use Rattle.sn_laws.proofs.Facts.{Gains, accept_gains, allowed_from, clash, end_from-append, found_passes, free_has, last_item, last_other, last_own, legal_after, legal_before, more, more_sets, one_from, one_owner, rewrap_gains, same_text, sealed_again, text_same}
 use Rattle.sn_string.specs.declared.params.KeySet.{KeySet}
 use Rattle.sn_summary.specs.Items.{AreLiveItems, IsLiveItem}
 use Rattle.sn_summary.specs.Walks.{HoldsLive, NotesLive, uuid_cmp}

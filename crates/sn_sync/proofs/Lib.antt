@@ -5,6 +5,7 @@ pub mod Chains
 pub mod DataLists
 pub mod DayFacts
 pub mod Decimals
+pub mod Facts
 pub mod Fits
 pub mod Halves
 pub mod ItemsBack

@@ -3,7 +3,7 @@ use Rattle.std.proofs.Common.{◌≡◌, ◌∙◌, sym, ap, subst, inl, inr, re
 use Rattle.serde_json.specs.Data.{Data, Items, item, no_items}
 use Rattle.serde_json.specs.Find.{get}
 use Rattle.sn_string.specs.declared.params.Params.{Params}
-use Rattle.sn_string.proofs.Unique.{same_params}
+use Rattle.sn_string.proofs.Facts.{same_params}
 use Rattle.sn_sync.specs.Answers.{AreConflicts, IsAnswer, IsAccount, IsParams, IsSynced, IsUser, SaysConflict, SaysConflicts, SaysError, SaysItem, SaysMore, SaysOn, SaysRefused, SaysUser, sync_conflict, uuid_conflict, content_error}
 use Rattle.sn_sync.specs.Items.{IsItem, SaysItems, Standing, sent, stored}
 use Rattle.sn_sync.specs.Laws.{HasOneStamp}

@@ -6,7 +6,7 @@ use Rattle.std.proofs.Common.{◌≡◌, ◌∙◌, sym, ap, subst, ℕ, List, [
 use Rattle.serde_json.specs.Data.{Data, Items, item, no_items}
 use Rattle.serde_json.specs.Find.{get}
 use Rattle.sn_string.specs.declared.params.Params.{Params}
-use Rattle.sn_string.proofs.Unique.{same_params}
+use Rattle.sn_string.proofs.Facts.{same_params}
 use Rattle.sn_sync.specs.Items.{AreItems, IsItem, SaysCreated, SaysItems, SaysUpdated, SaysVersion, Standing, sent, stored}
 use Rattle.sn_sync.specs.Laws.{HasOneRequest}
 use Rattle.sn_sync.specs.Members.{Bytes}

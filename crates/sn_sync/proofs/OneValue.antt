@@ -3,8 +3,7 @@ use Rattle.std.proofs.Common.{◌≡◌, ◌∙◌, ◌≤◌, inl, inr, sym, ap
 use Rattle.serde_json.specs.Data.{Data, boolean}
 use Rattle.sn_string.specs.Hex.{IsLowerHex}
 use Rattle.sn_string.specs.Uuids.{IsUuidText}
-use Rattle.sn_string.proofs.HexFacts.{decode_sized-lower}
-use Rattle.sn_string.proofs.UuidFacts.{parsed-spelled}
+use Rattle.sn_string.proofs.Facts.{decode_sized-lower, parsed-spelled}
 use Rattle.sn_sync.specs.Items.{SaysKind}
 use Rattle.sn_sync.specs.Members.{Bytes, IsLeftOut, SaysFlag, SaysHash, SaysNumber, SaysOptional, SaysStamp, SaysStampText, SaysText, SaysTextOrEmpty, SaysUuid}
 use Rattle.sn_sync.specs.Requests.{SaysLimit}

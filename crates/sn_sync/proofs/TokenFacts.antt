@@ -10,7 +10,7 @@ use Rattle.base64.specs.GeneralPurpose.{IsBytes, IsDecodedInto, decode_of}
 use Rattle.base64.specs.declared.decode.DecodeError.{DecodeError}
 use Rattle.base64.proofs.EngineFacts.{decode_of_strict}
 use Rattle.sn_string.specs.Base64.{IsBase64}
-use Rattle.sn_string.proofs.Base64Facts.{decode_of-base64, length-base64_text, same_bytes}
+use Rattle.sn_string.proofs.Facts.{decode_of-base64, length-base64_text, same_bytes}
 use Rattle.sn_string.specs.Bounds.{last_stamp}
 use Rattle.sn_sync.specs.Tokens.{IsToken}
 

@@ -14,8 +14,7 @@ use Rattle.sn_journal.specs.Settled.{settled_each}
 use Rattle.sn_journal.specs.declared.owner.Owner.{Owner}
 use Rattle.sn_row_map.specs.RowMaps.{row_in}
 use Rattle.sn_row_map.specs.declared.row_map.RowMap.{RowMap}
-use Rattle.sn_rows.proofs.ColumnLemmas.{payload_again}
-use Rattle.sn_rows.proofs.Same.{is_only}
+use Rattle.sn_rows.proofs.Facts.{is_only, payload_again}
 use Rattle.sn_rows.specs.Facts.{kind_after}
 use Rattle.sn_rows.specs.Kinds.{key_kind, value_kind}
 use Rattle.sn_rows.specs.Spelling.{spelled, entries_of, AreInForm}

@@ -1,6 +1,6 @@
 use Rattle.std.proofs.Common.{◌≡◌, ◌∙◌, ℕ, sym, subst, eqb-true, eq-eqb}
 use Rattle.sn_sync.specs.Stamps.{IsStampText}
-use Rattle.sn_sync.proofs.OneStamp.{one_stamp}
+use Rattle.sn_sync.proofs.Facts.{one_stamp}
 use Rattle.sn_account.specs.Lookups.{Bytes}
 use Rattle.sn_account.proofs.stored.names.Goals as goal
 

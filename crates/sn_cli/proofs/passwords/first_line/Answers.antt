@@ -2,7 +2,7 @@ use Rattle.std.proofs.Common.{◌≡◌, ℕ, List, Bor, Option, Some, None, eqb
 use Rattle.std.specs.List.{position_or_len}
 use Rattle.std.proofs.lemmas.List.{take_all}
 use Rattle.std.proofs.lemmas.Str.Pattern.{IsSplitOnceResult, split_once_first}
-use Rattle.sn_command.proofs.ServerLemmas.{Both}
+use Rattle.sn_command.proofs.Facts.{Both}
 use Rattle.sn_cli.specs.DeviceCalls.{first_line}
 use Rattle.sn_cli.proofs.passwords.first_line.Goals as goal
 

@@ -8,7 +8,7 @@ use Rattle.sn_status.specs.declared.status.Status.{Status}
 use Rattle.sn_client.specs.Runs.{Call}
 use Rattle.sn_cli.proofs.DeviceRuns.{has_bounds}
 use Rattle.sn_cli.proofs.MeetsLemmas.{IsLeft, answered, called_so, generated, opened, replayed, sealed, served_so, shown, wanted}
-use Rattle.sn_command.proofs.OneDevice.{other_command}
+use Rattle.sn_command.proofs.Facts.{other_command}
 use Rattle.sn_serve.specs.Serving.{ServeEnds, handed}
 use Rattle.sn_cli.proofs.program.answer.Goals as goal
 

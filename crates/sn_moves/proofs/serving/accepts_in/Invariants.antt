@@ -1,6 +1,6 @@
 use Rattle.std.proofs.Common.{◌≡◌, take}
 use Rattle.sn_row_map.specs.RowMaps.{row_in}
-use Rattle.sn_world.specs.Serving.{accepts_in}
+use Rattle.sn_world.specs.Plain.{accepts_in}
 use Rattle.sn_moves.proofs.serving.accepts_in.Given as goal
 
 abbrev pub invariant-changes : goal.invariant-changes

@@ -1,4 +1,4 @@
-use Rattle.sn_string.proofs.Cases.{IfNone-given}
+use Rattle.sn_string.proofs.Facts.{IfNone-given}
 use Rattle.sn_sync.proofs.members.kind_of.Goals as goal
 
 pub returns-in_err-kind-clause-none : goal.returns-in_err-kind-clause-none

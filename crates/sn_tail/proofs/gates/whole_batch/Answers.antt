@@ -1,5 +1,5 @@
 use Rattle.std.proofs.Common.{◌≡◌, ℕ, slice_index_or, arith, length-take, length-drop}
-use Rattle.sn_journal.proofs.Wholes.{whole}
+use Rattle.sn_journal.proofs.Facts.{whole}
 use Rattle.sn_tail.proofs.gates.whole_batch.Goals as goal
 
 pub returns-clause-some : goal.returns-clause-some
