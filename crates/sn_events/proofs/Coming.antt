@@ -36,22 +36,21 @@ use Rattle.sn_rows.specs.declared.change.Change.{Change}
 use Rattle.sn_server.specs.Loads.{kept_of}
 use Rattle.sn_server.specs.Stores.{Kept}
 use Rattle.sn_tail.specs.Places.{place_behind}
-use Rattle.sn_world.proofs.PresentSets.{unasked}
-use Rattle.sn_world.proofs.Sessions.{CallLaws}
+use Rattle.sn_world.proofs.Facts.{CallLaws, unasked}
 use Rattle.sn_world.specs.Calls.{AsksNothing}
-use Rattle.sn_world.specs.Holds.{Holds, TokensDiffer}
-use Rattle.sn_world.specs.Laws.{Keeps}
+use Rattle.sn_world.specs.Holds.{TokensDiffer}
+use Rattle.sn_world.specs.Plain.{HoldsPlain, KeepsPlain}
 use Rattle.sn_world.specs.Sessions.{IsCalled, MayAsk}
 use Rattle.sn_world.specs.World.{World}
 
 -- ---- no want of memory was heard
 
-hears_any : (secret : Bytes) (w : World) (s : Ideal) (name : Bytes) (call : Call) (words : ChaCha) (acts : List Act) (halt : Halt) → Holds secret w s → MayAsk s call → IsPlain halt
+hears_any : (secret : Bytes) (w : World) (s : Ideal) (name : Bytes) (call : Call) (words : ChaCha) (acts : List Act) (halt : Halt) → HoldsPlain secret w s → MayAsk s call → IsPlain halt
     → Run 1 call (w.devices name) words acts halt → HearsNoWant acts
 hears_any secret w s name (register identifier password cost) words acts halt h may plain runs = register_hears 1 identifier password cost (w.devices name) words acts halt plain runs
 hears_any secret w s name (sign_in identifier password) words acts halt h may plain runs = sign_in_hears 1 identifier password (w.devices name) words acts halt plain runs
 hears_any secret w s name sync words acts halt h may plain runs =
-    sync_hears 1 (w.devices name) words acts halt (λ owner sets has. unasked secret w s name h owner sets has) plain runs
+    sync_hears 1 (w.devices name) words acts halt (λ owner sets has. unasked (w.devices name) owner sets (h.plain.unasked name) has) plain runs
 hears_any secret w s name (put kind text) words acts halt h may plain runs = only_hears acts (quiet_only (put kind text) (w.devices name) words acts halt tt runs)
 hears_any secret w s name (edit uuid text) words acts halt h may plain runs = only_hears acts (quiet_only (edit uuid text) (w.devices name) words acts halt tt runs)
 hears_any secret w s name (delete uuid) words acts halt h may plain runs = only_hears acts (quiet_only (delete uuid) (w.devices name) words acts halt tt runs)
@@ -115,8 +114,8 @@ set_serves link place setting recording rows server set =
 
 -- ---- the laws
 
-line_comes : CallLaws → Keeps → (secret : Bytes) (w : World) (s : Ideal) (name : Bytes) (call : Call) (words : ChaCha) (acts : List Act) (halt : Halt) (setting : Setting) (new : RecordingLink)
-    (next : Rows) (f : AllFated host w.server acts setting.losses setting.now 1 new.exchanged next) → TokensDiffer secret → Holds secret w s → IsPlain halt → MayAsk s call
+line_comes : CallLaws → KeepsPlain → (secret : Bytes) (w : World) (s : Ideal) (name : Bytes) (call : Call) (words : ChaCha) (acts : List Act) (halt : Halt) (setting : Setting) (new : RecordingLink)
+    (next : Rows) (f : AllFated host w.server acts setting.losses setting.now 1 new.exchanged next) → TokensDiffer secret → HoldsPlain secret w s → IsPlain halt → MayAsk s call
     → Run 1 call (w.devices name) words acts halt → ServesRows (link_held (recorded_link new)) (recorded_place new) next
     → LineCame secret w s name call words acts halt setting new
 line_comes laws keeps secret w s name call words acts halt setting new next f differ h plain may runs server =
@@ -138,7 +137,7 @@ line_comes laws keeps secret w s name call words acts halt setting new next f di
 all_records : (old new : RecordingLink) (more : List Exchanged) → old.exchanged ≡ [] → new.exchanged ≡ old.exchanged ++ more → new.exchanged ≡ more
 all_records old new more none is = is ∙ ap (λ (es : List Exchanged). es ++ more) none
 
-pub calls_come : CallLaws → Keeps → ExchangesHaveFates → StaysSound → CallsCome
+pub calls_come : CallLaws → KeepsPlain → ExchangesHaveFates → StaysSound → CallsCome
 calls_come laws keeps law stays secret w s name call words acts halt xs setting link place old new differ h may runs plain readable exchanges there set records whole open_held =
     let (more, exchanged_are, them) = records.records whole in
     let server = set_serves link place setting old w.server there set in
@@ -162,7 +161,7 @@ calls_come laws keeps law stays secret w s name call words acts halt xs setting 
     (whole_asked setting.losses setting.now 1 kept xs last o.kept (recorded_asked setting.losses setting.now 1 (serves kept) xs more last (serves o.kept) so) refl) o.sound refl
     (subst (IsPlaceOf (recorded_place new)) o.is place_next))
 
-pub quiet_come : CallLaws → Keeps → QuietCome
+pub quiet_come : CallLaws → KeepsPlain → QuietCome
 quiet_come laws keeps secret w s name call words acts halt setting link place recording differ h quiet runs plain there set =
     let only = quiet_only call (w.devices name) words acts halt quiet runs in
     line_comes laws keeps secret w s name call words acts halt setting recording w.server

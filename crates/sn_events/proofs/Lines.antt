@@ -14,12 +14,11 @@ use Rattle.sn_laws.specs.declared.ideal.Ideal.{Ideal}
 use Rattle.sn_laws.specs.declared.moves.Move.{Move}
 use Rattle.sn_rows.specs.Table.{Rows}
 use Rattle.sn_string.specs.declared.params.KeySet.{KeySet}
-use Rattle.sn_world.proofs.Sessions.{CallLaws}
-use Rattle.sn_world.proofs.Traced.{trace_from}
+use Rattle.sn_world.proofs.Facts.{CallLaws, calls_plain, keeps_password, trace_plain}
 use Rattle.sn_world.specs.Calls.{Fate, GoesCall, Leads, LeadsTo, call_steps, crashed, rows_served, served, undelivered}
 use Rattle.sn_world.specs.Happens.{Happens, Trace, commits, makes, serves, starts}
-use Rattle.sn_world.specs.Holds.{Holds, TokensDiffer}
-use Rattle.sn_world.specs.Laws.{Keeps, KeptBy}
+use Rattle.sn_world.specs.Holds.{TokensDiffer}
+use Rattle.sn_world.specs.Plain.{HoldsPlain, IsPlainStep, KeepsPlain, KeptPlain}
 use Rattle.sn_world.specs.Sessions.{IsCalled, LeadsLine, calls, made_behind, rows_ended, with_end}
 use Rattle.sn_world.specs.World.{Made, World}
 
@@ -91,17 +90,17 @@ by_name next w name F own others other = at (bytes_eq other name) refl
 -- ---- a call
 
 goes_call : CallLaws → (secret : Bytes) (w : World) (s : Ideal) (name : Bytes) (least : ℕ) (call : Call) (words : ChaCha) (acts : List Act) (fates : List Fate) (halt : Halt)
-    → TokensDiffer secret → Holds secret w s → IsCalled w s name least call words acts fates halt → GoesCall secret w s name call acts fates halt
+    → TokensDiffer secret → HoldsPlain secret w s → IsCalled w s name least call words acts fates halt → GoesCall secret w s name call acts fates halt
 goes_call laws secret w s name least (register identifier password cost) words acts fates halt differ h x =
-    laws.registers secret w s name least identifier password cost words acts fates halt differ h x.runs x.over
+    laws.registers secret w s name least identifier password cost words acts fates halt differ h.holds x.runs x.over
 goes_call laws secret w s name least (sign_in identifier password) words acts fates halt differ h x =
-    laws.sign_ins secret w s name least identifier password words acts fates halt differ h x.may x.runs x.over
-goes_call laws secret w s name least (put kind text) words acts fates halt differ h x = laws.quiet secret w s name least (put kind text) words acts fates halt differ h tt x.runs x.over
-goes_call laws secret w s name least (edit uuid text) words acts fates halt differ h x = laws.quiet secret w s name least (edit uuid text) words acts fates halt differ h tt x.runs x.over
-goes_call laws secret w s name least (delete uuid) words acts fates halt differ h x = laws.quiet secret w s name least (delete uuid) words acts fates halt differ h tt x.runs x.over
-goes_call laws secret w s name least list words acts fates halt differ h x = laws.quiet secret w s name least list words acts fates halt differ h tt x.runs x.over
-goes_call laws secret w s name least (content uuid) words acts fates halt differ h x = laws.quiet secret w s name least (content uuid) words acts fates halt differ h tt x.runs x.over
-goes_call laws secret w s name least sync words acts fates halt differ h x = laws.syncs secret w s name least words acts fates halt differ h x.runs x.over
+    laws.sign_ins secret w s name least identifier password words acts fates halt differ h.holds x.may x.runs x.over
+goes_call laws secret w s name least (put kind text) words acts fates halt differ h x = laws.quiet secret w s name least (put kind text) words acts fates halt differ h.holds tt x.runs x.over
+goes_call laws secret w s name least (edit uuid text) words acts fates halt differ h x = laws.quiet secret w s name least (edit uuid text) words acts fates halt differ h.holds tt x.runs x.over
+goes_call laws secret w s name least (delete uuid) words acts fates halt differ h x = laws.quiet secret w s name least (delete uuid) words acts fates halt differ h.holds tt x.runs x.over
+goes_call laws secret w s name least list words acts fates halt differ h x = laws.quiet secret w s name least list words acts fates halt differ h.holds tt x.runs x.over
+goes_call laws secret w s name least (content uuid) words acts fates halt differ h x = laws.quiet secret w s name least (content uuid) words acts fates halt differ h.holds tt x.runs x.over
+goes_call laws secret w s name least sync words acts fates halt differ h x = laws.syncs secret w s name least words acts fates halt differ h.holds (h.plain.unasked name) x.runs x.over
 goes_call laws secret w s name least (passwd password cost) words acts fates halt differ h x = absurd x.may
 
 -- it ends in no failing disk
@@ -121,13 +120,15 @@ plain_rows (answered given left) rows plain = refl
 plain_rows (refused why) rows plain = refl
 plain_rows (broken what changes) rows plain = absurd plain
 
-pub called_line : CallLaws → Keeps → (secret : Bytes) (w : World) (s : Ideal) (name : Bytes) (call : Call) (words : ChaCha) (acts : List Act) (fates : List Fate) (halt : Halt)
-    → TokensDiffer secret → Holds secret w s → IsPlain halt → IsCalled w s name 1 call words acts fates halt
-    → (x : LeadsLine secret w s (calls name 1 call words acts fates halt true)) × KeptBy secret x.next s x.moves
+pub called_line : CallLaws → KeepsPlain → (secret : Bytes) (w : World) (s : Ideal) (name : Bytes) (call : Call) (words : ChaCha) (acts : List Act) (fates : List Fate) (halt : Halt)
+    → TokensDiffer secret → HoldsPlain secret w s → IsPlain halt → IsCalled w s name 1 call words acts fates halt
+    → (x : LeadsLine secret w s (calls name 1 call words acts fates halt true)) × KeptPlain secret x.next s x.moves
 called_line laws keeps secret w s name call words acts fates halt differ h plain called =
     let g = goes_call laws secret w s name 1 call words acts fates halt differ h called in
     let steps : List Happens = call_steps name g.begins acts fates in
     let x = plain_leads secret w s name steps (rows_served w.server fates) (rows_done (w.devices name) acts) halt plain g.leads in
+    let each : Each IsPlainStep steps =
+    calls_plain name g.begins 1 call (w.devices name) words acts fates halt (h.plain.unasked name) (keeps_password s call called.may) called.runs in
     let goes : Trace secret w s (with_end name halt true steps) x.moves x.next =
     subst (λ (l : List Happens). Trace secret w s l x.moves x.next) (sym (plain_end name halt steps plain)) x.goes in (
       record {
@@ -142,5 +143,5 @@ called_line laws keeps secret w s name call words acts fates halt differ h plain
             (λ other apart. others_stay secret other steps x.moves w x.next s (own_steps other name g.begins acts fates apart) x.goes);
         made_is = made_so secret (with_end name halt true steps) x.moves w x.next s goes;
       },
-      trace_from keeps secret differ steps x.moves w x.next s h x.goes,
+      trace_plain keeps secret differ steps x.moves w x.next s h each x.goes,
     )

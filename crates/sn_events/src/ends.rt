@@ -35,7 +35,7 @@ use crate::shelving::put_server;
 use sn_disk::MemShelf;
 use sn_items::Words;
 use sn_link::{Held, Losses, ServingLink};
-use sn_world::{holds_first, keeps_starting};
+use sn_world::{keeps_starting, plain_first};
 use std::alloc::{AllocError, Global};
 use uuid::Uuid;
 
@@ -56,7 +56,7 @@ impl Ends {
     pub fn begin(alloc: Global, words: &mut Words) -> Result<Begun, AllocError>
         ensures begun { IfOk result (HasBegun words.old words.new) }
     {
-        holds_first();
+        plain_first();
         keeps_starting();
         let server = fresh_server(alloc, words)?;
         let (changes, place) = first_commit(alloc, &server)?;

@@ -5,7 +5,7 @@ ghost use Rattle.sn_events.specs.Laws.{AgainComes, CallsCome, QuietCome};
 
 use sn_account::rule_laws::stays_sound;
 use sn_recorder::{agains_have_fates, exchanges_have_fates};
-use sn_world::{again_leads, calls_go, keeps, registers_go, sign_ins_go, syncs_go};
+use sn_world::{again_leads, calls_go, keeps_plain, registers_go, sign_ins_go, syncs_go};
 
 /// A call of a device over a link is a line of the world, with fates that are by what is lost, and of which the records tell.
 pub fn calls_come()
@@ -15,7 +15,7 @@ pub fn calls_come()
     syncs_go();
     registers_go();
     sign_ins_go();
-    keeps();
+    keeps_plain();
     exchanges_have_fates();
     stays_sound();
 }
@@ -28,7 +28,7 @@ pub fn quiet_come()
     syncs_go();
     registers_go();
     sign_ins_go();
-    keeps();
+    keeps_plain();
 }
 
 /// And so is a request that was made and is delivered late or again.
@@ -36,7 +36,7 @@ pub fn again_comes()
     ensures { AgainComes }
 {
     again_leads();
-    keeps();
+    keeps_plain();
     stays_sound();
     agains_have_fates();
 }

@@ -3,12 +3,12 @@ use Rattle.std.specs.Prelude.{◌≡◌, ◌++◌, ℕ, ◌+◌, ◌^◌, ◌<�
 use Rattle.std.specs.Io.KnownBytes.{Appends, Consumes}
 use Rattle.std.proofs.Common.{inl, inr, refl, sym, ◌∙◌, ap, subst, arith, append-nil, append_assoc, length-append}
 use Rattle.std.proofs.lemmas.Grind.{flat_map-append}
-use Rattle.sn_http.proofs.Finding.{none_in_nothing}
+use Rattle.sn_http.proofs.Facts.{none_in_nothing}
 use Rattle.sn_http.specs.Messages.{IsCheck, IsMessage, OfTold}
 use Rattle.sn_http.specs.declared.message.Message.{Message}
 use Rattle.sn_io.specs.Streams.{Gains}
 use Rattle.sn_rows.specs.declared.change.Change.{Change}
-use Rattle.sn_server.proofs.Running.{all_more, serves_more}
+use Rattle.sn_server.proofs.Facts.{all_more, serves_more}
 use Rattle.sn_server.specs.CheckBodies.{check_bytes}
 use Rattle.sn_server.specs.Sessions.{IsCut, Reads, SessionEnds}
 use Rattle.sn_server.specs.Steps.{AreSteps, GainsEach, IsStep, Serves, Step, World, after_all, answers_of, bytes_of, step_answer, step_bytes, step_now, world}

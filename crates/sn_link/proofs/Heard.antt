@@ -13,8 +13,7 @@ use Rattle.sn_http.specs.Fields.{Fields, fields_of, first_of, values_of}
 use Rattle.sn_http.specs.Framing.{bounded, said_by}
 use Rattle.sn_http.specs.Lines.{section}
 use Rattle.sn_http.specs.Answers.{phrase, status_line, answer, answer_head, answer_size, IsAnswer}
-use Rattle.sn_http.proofs.Trims.{all_written, fields_valid, lines_same, digits_ascii}
-use Rattle.sn_http.proofs.WrittenFields.{answer_with, answer_written}
+use Rattle.sn_http.proofs.Facts.{all_written, answer_with, answer_written, digits_ascii, fields_valid, lines_same}
 
 abbrev the_size : Result ℕ ℕ → ℕ
 the_size (Ok n) = n

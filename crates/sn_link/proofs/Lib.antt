@@ -1,6 +1,7 @@
 pub mod Asking
 pub mod Batches
 pub mod Delivering
+pub mod Facts
 pub mod Heard
 pub mod Readable
 pub mod Requests

@@ -5,7 +5,7 @@ use Rattle.hex.specs.Hex.{encode_lower, lower_digits}
 use Rattle.hex.proofs.HexLemmas.{length-encode_with}
 use Rattle.serde_json.specs.Data.{Data, Items, Members, array, member, no_members, number, string, unsigned}
 use Rattle.serde_json.specs.Written.{compact_text}
-use Rattle.sn_account.proofs.AnswerTexts.{IsSlim, item_size, length-items, length-member, length-quoted}
+use Rattle.sn_account.proofs.Facts.{IsSlim, item_size, length-items, length-member, length-quoted}
 use Rattle.sn_string.specs.Bounds.{IsIdentifier}
 use Rattle.sn_string.specs.declared.params.Params.{Params}
 use Rattle.sn_sync.specs.Fits.{AreBytes}

@@ -17,8 +17,7 @@ use Rattle.sn_sync.specs.Fits.{AreBytes}
 use Rattle.sn_sync.specs.declared.answer.Answer.{Answer}
 use Rattle.sn_sync.specs.declared.request.Request.{Request}
 use Rattle.sn_sync.specs.declared.request.Request.TheVariants as request
-use Rattle.sn_world.proofs.KeyBytes.{password_fits}
-use Rattle.sn_world.proofs.PresentSets.{unasked}
+use Rattle.sn_world.proofs.Facts.{password_fits, unasked}
 use Rattle.sn_world.specs.Delivered.{KeepsPassword}
 use Rattle.sn_world.specs.Fitting.{FitsCall, StepsFitUuids}
 use Rattle.sn_readable.proofs.Bodies.{register_short, sign_in_short}
@@ -177,11 +176,11 @@ module _ (within : ReadableWithin) (host : Bytes) (named : IsHostName host) wher
 pub runs_readable : ReadableWithin → StepsFitUuids → StepsStaySound → RunsReadable
 runs_readable within steps stay host secret w s name least call words acts halt server named h uuids fits keeps run =
     let ready : IsReady (w.devices name) = record {
-      sound = h.sound name;
+      sound = h.holds.sound name;
       uuids = uuids;
-      tokens = below_are_short (w.devices name) _ (h.sync_tokens name);
+      tokens = below_are_short (w.devices name) _ (h.holds.sync_tokens name);
     } in
     run_readable within host named least call (w.devices name) words acts halt fits keeps
     (λ owner sets holds syncs.
-    syncs_readable within steps stay host named (w.devices name) words owner sets acts halt (unasked secret w s name h owner sets holds) ready syncs)
+    syncs_readable within steps stay host named (w.devices name) words owner sets acts halt (unasked (w.devices name) owner sets (h.plain.unasked name) holds) ready syncs)
     run server

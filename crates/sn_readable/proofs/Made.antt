@@ -5,7 +5,7 @@ use Rattle.sn_laws.specs.Each.{Each, One}
 use Rattle.sn_link.specs.Laws.{AreReadable, IsReadable}
 use Rattle.sn_string.specs.declared.params.KeySet.{KeySet}
 use Rattle.sn_sync.specs.Members.{Bytes}
-use Rattle.sn_world.proofs.Lists.{each_both}
+use Rattle.sn_world.proofs.Facts.{each_both}
 use Rattle.sn_world.specs.Calls.{Fate, call_steps, crashed, fate_steps, served, undelivered}
 use Rattle.sn_world.specs.Happens.{Happens, commits, makes, serves, starts}
 use Rattle.sn_world.specs.Sessions.{Line, again, calls, line_steps, made_behind, opens, stops, with_end}

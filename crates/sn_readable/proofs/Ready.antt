@@ -1,9 +1,7 @@
 -- A device's rows of which what it sends is readable: what commits of a sync leave of them.
 use Rattle.std.proofs.Common.{◌≡◌, ℕ, List, [], ◌∷◌, ◌≤◌, length, Option, refl, sym, ap, ◌∙◌, subst, inl, inr}
 use Rattle.rand_chacha.specs.ChaCha.{ChaCha}
-use Rattle.sn_client.proofs.Frames.{RetiresOlder, beside, one_owner}
-use Rattle.sn_client.proofs.Leading.{after_append}
-use Rattle.sn_client.proofs.StepStands.{posts_items, retires_older}
+use Rattle.sn_client.proofs.Facts.{RetiresOlder, after_append, beside, one_owner, posts_items, retires_older}
 use Rattle.sn_client.specs.Laws.{StepsStaySound}
 use Rattle.sn_client.specs.Sending.{PostsAll}
 use Rattle.sn_client.specs.States.{Bytes, HasOwner, IsSound, OwnerColumns, text_of_token, token_of}

@@ -5,9 +5,7 @@ use Rattle.std.specs.Prelude.{nat_le, suc}
 use Rattle.std.proofs.lemmas.Bool.{and_parts, leb-true}
 use Rattle.std.proofs.lemmas.List.Elements.{All-cons, All-contains_itself, All-head, All-nil, All-tail, All-weaker, Contains-append_left}
 use Rattle.std.proofs.lemmas.List.Sums.{AllPass-from_list_all, sum_by-cons}
-use Rattle.sn_account.proofs.AnswerTexts.{IsSlim, item_size, length-stamp}
-use Rattle.sn_account.proofs.PresentLemmas.{lengths}
-use Rattle.sn_account.proofs.UnescapedTexts.{sealed_are_unescaped}
+use Rattle.sn_account.proofs.Facts.{IsSlim, item_size, length-stamp, lengths, sealed_are_unescaped}
 use Rattle.sn_account.specs.AnswerSize.{AreUnescaped, NamesShortly, strings_size}
 use Rattle.sn_client.specs.Runs.{Sends}
 use Rattle.sn_client.specs.Sending.{AreSentAs, FitsSending, IsSentAs, Numbered, SaysBase, first_some, message_body, sent_of, weight_of}
@@ -28,9 +26,7 @@ use Rattle.sn_sync.specs.declared.item.Body.{Body}
 use Rattle.sn_sync.specs.declared.item.Item.{Item}
 use Rattle.sn_sync.specs.declared.request.Request.{Request}
 use Rattle.sn_sync.specs.declared.request.Request.TheVariants as request
-use Rattle.sn_world.proofs.FittingItems.{sends_fit}
-use Rattle.sn_world.proofs.RowSizes.{body_most}
-use Rattle.sn_world.proofs.RowSizes.{strings_size as row_strings_size}
+use Rattle.sn_world.proofs.Facts.{body_most, sends_fit, strings_size as row_strings_size}
 use Rattle.sn_world.specs.Fitting.{FitsUuids}
 use Rattle.sn_readable.proofs.Bodies.{sync_short}
 use Rattle.sn_readable.proofs.Tokens.{HasShortTokens, IsShortToken, TokensAreShort}

@@ -11,7 +11,7 @@ use Rattle.sn_rows.specs.declared.change.Change.{Change}
 use Rattle.sn_rows.specs.declared.device_rows.OwnerRow.{OwnerRow}
 use Rattle.sn_rows.specs.declared.server_rows.StoreRow.{StoreRow}
 use Rattle.sn_server.specs.Replies.{no_memory}
-use Rattle.sn_sync.proofs.TokenFacts.{length-token-le}
+use Rattle.sn_sync.proofs.Facts.{length-token-le}
 use Rattle.sn_sync.specs.Members.{Bytes}
 use Rattle.sn_sync.specs.Tokens.{IsToken}
 use Rattle.sn_sync.specs.declared.answer.Answer.{Answer}

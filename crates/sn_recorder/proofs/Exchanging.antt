@@ -1,7 +1,7 @@
 -- An exchange with its record, by what the server's store gained.
 use Rattle.std.specs.Prelude.{◌≡◌, ◌++◌, ℕ, List, [], ◌∷◌, IfOk, Option, Some, Result, Ok, Err, true}
 use Rattle.std.proofs.Common.{refl, sym, ◌∙◌, ap, subst, append-nil}
-use Rattle.sn_link.proofs.Asking.{is_failed}
+use Rattle.sn_link.proofs.Facts.{is_failed}
 use Rattle.sn_link.specs.Deliveries.{Reaches, Standing, failed, serves}
 use Rattle.sn_link.specs.Holdings.{HoldsIn}
 use Rattle.sn_link.specs.Links.{Asks, AsksAgain, Befalls, link_held, link_losses, link_now, link_number}

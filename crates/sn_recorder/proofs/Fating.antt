@@ -27,12 +27,7 @@ use Rattle.sn_link.specs.Laws.{IsAnswered, IsReadable}
 use Rattle.sn_link.specs.Links.{Arrives}
 use Rattle.sn_link.specs.declared.losses.Lost.{Lost}
 use Rattle.sn_link.specs.declared.losses.Lost.TheVariants as lose
-use Rattle.sn_link.proofs.Delivering.{message_some}
-use Rattle.sn_link.proofs.Heard.{heard_is}
-use Rattle.sn_link.proofs.Requests.{IsRuled, ReadLaws, no_check_fails, ruled, some, the_message, whole}
-use Rattle.sn_link.proofs.Serving.{HearLaws}
-use Rattle.sn_link.proofs.Statuses.{rule_three}
-use Rattle.sn_link.proofs.Wanting.{wanting_text, wanting_writes}
+use Rattle.sn_link.proofs.Facts.{HearLaws, IsRuled, ReadLaws, heard_is, message_some, no_check_fails, rule_three, ruled, some, the_message, wanting_text, wanting_writes, whole}
 use Rattle.sn_recorder.specs.Fates.{AgainsHaveFates, ExchangesHaveFates, HasFate, HasFateAgain, IsServedAt}
 use Rattle.sn_recorder.specs.Recorded.{IsRecordOf}
 use Rattle.sn_recorder.specs.Told.{IsToldOf, batches_of}

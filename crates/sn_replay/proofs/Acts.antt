@@ -19,8 +19,8 @@ use Rattle.sn_sync.specs.declared.request.Request.TheVariants as request
 use Rattle.sn_telling.specs.Calling.{IsAskedOf}
 use Rattle.sn_telling.specs.declared.calling.Asked.{Asked}
 use Rattle.sn_telling.specs.declared.calling.Asked.TheVariants as asks
-use Rattle.sn_world.proofs.PresentSets.{unasked}
-use Rattle.sn_world.specs.Holds.{Holds}
+use Rattle.sn_world.proofs.Facts.{unasked}
+use Rattle.sn_world.specs.Plain.{HoldsPlain}
 use Rattle.sn_world.specs.World.{World}
 use Rattle.sn_replay.specs.Playing.{AreAskedSo}
 
@@ -161,10 +161,10 @@ module _ (b : Option KeySet) where
       (both_asked b asks.Sync (flat_map acts_of x.rounds) x.later (rounds_so x.rounds (record { rows = rows; words = words; last = None }) x.at x.went)
       (ends_alone_so (length x.rounds) x.at x.later halt x.ends))
 
-  pub sync_asked : (secret : Bytes) (w : World) (s : Ideal) (name : Bytes) (words : ChaCha) (acts : List Act) (halt : Halt) → Holds secret w s
+  pub sync_asked : (secret : Bytes) (w : World) (s : Ideal) (name : Bytes) (words : ChaCha) (acts : List Act) (halt : Halt) → HoldsPlain secret w s
       → Run 1 sync (w.devices name) words acts halt → Syncs acts
   sync_asked secret w s name words acts halt h (inl wants) = none_asked b asks.Sync acts wants.0
   sync_asked secret w s name words acts halt h (inr (inl (none, refuses))) = none_asked b asks.Sync acts refuses.0
   sync_asked secret w s name words acts halt h (inr (inr (owner, sets, holds, syncs))) =
       alone_so (w.devices name) words acts halt
-      (synced_alone (w.devices name) words owner sets acts halt (unasked secret w s name h owner sets holds) syncs)
+      (synced_alone (w.devices name) words owner sets acts halt (unasked (w.devices name) owner sets (h.plain.unasked name) holds) syncs)

@@ -24,7 +24,8 @@ use Rattle.sn_telling.specs.Laws.{TracesTell}
 use Rattle.sn_telling.specs.declared.calling.Calling.{Calling}
 use Rattle.sn_telling.specs.declared.calling.Calling.TheVariants as calling
 use Rattle.sn_world.specs.Calls.{BeginsBy}
-use Rattle.sn_world.specs.Holds.{Holds, TokensDiffer}
+use Rattle.sn_world.specs.Holds.{TokensDiffer}
+use Rattle.sn_world.specs.Plain.{HoldsPlain}
 use Rattle.sn_world.specs.Synced.{SyncsEnd}
 use Rattle.sn_world.specs.World.{World}
 use Rattle.sn_replay.specs.Lines.{DrawsSet}
@@ -124,7 +125,7 @@ module _ (script : Script) (secret : Bytes) (c : Course) (number : ℕ) (setting
     well = λ acts lost halt comes x l ended. tt;
   }
 
-  pub sync_of : SyncsEnd → TracesTell → TokensDiffer secret → Holds secret c.world (end c.moves) → (fates : List Fate)
+  pub sync_of : SyncsEnd → TracesTell → TokensDiffer secret → HoldsPlain secret c.world (end c.moves) → (fates : List Fate)
       → IsLineOf script secret c (reported_so (line.Sync device fates)) device sync calling.Sync
   sync_of synced tell differ h fates = record {
     named = refl;

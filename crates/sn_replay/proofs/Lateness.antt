@@ -150,7 +150,7 @@ module _ (tell : AgainsTell) (fit : TracesFit) (script : Script) (secret : Bytes
   moves_told : moves ≡ x.leads.moves
   moves_told =
       moves_here ∙ ap (λ (b : Option KeySet). fate_moves w.server m.device b m.request fate) (sym x.begins_is)
-      ∙ sym (tell secret w (end c.moves) m.device m.request fate x.leads)
+      ∙ sym (tell secret w (end c.moves) m.device m.request fate differ at.stands.holds x.leads)
 
   came : CameAgain secret c r device which e next
   came = record {
@@ -191,7 +191,7 @@ module _ (tell : AgainsTell) (fit : TracesFit) (script : Script) (secret : Bytes
   at_now = record {
     legal = legal_append empty c.moves moves at.legal (subst (LegalFrom (end c.moves)) (sym moves_told) x.legal);
     stands = subst (Stands gave.ends secret next) (sym end_is) x.stands;
-    fits = fit secret w next (end c.moves) (line_steps x.leads.begins (again m.device m.request fate)) x.leads.moves differ at.stands.holds at.fits x.leads.goes;
+    fits = fit secret w next (end c.moves) (line_steps x.leads.begins (again m.device m.request fate)) x.leads.moves differ at.stands.holds.holds at.fits x.leads.goes;
     labels_are = labels_see ∙ ap (λ (ls : Labels). labels_of false ls moves) at.labels_are;
     names_are = names_see ∙ at.names_are;
     server_is = told.1 ∙ ap (λ (rows : Rows). rows_after rows x.changes) at.server_is ∙ sym x.leads.server_is;

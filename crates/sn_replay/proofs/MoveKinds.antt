@@ -29,7 +29,8 @@ use Rattle.sn_sync.specs.declared.request.Request.{Request}
 use Rattle.sn_sync.specs.declared.request.Request.TheVariants as request
 use Rattle.sn_telling.specs.Telling.{done_of, fate_moves, told_moves}
 use Rattle.sn_world.specs.Calls.{Fate, crashed, rows_behind, served, undelivered}
-use Rattle.sn_world.specs.Serving.{accept_of, move_of, moves_for, registers_in}
+use Rattle.sn_world.specs.Plain.{accept_of, move_of, moves_for}
+use Rattle.sn_world.specs.Serving.{registers_in}
 use Rattle.sn_course.specs.Laws.{IsSetOf}
 use Rattle.sn_script.specs.declared.script.Script.{Script}
 use Rattle.sn_replay.specs.Playing.{IsBeginsOf, IsMoveOf}

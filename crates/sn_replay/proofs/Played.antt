@@ -159,7 +159,7 @@ module _ (grow : RecountsGrow) (more : RecountsMore) (moves_more : MovesMore) (s
       let recovers : Recovers (ends_slots told.known.ends) now = record {
         server = t.server_reads;
         devices = t.at.marks_read;
-        shows = record { server = t.at.stands.holds.server; devices = t.at.stands.holds.devices };
+        shows = record { server = t.at.stands.holds.holds.server; devices = t.at.stands.holds.holds.devices };
       } in
       record {
         opened = b.opened;

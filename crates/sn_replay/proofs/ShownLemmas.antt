@@ -59,8 +59,8 @@ module _ (regular : StatesRegular) (held : VersionsHeld) (script : Script) (secr
   pub ends_show : EndsShow (row_in known.seen.server) (λ name. mirrored known.seen.devices name) known.seen.names (end c.moves)
   ends_show = record {
     regular = regular c.moves at.legal;
-    accounts = subst (λ (rows : Rows). ShowsServer rows (end c.moves).accounts) (sym at.server_is) at.stands.holds.server;
-    each = λ name. subst (λ (rows : Rows). ShowsDevice rows (end c.moves) name) (sym (at.devices_are name)) (at.stands.holds.devices name);
+    accounts = subst (λ (rows : Rows). ShowsServer rows (end c.moves).accounts) (sym at.server_is) at.stands.holds.holds.server;
+    each = λ name. subst (λ (rows : Rows). ShowsDevice rows (end c.moves) name) (sym (at.devices_are name)) (at.stands.holds.holds.devices name);
     held = subst (AreHeld (end c.moves)) (sym at.names_are) held_now;
   }
 

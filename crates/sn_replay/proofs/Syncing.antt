@@ -7,6 +7,7 @@ use Rattle.sn_client.specs.declared.error.ClientError.{ClientError}
 use Rattle.sn_client.specs.declared.error.ClientError.TheVariants as client
 use Rattle.sn_course.specs.Fits.{EndsRefused, EndsSo, EndsWell}
 use Rattle.sn_laws.proofs.Facts.{end_from-append, text_same}
+use Rattle.sn_laws.specs.Each.{Each}
 use Rattle.sn_laws.specs.Lookups.{Bytes, empty}
 use Rattle.sn_laws.specs.Runs.{end, end_from}
 use Rattle.sn_laws.specs.declared.ideal.Ideal.{Ideal}
@@ -19,7 +20,9 @@ use Rattle.sn_string.specs.declared.params.KeySet.{KeySet}
 use Rattle.sn_telling.specs.Telling.{told_moves}
 use Rattle.sn_world.specs.Calls.{Fate, call_steps}
 use Rattle.sn_world.specs.Happens.{Trace}
-use Rattle.sn_world.specs.Holds.{Holds, TokensDiffer}
+use Rattle.sn_world.proofs.Facts.{calls_plain}
+use Rattle.sn_world.specs.Holds.{TokensDiffer}
+use Rattle.sn_world.specs.Plain.{HoldsPlain, IsPlainStep}
 use Rattle.sn_world.specs.Sessions.{LeadsLine, MayCome, calls}
 use Rattle.sn_world.specs.Synced.{IsSynced, SyncsEnd}
 use Rattle.sn_world.specs.World.{World}
@@ -49,17 +52,19 @@ refused_not (client.TooLarge size) l h done = no_refusal l _ h done
 refused_not client.LinkFault l h done = absurd (cc)
 refused_not client.Memory l h done = h
 
-module _ (synced : SyncsEnd) (tell : TracesTell) (secret : Bytes) (differ : TokensDiffer secret) (w : World) (moves : List Move) (h : Holds secret w (end moves))
+module _ (synced : SyncsEnd) (tell : TracesTell) (secret : Bytes) (differ : TokensDiffer secret) (w : World) (moves : List Move) (h : HoldsPlain secret w (end moves))
     (name : Bytes) (words : ChaCha) where
   pub sync_well : (acts : List Act) (fates : List Fate) (halt : Halt) → MayCome secret w (end moves) (calls name 1 sync words acts fates halt true)
       → (x : LeadsLine secret w (end moves) (calls name 1 sync words acts fates halt true)) → (l : Last) → EndsSo halt l
       → EndsWell sync name (x.next.devices name) (end (moves ++ x.moves)) l
   sync_well acts fates (answered given left) comes x l ended done =
-      let y = synced secret w (end moves) name 1 words left acts fates given differ h comes.runs comes.over in
+      let y = synced secret w (end moves) name 1 words left acts fates given differ h.holds (h.plain.unasked name) comes.runs comes.over in
+      let each : (b : Option KeySet) → Each IsPlainStep (call_steps name b acts fates) =
+      λ b. calls_plain name b 1 sync (w.devices name) words acts fates (answered given left) (h.plain.unasked name) tt comes.runs in
       let first : y.leads.moves ≡ told_moves w.server (w.devices name) name None acts fates =
-      tell secret w y.leads.next (end moves) name None acts fates y.leads.moves differ h comes.over y.leads.goes in
+      tell secret w y.leads.next (end moves) name None acts fates y.leads.moves differ h comes.over (each None) y.leads.goes in
       let second : x.moves ≡ told_moves w.server (w.devices name) name x.begins acts fates =
-      tell secret w x.next (end moves) name x.begins acts fates x.moves differ h comes.over x.goes in
+      tell secret w x.next (end moves) name x.begins acts fates x.moves differ h comes.over (each x.begins) x.goes in
       let same : y.leads.moves ≡ x.moves =
       first ∙ ap (λ (b : Option KeySet). told_moves w.server (w.devices name) name b acts fates) (sym x.of_line) ∙ sym second in
       let rows : y.leads.next.devices name ≡ x.next.devices name =

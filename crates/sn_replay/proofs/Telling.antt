@@ -121,7 +121,7 @@ module _ (tell : CallsTell) (fit : TracesFit) (script : Script) (secret : Bytes)
       event.moves_are ∙ s.moves_are
       ∙ ap (λ (rows : Rows). told_moves rows (mirrored seen.devices name) name begins x.acts x.fates) at.server_is
       ∙ ap (λ (rows : Rows). told_moves w.server rows name begins x.acts x.fates) (at.devices_are name)
-      ∙ sym (tell secret w (end c.moves) name 1 call words x.acts x.fates x.halt differ at.stands.holds x.whole x.leads)
+      ∙ sym (tell secret w (end c.moves) name 1 call words x.acts x.fates x.halt differ at.stands.holds x.whole x.comes x.leads)
 
   end_is : end (c.moves ++ e.moves) ≡ end_from (end c.moves) x.leads.moves
   end_is = end_from-append empty c.moves e.moves ∙ ap (end_from (end c.moves)) moves_told
@@ -247,7 +247,7 @@ module _ (tell : CallsTell) (fit : TracesFit) (script : Script) (secret : Bytes)
   at_now = record {
     legal = legal_append empty c.moves e.moves at.legal (subst (LegalFrom (end c.moves)) (sym moves_told) x.legal);
     stands = subst (Stands came.ends secret next) (sym end_is) x.stands;
-    fits = fit secret w next (end c.moves) (line_steps begins (calls name 1 call words x.acts x.fates x.halt true)) x.leads.moves differ at.stands.holds at.fits x.leads.goes;
+    fits = fit secret w next (end c.moves) (line_steps begins (calls name 1 call words x.acts x.fates x.halt true)) x.leads.moves differ at.stands.holds.holds at.fits x.leads.goes;
     labels_are = labels_see ∙ ap (λ (ls : Labels). labels_of (puts_of calling) ls moves) at.labels_are
         ∙ ap (λ (b : Bool). labels_of b c.labels moves) (sym event.puts_is) ∙ ap (labels_of e.puts c.labels) (sym event.moves_are);
     names_are = names_see ∙ ap (λ (ns : List Bytes). names_with ns (Some name)) at.names_are ∙ ap (names_with c.names) (sym l.named);

@@ -12,7 +12,7 @@ use Rattle.sn_server.specs.Stores.{batch_of}
 use Rattle.sn_string.specs.declared.params.KeySet.{KeySet}
 use Rattle.sn_sync.specs.declared.request.Request.{Request}
 use Rattle.sn_world.specs.Calls.{Fate, rows_served}
-use Rattle.sn_world.specs.Serving.{moves_for}
+use Rattle.sn_world.specs.Plain.{moves_for}
 use Rattle.sn_telling.specs.Calling.{IsAskedOf, IsCallingOf}
 use Rattle.sn_telling.specs.Telling.{told_moves}
 use Rattle.sn_telling.specs.Walking.{SaysSync, asked_by, asks_set, committed_moves, exchanged_moves, gained_moves, rows_behind_all, rows_exchanged}

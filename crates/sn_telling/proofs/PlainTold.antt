@@ -16,7 +16,8 @@ use Rattle.sn_string.specs.declared.params.KeySet.{KeySet}
 use Rattle.sn_sync.specs.declared.request.Request.{Request}
 use Rattle.sn_sync.specs.declared.request.Request.TheVariants as request
 use Rattle.sn_world.specs.Calls.{Fate, crashed, rows_behind, rows_served, served, undelivered}
-use Rattle.sn_world.specs.Serving.{moves_for, registers_in}
+use Rattle.sn_world.specs.Plain.{moves_for}
+use Rattle.sn_world.specs.Serving.{registers_in}
 use Rattle.sn_telling.specs.Calling.{IsAskedOf}
 use Rattle.sn_telling.specs.Telling.{done_of, fate_moves, told_moves}
 use Rattle.sn_telling.specs.Walking.{asked_by, batch_moves, committed_moves, done_by, exchanged_moves, gained_moves, rows_behind_all, rows_exchanged}

@@ -12,7 +12,7 @@ use Rattle.sn_rows.specs.Table.{Rows, rows_after}
 use Rattle.sn_string.specs.declared.params.KeySet.{KeySet}
 use Rattle.sn_sync.specs.declared.request.Request.{Request}
 use Rattle.sn_world.specs.Calls.{Fate, crashed, rows_behind, served, undelivered}
-use Rattle.sn_world.specs.Serving.{moves_for}
+use Rattle.sn_world.specs.Plain.{moves_for}
 
 -- the set that a device begins with: no password is changed yet, so it is the account's only one
 abbrev pub only_set : ℕ

@@ -19,7 +19,8 @@ use Rattle.sn_rows.specs.declared.key.Slot.TheVariants.{Asked as AskedSlot}
 use Rattle.sn_rows.specs.declared.value.Value.{Value}
 use Rattle.sn_sync.specs.declared.answer.Answer.{Answer}
 use Rattle.sn_sync.specs.declared.request.Route.TheVariants as route
-use Rattle.sn_world.specs.Serving.{accepts_in, registers_in}
+use Rattle.sn_world.specs.Plain.{accepts_in}
+use Rattle.sn_world.specs.Serving.{registers_in}
 use Rattle.sn_telling.specs.Telling.{only_set}
 use Rattle.sn_telling.specs.declared.calling.Asked.{Asked}
 use Rattle.sn_telling.specs.declared.calling.Asked.TheVariants as asked

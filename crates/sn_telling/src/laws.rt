@@ -5,7 +5,7 @@ ghost use Rattle.sn_telling.specs.Laws.{AgainsTell, CallsTell, TracesTell};
 
 use sn_laws::state_laws::deletions_stay;
 use sn_moves::says_one;
-use sn_world::keeps;
+use sn_world::{keeps_plain, plain_rows, plain_says};
 
 /// Whichever trace the steps of a call are, it says the moves of its commits and its requests, in order.
 pub fn traces_tell()
@@ -13,7 +13,9 @@ pub fn traces_tell()
 {
     deletions_stay();
     says_one();
-    keeps();
+    keeps_plain();
+    plain_rows();
+    plain_says();
 }
 
 /// A whole call says the moves of its commits and its requests, in order.
@@ -22,10 +24,14 @@ pub fn calls_tell()
 {
     deletions_stay();
     says_one();
-    keeps();
+    keeps_plain();
+    plain_rows();
+    plain_says();
 }
 
 /// A request that comes late or again says those of its batch.
 pub fn agains_tell()
     ensures { AgainsTell }
-{}
+{
+    plain_says();
+}

@@ -36,7 +36,7 @@ use Rattle.sn_client.specs.Sending.{SaysBase}
 use Rattle.sn_world.specs.Live.{IsPosted}
 use Rattle.sn_sync.specs.Laws.{HasOneStamp}
 use Rattle.sn_world.proofs.Alive.{IsAlive}
-use Rattle.sn_world.specs.Serving.{number_of}
+use Rattle.sn_world.specs.Serving.{IsSentRow, number_of, stamp_in}
 use Rattle.sn_world.proofs.Lasts.{above_all, above_last, has_last}
 use Rattle.sn_world.proofs.Sent.{Sent, sent_of, strings_of}
 use Rattle.sn_world.proofs.Standing.{nowhere, no_version, stands_for}
@@ -61,6 +61,32 @@ same_row r q found e k = cc
 -- an item that names no version names none
 unnamed : (text : Bytes) (found : Option Bytes) → found ≡ None → found ≡ Some text → ⊥
 unnamed text found none e = cc
+
+-- where no item's row stands there is no stamp
+no_stamp : (found : Option Value) → ((row : ItemRow) → ¬ (found ≡ Some (value.Item row))) → stamp_in found ≡ None
+no_stamp (Some (value.Item row)) none = absurd (none row refl)
+no_stamp (Some (value.Store row)) none = refl
+no_stamp (Some (value.Account row)) none = refl
+no_stamp (Some (value.Generation row)) none = refl
+no_stamp (Some (value.Owner row)) none = refl
+no_stamp (Some (value.Set row)) none = refl
+no_stamp (Some (value.Local row)) none = refl
+no_stamp None none = refl
+
+-- the device's row that has the item as what was sent, of a version that is held, makes it one that was posted
+pub posted_of : (p : Progress) (device : Rows) (n stamp : ℕ) (i : Item) (held row : ItemRow) (change : Change) → HasItem p.rows i.uuid held → Names i held
+    → RulePuts p n stamp i row change → IsSentRow (p.rows (key.Item i.uuid)) device i.uuid row → IsPosted device i
+posted_of p device n stamp i held row change there (text, spelled, names) puts sent = record {
+  number = sent.number;
+  local = sent.local;
+  stands = sent.stands.0;
+  uuid_is = sent.stands.1;
+  kind_is = sent.kind_is ∙ puts.kind;
+  base = subst (λ (b : Option ℕ). SaysBase b i.updated_at) (sym (sent.base_is ∙ ap stamp_in there)) (text, spelled, names);
+  posted = sent.posted;
+  posted_is = sent.posted_is;
+  body_is = sym puts.body ∙ sent.body_is;
+}
 
 module _ (p : Progress) (device : Rows) (s : Ideal) (name : Bytes) (n now : ℕ) (present : Params) (a : Account) (d : Device) (i : Item)
     (one_stamp : HasOneStamp) (v : IsAlive p device s name n a d) (x : IsPosted device i) (free : IsFree p n present i) where
@@ -109,9 +135,37 @@ module _ (p : Progress) (device : Rows) (s : Ideal) (name : Bytes) (n now : ℕ)
   pub on_last : IsOnLast s a i.uuid sent.draft.base
   on_last = subst (λ (b : Option ℕ). IsOnLast s a i.uuid b) sent.base (on_last_of x.local.base x.base local_shown.base)
 
+  -- so it is the stamp of the server's row
+  base_by : (base : Option ℕ) → SaysBase base i.updated_at → ShowsBase a g x.local base → base ≡ stamp_in (p.rows (key.Item i.uuid))
+  base_by None knows shows =
+      ⊎_elim (λ (absent : IsAbsent p.rows i.uuid). sym (no_stamp (p.rows (key.Item i.uuid)) absent))
+      (λ (held : (row : ItemRow) × IsHeld p n i row × ¬ (SameVersion row i) × Names i row). absurd (unnamed held.3.0 i.updated_at knows held.3.2)) free.0
+  base_by (Some stamp) knows shows =
+      let last = has_last i.uuid a.versions shows.listed.version shows.listed.among (shows.listed.item_is ∙ x.uuid_is) in
+      let its : ShowsItem p.rows n a i.uuid last.0 = (v.accounts.each n a v.at).items i.uuid last.0 last.1 in
+      ⊎_elim (λ (absent : IsAbsent p.rows i.uuid). absurd (absent its.row its.stands))
+      (λ (held : (row : ItemRow) × IsHeld p n i row × ¬ (SameVersion row i) × Names i row).
+      let names : Names i held.0 = held.3 in
+      let text : names.0 ≡ knows.0 = cc in
+      let spelled : IsStampText knows.0 held.0.updated = subst (λ (t : Bytes). IsStampText t held.0.updated) text names.1 in
+      ap Some (sym (one_stamp knows.0 held.0.updated stamp spelled knows.1)) ∙ sym (ap stamp_in held.1.0)) free.0
+
+  -- the row that is put is what the device's row has as sent
+  pub sent_row : (row : ItemRow) (change : Change) → RulePuts p n (stamp_of now p.last) i row change → IsSentRow (p.rows (key.Item i.uuid)) device i.uuid row
+  sent_row row change r = record {
+    number = x.number;
+    local = x.local;
+    stands = (x.stands, x.uuid_is);
+    kind_is = x.kind_is ∙ sym r.kind;
+    base_is = base_by x.local.base x.base local_shown.base;
+    posted = x.posted;
+    posted_is = x.posted_is;
+    body_is = r.body ∙ x.body_is;
+  }
+
   pub number_is : sent.posted.set ≡ Some (length a.sets)
   number_is =
-      let number : HasNumber s a g sent.draft = v.numbers i.uuid sent.draft at_item in
+      let number : HasNumber s a g sent.draft = v.numbers d a v.has i.uuid sent.draft at_item in
       let its = number sent.posted sent.posted_is in
       its.1 ∙ ap Some (its.2 (subst (λ (u : Bytes). IsOnLast s a u sent.draft.base) (sym uuid_is) on_last) ∙ v.alive)
 

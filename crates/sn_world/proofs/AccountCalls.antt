@@ -1,21 +1,20 @@
 -- A whole registration and a whole sign-in are steps of the world, whichever of their requests and answers are lost.
-use Rattle.std.proofs.Common.{◌≡◌, ℕ, List, [], ◌∷◌, ◌++◌, Option, Some, None, refl, sym, ap, ◌∙◌, subst, inl, inr}
+use Rattle.std.proofs.Common.{◌≡◌, ℕ, List, [], ◌∷◌, Option, Some, None, refl, sym, ap, ◌∙◌, subst, inl, inr}
 use Rattle.std.specs.Prelude.{IsSome, codes}
 use Rattle.rand_chacha.specs.ChaCha.{ChaCha}
 use Rattle.sn_account.specs.Lookups.{IsNamed}
 use Rattle.sn_account.specs.Rule.{Rule}
 use Rattle.sn_account.specs.Rules.{IsPresent, Registers, TellsParams}
 use Rattle.sn_client.specs.Runs.{Act, AsksAccount, AsksParams, Halt, IsOrMayBe, KeepsAccount, Run, RunsRegister, SignsInAgain, SignsInBy, SignsInUnder, SignsInWith, nothing, register, sign_in}
-use Rattle.sn_client.specs.States.{Bytes, HasOwner, HasSets}
-use Rattle.sn_client.specs.Steps.{What, begins, renews}
+use Rattle.sn_client.specs.States.{Bytes, HasSets}
+use Rattle.sn_client.specs.Steps.{What, adopts, begins, renews}
 use Rattle.sn_client.specs.declared.error.ClientError.TheVariants as refusal
 use Rattle.sn_client.specs.declared.error.Place.TheVariants as place
 use Rattle.sn_keys.specs.Keys.{AreKeysOf}
-use Rattle.sn_laws.specs.Lookups.{device_named}
 use Rattle.sn_laws.specs.Moves.{after}
 use Rattle.sn_laws.specs.Runs.{end_from}
-use Rattle.sn_laws.specs.declared.ideal.Device.{Device}
 use Rattle.sn_laws.specs.declared.ideal.Ideal.{Ideal}
+use Rattle.sn_laws.specs.declared.moves.Move.{Move}
 use Rattle.sn_laws.specs.declared.moves.Move.TheVariants.{Register}
 use Rattle.sn_rows.specs.Table.{Rows, rows_after}
 use Rattle.sn_rows.specs.declared.change.Change.{Change}
@@ -23,10 +22,7 @@ use Rattle.sn_rows.specs.declared.device_rows.OwnerRow.{OwnerRow}
 use Rattle.sn_rows.specs.declared.key.Key.TheVariants as key
 use Rattle.sn_rows.specs.declared.server_rows.AccountRow.{AccountRow}
 use Rattle.sn_rows.specs.declared.value.Value.{Value}
-use Rattle.sn_rows.specs.declared.value.Value.TheVariants as value
 use Rattle.sn_sets.specs.declared.sets.Sets.{Sets}
-use Rattle.sn_shows.proofs.Facts.{holder_of}
-use Rattle.sn_shows.specs.Devices.{ShowsHolder}
 use Rattle.sn_shows.specs.Laws.{AccountsApart}
 use Rattle.sn_shows.specs.Servers.{ShowsIdentity, account_at}
 use Rattle.sn_string.specs.declared.params.KeySet.{KeySet}
@@ -37,11 +33,8 @@ use Rattle.sn_sync.specs.declared.request.Request.{Request}
 use Rattle.sn_sync.specs.declared.request.Request.TheVariants as request
 use Rattle.sn_world.proofs.AskLemmas.{Behind, answered_stands, asks_goes, holds_made, made_of, made_world, served_world, serves_so}
 use Rattle.sn_world.proofs.CallLemmas.{Goes, Stands, once_goes, refuses_goes}
-use Rattle.sn_world.proofs.DeviceRows.{one_owner}
-use Rattle.sn_world.proofs.PresentSets.{told_is_present}
-use Rattle.sn_world.proofs.SignedIn.{present_renews}
-use Rattle.sn_world.proofs.ShowsLemmas.{holder_from}
-use Rattle.sn_world.proofs.Tokens.{apart_of, named_identifier, one_account, there_is}
+use Rattle.sn_world.proofs.SignedIn.{signed_in_adopts, signed_in_renews}
+use Rattle.sn_world.proofs.Tokens.{apart_of, one_account, there_is}
 use Rattle.sn_world.specs.Calls.{AreServed, Fate, GoesCall, IsOnlyOf, RegistersGo, SignInsGo}
 use Rattle.sn_world.specs.Committing.{MayBegin, MayCommit}
 use Rattle.sn_world.specs.Holds.{Holds, TokensDiffer}
@@ -98,25 +91,6 @@ told_present apart secret v t h identifier params (inr x) n (row, there, is) =
       nonce = x.nonce;
     }))
 
--- a device that has an account has begun
-record IsOwned (s : Ideal) (name identifier : Bytes) : Type 0 where
-  device : Device
-  named : device_named s name ≡ Some device
-  own : device.account ≡ identifier
-
-owned_by : (secret : Bytes) (v : World) (t : Ideal) (name : Bytes) (rows : Rows) (owner : OwnerRow) (identifier : Bytes) → Stands secret name v t v.server rows
-    → HasOwner rows owner → owner.identifier ≡ identifier → IsOwned t name identifier
-owned_by secret v t name rows owner identifier k has is =
-    let here : HasOwner (v.devices name) owner = subst (λ (r : Rows). HasOwner r owner) (sym k.device_is) has in
-    let own = holder_from (v.devices name) t name key.Owner (value.Owner owner) (k.holds.devices name) here in
-    let holder : ShowsHolder (v.devices name) t name own.0 own.1 = holder_of (v.devices name) t name own.0 own.1 (k.holds.devices name) own.2 in
-    let same : owner ≡ holder.owner.owner = one_owner owner holder.owner.owner (v.devices name key.Owner) here holder.owner.stands in
-    record {
-      device = own.0;
-      named = own.2.device;
-      own = sym (named_identifier t own.0.account own.1 own.2.account) ∙ sym holder.owner.identifier ∙ ap (λ (o : OwnerRow). o.identifier) (sym same) ∙ is;
-    }
-
 module _ (laws : AccountLaws) (secret : Bytes) (differ : TokensDiffer secret) (name : Bytes) where
   -- ---- a registration
 
@@ -128,7 +102,7 @@ module _ (laws : AccountLaws) (secret : Bytes) (differ : TokensDiffer secret) (n
     asks_for = record { set = set; is = refl; request_is = refl }
 
     registered_on : (halt : Halt) → Behind laws.keeps laws.says secret differ name (Some set) v t server rows k r asks_for (KeepsAccount rows words (begins set)) halt
-    registered_on halt now changes given later fates fits rule (token, account, uuid, is, once) over =
+    registered_on halt now changes given moves later fates fits rule says_it (token, account, uuid, is, once) over =
         let m : Made = made_of name (Some set) r in
         let told : Rule server r now changes (answer.Account token account uuid) = subst (λ (x : Answer). Rule server r now changes x) is rule in
         let served : Serves (made_world v m) (served_world v m changes) m now changes (answer.Account token account uuid) =
@@ -138,11 +112,10 @@ module _ (laws : AccountLaws) (secret : Bytes) (differ : TokensDiffer secret) (n
         (holds_made laws.keeps laws.says secret differ name (Some set) v t server rows k r asks_for) served refl refl in
         let one : registers_in set.params.identifier (Some set) changes ≡ Register set.params.identifier set ∷ [] =
         one_registered server set.params.identifier set.params set.pw set now changes token account uuid told in
-        once_goes laws.keeps laws.says secret differ name (Some set) (served_world v m changes)
-        (end_from t (registers_in set.params.identifier (Some set) changes ++ [])) (rows_after server changes) rows later fates halt words
-        (begins set uuid token) nothing
-        (answered_stands laws.keeps laws.says secret differ name (Some set) v t server rows k r asks_for now changes given fits rule)
-        (subst (λ (u : Ideal). MayBegin secret u set uuid token) (sym (ap (λ ms. end_from t (ms ++ [])) one)) may) once over
+        once_goes laws.keeps laws.says secret differ name (Some set) (served_world v m changes) (end_from t moves) (rows_after server changes) rows later fates
+        halt words (begins set uuid token) nothing
+        (answered_stands laws.keeps laws.says secret differ name (Some set) v t server rows k r asks_for now changes given moves fits rule says_it)
+        (subst (λ (u : Ideal). MayBegin secret u set uuid token) (sym (ap (λ (ms : List Move). end_from t ms) (says_it ∙ one))) may) once over
 
     pub set_goes : (acts : List Act) (fates : List Fate) (halt : Halt) → AsksAccount rows words r (begins set) acts halt → AreServed server acts fates
         → Goes secret name (Some set) v t server rows acts fates halt
@@ -161,12 +134,13 @@ module _ (laws : AccountLaws) (secret : Bytes) (differ : TokensDiffer secret) (n
         → ((now : ℕ) (changes : List Change) (token account uuid : Bytes) → Rule server signing now changes (answer.Account token account uuid)
         → (changed : Rows) → MayCommit secret changed rows t name (what uuid token))
         → Behind laws.keeps laws.says secret differ name None v t server rows k signing tt (KeepsAccount rows words what) halt
-    signed_on what halt may now changes given later fates fits rule (token, account, uuid, is, once) over =
+    signed_on what halt may now changes given moves later fates fits rule none (token, account, uuid, is, once) over =
         let told : Rule server signing now changes (answer.Account token account uuid) = subst (λ (x : Answer). Rule server signing now changes x) is rule in
-        once_goes laws.keeps laws.says secret differ name None (served_world v (made_of name None signing) changes) t (rows_after server changes) rows later
-        fates halt words (what uuid token) nothing
-        (answered_stands laws.keeps laws.says secret differ name None v t server rows k signing tt now changes given fits rule)
-        (may now changes token account uuid told (rows_after server changes)) once over
+        once_goes laws.keeps laws.says secret differ name None (served_world v (made_of name None signing) changes) (end_from t moves)
+        (rows_after server changes) rows later fates halt words (what uuid token) nothing
+        (answered_stands laws.keeps laws.says secret differ name None v t server rows k signing tt now changes given moves fits rule none)
+        (subst (λ (ms : List Move). MayCommit secret (rows_after server changes) rows (end_from t ms) name (what uuid token)) (sym none)
+        (may now changes token account uuid told (rows_after server changes))) once over
 
     asks_account : (what : Bytes → Bytes → What) (acts : List Act) (fates : List Fate) (halt : Halt)
         → ((now : ℕ) (changes : List Change) (token account uuid : Bytes) → Rule server signing now changes (answer.Account token account uuid)
@@ -176,39 +150,44 @@ module _ (laws : AccountLaws) (secret : Bytes) (differ : TokensDiffer secret) (n
         asks_goes laws.keeps laws.says secret differ name None v t server rows k signing tt (KeepsAccount rows words what) acts fates halt
         (signed_on what halt may) asks over
 
+    abbrev IsTold : Params → Type 0
+    IsTold params = (n : ℕ) → IsNamed server identifier n → IsPresent server n params
+
+    told_there : (params : Params) → IsTold params → (n : ℕ) → IsNamed v.server identifier n → IsPresent v.server n params
+    told_there params told = subst (λ (x : Rows). (n : ℕ) → IsNamed x identifier n → IsPresent x n params) (sym k.server_is) told
+
     again_goes : (sets : Sets) (owner : OwnerRow) (acts : List Act) (fates : List Fate) (halt : Halt) → HasSets rows owner sets → owner.identifier ≡ identifier
-        → ((n : ℕ) → IsNamed server identifier n → IsPresent server n set.params)
+        → IsTold set.params → IsOnlySet t set
         → SignsInAgain rows words identifier sets set acts halt → AreServed server acts fates → Goes secret name None v t server rows acts fates halt
-    again_goes sets owner acts fates halt holds is told (inl (same, differs, refuses)) over =
+    again_goes sets owner acts fates halt holds is told only (inl (same, differs, refuses)) over =
         refuses_goes laws.keeps laws.says secret differ name None v t server rows acts fates halt refusal.WrongPassword k refuses over
-    again_goes sets owner acts fates halt holds is told (inr (inl (same, asks))) over =
-        let here : Stands secret name v t v.server rows = record { holds = k.holds; server_is = refl; device_is = k.device_is } in
-        let own = owned_by secret v t name rows owner identifier here holds.owned is in
+    again_goes sets owner acts fates halt holds is told only (inr (inl (same, asks))) over =
         asks_account (λ uuid token. renews token) acts fates halt
-        (λ now changes token account uuid rule changed. present_renews laws.apart secret v t identifier set.pw now changes token account uuid name own.device
-        owner sets k.holds (subst (λ (x : Rows). Rule x signing now changes (answer.Account token account uuid)) (sym k.server_is) rule) own.named own.own
-        (subst (λ (r : Rows). HasSets r owner sets) (sym k.device_is) holds)
-        (subst (λ (p : Params). (n : ℕ) → IsNamed v.server identifier n → IsPresent v.server n p) (ap (λ (z : KeySet). z.params) same)
-        (subst (λ (x : Rows). (n : ℕ) → IsNamed x identifier n → IsPresent x n set.params) (sym k.server_is) told)))
+        (λ now changes token account uuid rule changed. signed_in_renews laws.apart secret v t identifier set.pw now changes token account uuid name owner sets
+        k.holds (subst (λ (x : Rows). Rule x signing now changes (answer.Account token account uuid)) (sym k.server_is) rule)
+        (subst (λ (r : Rows). HasSets r owner sets) (sym k.device_is) holds) is
+        (told_there sets.present.params (subst IsTold (ap (λ (z : KeySet). z.params) same) told)))
         asks over
-    again_goes sets owner acts fates halt holds is told (inr (inr (other, inl (older, refuses)))) over =
+    again_goes sets owner acts fates halt holds is told only (inr (inr (other, inl (older, refuses)))) over =
         refuses_goes laws.keeps laws.says secret differ name None v t server rows acts fates halt refusal.WrongPassword k refuses over
-    again_goes sets owner acts fates halt holds is told (inr (inr (other, inr (not, asks)))) over =
-        absurd (other (told_is_present secret v t name k.holds owner sets
-        (subst (λ (r : Rows). HasSets r owner sets) (sym k.device_is) holds) identifier set.params is
-        (subst (λ (x : Rows). (n : ℕ) → IsNamed x identifier n → IsPresent x n set.params) (sym k.server_is) told)))
+    again_goes sets owner acts fates halt holds is told only (inr (inr (other, inr (not, asks)))) over =
+        asks_account (λ uuid token. adopts set token) acts fates halt
+        (λ now changes token account uuid rule changed. signed_in_adopts laws.apart secret v t identifier now changes token account uuid name owner sets set
+        k.holds (subst (λ (x : Rows). Rule x signing now changes (answer.Account token account uuid)) (sym k.server_is) rule)
+        (subst (λ (r : Rows). HasSets r owner sets) (sym k.device_is) holds) is other (told_there set.params told) only)
+        asks over
 
     pub with_goes : (acts : List Act) (fates : List Fate) (halt : Halt) → IsOrMayBe rows identifier
-        → ((n : ℕ) → IsNamed server identifier n → IsPresent server n set.params) → IsOnlySet t set
+        → IsTold set.params → IsOnlySet t set
         → SignsInWith rows words identifier set acts halt → AreServed server acts fates → Goes secret name None v t server rows acts fates halt
     with_goes acts fates halt may told only (inl (none, asks)) over =
         asks_account (begins set) acts fates halt
         (λ now changes token account uuid rule changed. laws.begins secret v t identifier now changes token account uuid set k.holds
         (subst (λ (x : Rows). Rule x signing now changes (answer.Account token account uuid)) (sym k.server_is) rule)
-        (subst (λ (x : Rows). (n : ℕ) → IsNamed x identifier n → IsPresent x n set.params) (sym k.server_is) told) only)
+        (told_there set.params told) only)
         asks over
     with_goes acts fates halt may told only (inr (owner, sets, holds, again)) over =
-        again_goes sets owner acts fates halt holds (may owner holds.owned) told again over
+        again_goes sets owner acts fates halt holds (may owner holds.owned) told only again over
 
   -- with the parameters that are answered
   module _ (v : World) (t : Ideal) (server rows : Rows) (words : ChaCha) (identifier password : Bytes) (k : Stands secret name v t server rows)
@@ -235,7 +214,7 @@ module _ (laws : AccountLaws) (secret : Bytes) (differ : TokensDiffer secret) (n
 
     told_on : (halt : Halt)
         → Behind laws.keeps laws.says secret differ name None v t server rows k question tt (SignsInBy least rows words identifier password) halt
-    told_on halt now changes given later fates fits rule (params, is, under) over =
+    told_on halt now changes given moves later fates fits rule no_moves (params, is, under) over =
         let none : changes ≡ [] = rule.2.0 in
         let unmoved : rows_after server changes ≡ server = ap (rows_after server) none in
         let tells : TellsParams server identifier (answer.Params params) = subst (λ (x : Answer). TellsParams server identifier x) is rule.2.1 in
@@ -243,8 +222,9 @@ module _ (laws : AccountLaws) (secret : Bytes) (differ : TokensDiffer secret) (n
         subst (λ (x : Rows). (n : ℕ) → IsNamed x identifier n → IsPresent x n params) k.server_is
         (told_present laws.apart secret v t k.holds identifier params
         (subst (λ (x : Rows). TellsParams x identifier (answer.Params params)) (sym k.server_is) tells)) in
-        under_goes (served_world v (made_of name None question) changes) t (rows_after server changes) rows words identifier password
-        (answered_stands laws.keeps laws.says secret differ name None v t server rows k question tt now changes given fits rule) may only least params later
+        under_goes (served_world v (made_of name None question) changes) (end_from t moves) (rows_after server changes) rows words identifier password
+        (answered_stands laws.keeps laws.says secret differ name None v t server rows k question tt now changes given moves fits rule no_moves) may
+        (subst (λ (ms : List Move). IsOnlyOf (end_from t ms) identifier password) (sym no_moves) only) least params later
         fates halt (subst (λ (x : Rows). (n : ℕ) → IsNamed x identifier n → IsPresent x n params) (sym unmoved) told) under over
 
     pub question_goes : (acts : List Act) (fates : List Fate) (halt : Halt) → AsksParams least rows words identifier password acts halt

@@ -76,13 +76,13 @@ less_lt a b is =
       ]
     ]
 
-above_head : {A : Type 0} (number : A → ℕ) (x : A) (xs : List A) (z : A) → Rises number (x ∷ xs) → Contains xs z → number x < number z
+pub above_head : {A : Type 0} (number : A → ℕ) (x : A) (xs : List A) (z : A) → Rises number (x ∷ xs) → Contains xs z → number x < number z
 unfolding IsStrictlySortedBy
 above_head number x xs z rises has =
     let P : ℕ → Type 0 = λ c. nat_cmp (number x) c ≡ Less in
     less_lt (number x) (number z) (All-contains P (map number xs) (number z) (All-from_recursion P (map number xs) rises.0) (image number xs z has))
 
-rises_behind : {A : Type 0} (number : A → ℕ) (x : A) (xs : List A) → Rises number (x ∷ xs) → Rises number xs
+pub rises_behind : {A : Type 0} (number : A → ℕ) (x : A) (xs : List A) → Rises number (x ∷ xs) → Rises number xs
 unfolding IsStrictlySortedBy
 rises_behind number x xs rises = rises.1
 

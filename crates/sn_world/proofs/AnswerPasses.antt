@@ -1,5 +1,5 @@
 -- What the honest server answers passes each of a device's checks, and its tokens are short.
-use Rattle.std.proofs.Common.{◌≡◌, ◌⊎◌, ◌<◌, ◌≤◌, ℕ, List, [], ◌∷◌, length, map, Option, Some, None, refl, sym, ap, ◌∙◌, subst, inl, inr, ⊎_elim, arith}
+use Rattle.std.proofs.Common.{◌≡◌, ◌⊎◌, ◌<◌, ◌≤◌, ℕ, List, [], ◌∷◌, length, map, Option, Some, None, true, false, refl, sym, ap, ◌∙◌, subst, inl, inr, ⊎_elim, arith}
 use Rattle.std.specs.List.{Contains}
 use Rattle.std.proofs.lemmas.List.Elements.{All-from_recursion}
 use Rattle.std.proofs.lemmas.Option.{slice_get_within}
@@ -8,6 +8,7 @@ use Rattle.sn_account.specs.Sound.{IsSound as IsSoundServer}
 use Rattle.sn_account.specs.Tells.{IsOthers, IsSavedOf, TellsConflict}
 use Rattle.sn_client.specs.Runs.{HasLongToken, IsCheckPlace}
 use Rattle.sn_client.specs.Sending.{SaysBase, first_some, message_body}
+use Rattle.sn_client.specs.States.{HasLocal}
 use Rattle.sn_client.specs.declared.error.Place.{Place}
 use Rattle.sn_conflict.specs.Checks.{AreStringsOf, FailsAt, HasConflictOf, HasItsStrings, IsConflict, IsNew, IsRetrieved, IsSaved, MayGoOn, Passes}
 use Rattle.sn_conflict.specs.Lists.{AllRight, IsFirstWrong}
@@ -61,10 +62,25 @@ use Rattle.sn_world.proofs.Standing.{its_last}
 use Rattle.sn_world.proofs.Tokens.{device_account}
 use Rattle.sn_world.specs.Applying.{Tells}
 use Rattle.sn_world.specs.Holds.{Holds}
-use Rattle.sn_world.specs.Making.{IsPostedOf}
+use Rattle.sn_world.specs.Making.{IsSentOf, SendsPosted}
 use Rattle.sn_world.specs.World.{World}
 
 -- ---- what is sent
+
+-- no row is to be sealed again
+abbrev pub NoneStale : Rows → Type 0
+NoneStale rows = (number : ℕ) (local : LocalItem) → HasLocal rows number local → local.stale ≡ false
+
+-- it is sent of some row, as what was posted of that
+abbrev pub IsPostedOf : Rows → Item → Type 0
+IsPostedOf rows i = (number : ℕ) × (local : LocalItem) × HasLocal rows number local × SendsPosted local i
+
+pub as_posted : (rows : Rows) → NoneStale rows → (i : Item) → IsSentOf rows i → IsPostedOf rows i
+as_posted rows fresh i (number, local, stands, inl sends) = (number, local, stands, sends)
+as_posted rows fresh i (number, local, stands, inr again) =
+    let no : local.stale ≡ false = fresh number local stands in
+    let yes : local.stale ≡ true = again.1 in
+    absurd (cc)
 
 sealed_strings : (sealed : Sealed) (uuid : Bytes) (set : KeySet) (text : Bytes) → OpensItem sealed uuid set text → IsShortContent (content.Plain text)
     → AreStringsOf uuid (body.Strings sealed.content sealed.enc)
@@ -118,7 +134,7 @@ same_account r q n found e k own = let same : r ≡ q = cc in subst (λ (z : Ite
 
 module _ (apart : AccountsApart) (rise : VersionsRise) (one_stamp : HasOneStamp) (secret : Bytes) (w : World) (s : Ideal) (h : Holds secret w s) (name : Bytes)
     (sent : List Item) (conflicts : List Conflict) (cursor : Option Bytes) (retrieved saved : List Item) (token : Bytes)
-    (may : Tells w.server (w.devices name) s name sent conflicts cursor retrieved saved token) where
+    (fresh : NoneStale (w.devices name)) (may : Tells w.server (w.devices name) s name sent conflicts cursor retrieved saved token) where
   abbrev rows : Rows
   rows = w.devices name
 
@@ -147,7 +163,7 @@ module _ (apart : AccountsApart) (rise : VersionsRise) (one_stamp : HasOneStamp)
       (rise h.reached.moves h.reached.legal)) may.at
 
   posted_one : (p : Item) → Contains sent p → IsPostedOf rows p
-  posted_one p among = of_each (IsPostedOf rows) sent may.posted p among
+  posted_one p among = as_posted rows fresh p (of_each (IsSentOf rows) sent may.sent_of p among)
 
   sent_strings : (p : Item) → Contains sent p → HasItsStrings p
   sent_strings p among = posted_strings secret w s h name d a holder p (posted_one p among)

@@ -4,12 +4,14 @@ use Rattle.std.specs.List.{Contains}
 use Rattle.rand_chacha.specs.ChaCha.{ChaCha}
 use Rattle.sn_account.specs.Incoming.{IsOwnBody}
 use Rattle.sn_account.specs.Tells.{IsStored}
-use Rattle.sn_client.specs.Steps.{Applies, AppliesTo, Retires, start}
+use Rattle.sn_adopted.proofs.Facts.{retire_shows}
+use Rattle.sn_adopted.specs.Moves.{IsRetiring}
+use Rattle.sn_client.specs.Steps.{Applies, AppliesTo, start}
 use Rattle.sn_client.specs.Taking.{Meets, Progress, Takes, TakesAll, TakesOwn, TakesServer, Told, is_conflict, is_retrieved, is_saved, told_by}
 use Rattle.sn_conflict.specs.declared.meeting.Meeting.{Meeting}
 use Rattle.sn_conflict.specs.declared.meeting.Meeting.TheVariants as meeting
 use Rattle.sn_laws.specs.Each.{Each}
-use Rattle.sn_laws.specs.Lookups.{Bytes, greatest}
+use Rattle.sn_laws.specs.Lookups.{Bytes, device_named, greatest, held_by}
 use Rattle.sn_laws.specs.declared.ideal.Account.{Account}
 use Rattle.sn_laws.specs.declared.ideal.Device.{Device}
 use Rattle.sn_laws.specs.declared.ideal.Ideal.{Ideal}
@@ -33,13 +35,12 @@ use Rattle.sn_sync.specs.declared.item.Item.{Item}
 use Rattle.sn_sync.specs.declared.request.Request.{Request}
 use Rattle.sn_sync.specs.declared.request.Request.TheVariants as request
 use Rattle.sn_world.proofs.Lists.{each_both, each_contained, each_map, of_each}
-use Rattle.sn_world.proofs.OneHeld.{no_older}
-use Rattle.sn_world.proofs.OneSets.{holds_last}
-use Rattle.sn_world.proofs.OwnStrings.{sent_own}
+use Rattle.sn_world.proofs.HeldSets.{held_sets}
+use Rattle.sn_world.proofs.OwnStrings.{sent_by_own}
 use Rattle.sn_world.proofs.Tokens.{device_account}
 use Rattle.sn_world.specs.Applying.{MayApply, SaysAllTold, SaysAnswer, SaysApplied, SaysForeign, SaysMeets, SaysServer, SaysTold, Tells}
 use Rattle.sn_world.specs.Holds.{Holds}
-use Rattle.sn_world.specs.Making.{IsPostedOf}
+use Rattle.sn_world.specs.Making.{IsSentOf}
 use Rattle.sn_world.specs.World.{World}
 
 -- ---- each meeting
@@ -98,12 +99,6 @@ all_said server n name sets saved (t ∷ ts) p q all (r, takes, rest) =
     let later = all_said server n name sets saved ts r q all.1 rest in
     (_, (r, first.0, later.0, first.1, later.1, refl))
 
--- ---- no set is retired
-
-none_retired : (rows : Rows) (cursor : Option Bytes) (found : Option KeySet) (changes : List Change) → found ≡ None → Retires rows cursor found changes → changes ≡ []
-none_retired rows cursor None changes none h = h
-none_retired rows cursor (Some set) changes none h = absurd (cc)
-
 module _ (apart : AccountsApart) (secret : Bytes) (w : World) (s : Ideal) (h : Holds secret w s) (name : Bytes) (words left : ChaCha) (sent : List Item)
     (conflicts : List Conflict) (cursor : Option Bytes) (retrieved saved : List Item) (token : Bytes) (changes : List Change)
     (x : Applies (w.devices name) words sent conflicts cursor retrieved saved token changes left)
@@ -126,18 +121,15 @@ module _ (apart : AccountsApart) (secret : Bytes) (w : World) (s : Ideal) (h : H
   holder : ShowsHolder rows s name d a
   holder = holder_of rows s name d a (h.devices name) has
 
-  none_older : x.sets.older ≡ None
-  none_older = no_older secret w s h name x.owner x.sets x.holds
-
   -- what was sent is of the present set
   own : (unsaved : Item) → Contains sent unsaved → IsOwnBody unsaved.uuid may.present unsaved.body
   own unsaved among =
-      let row : IsPostedOf rows unsaved = of_each (IsPostedOf rows) sent may.posted unsaved among in
+      let row : IsSentOf rows unsaved = of_each (IsSentOf rows) sent may.sent_of unsaved among in
       let last : KeySet = holder.present.is.set in
       let g : set_at (greatest 0 d.held) a.sets ≡ Some last = holder.present.is.at in
-      let number : greatest 0 d.held ≡ length a.sets = holds_last s h.reached rows name d a has (h.devices name) in
+      let number : greatest 0 d.held ≡ length a.sets = may.greatest_is in
       let params : may.present ≡ last.params = may.params_are last (subst (λ (k : ℕ). set_at k a.sets ≡ Some last) number g) in
-      subst (λ (p : Params). IsOwnBody unsaved.uuid p unsaved.body) (sym params) (sent_own rows s name d a holder last g row.0 row.1 unsaved row.2 row.3)
+      subst (λ (p : Params). IsOwnBody unsaved.uuid p unsaved.body) (sym params) (sent_by_own rows s name d a holder last g row.0 row.1 unsaved row.2 row.3)
 
   conflict_sayable : (c : Conflict) → Contains conflicts c → Sayable w.server n saved (is_conflict c)
   conflict_sayable (conflict.Sync i) among = (may.tells.conflicts_are (conflict.Sync i) among).0
@@ -157,29 +149,41 @@ module _ (apart : AccountsApart) (secret : Bytes) (w : World) (s : Ideal) (h : H
       (each_map is_retrieved (Sayable w.server n saved) retrieved
       (each_contained (λ (i : Item). Sayable w.server n saved (is_retrieved i)) retrieved may.tells.retrieved_are)))
 
-  pub applied_said : (moves : List Move) × SaysApplied rows name conflicts cursor retrieved saved token changes moves
+  -- the older set ends, or stays
+  retiring : (moves : List Move) × IsRetiring x.end.rows cursor x.sets.older name (held_by (device_named s name)) moves
+  retiring =
+      let its = retire_shows x.end.rows rows cursor x.sets.older x.retired s name x.owner.identifier d a (h.devices name) has
+      (held_sets s h.reached name d a has)
+      x.holds.before x.retires in
+      (its.0, subst (λ (ns : List ℕ). IsRetiring x.end.rows cursor x.sets.older name ns its.0) (sym (ap held_by has.device)) its.1)
+
+  pub applied_said : (moves : List Move) × SaysApplied rows (held_by (device_named s name)) name conflicts cursor retrieved saved token changes moves
   applied_said =
       let all = all_said w.server n name x.sets saved (told_by saved conflicts retrieved) (start rows x.owner words) x.end sayable x.taken in (
-        all.0,
+        all.0 ++ retiring.0,
         record {
           owner = x.owner;
           sets = x.sets;
           holds = x.holds;
-          no_older = none_older;
           words = words;
           end = x.end;
+          first = all.0;
           told = all.1;
           counted = x.counted;
           counted_is = x.counted_is;
-          changes_are = x.changes_are
-              ∙ ap (λ (later : List Change). x.end.changes ++ x.counted ∷ later) (none_retired x.end.rows cursor x.sets.older x.retired none_older x.retires);
+          retired = x.retired;
+          retires = x.retires;
+          changes_are = x.changes_are;
+          later = retiring.0;
+          retiring = retiring.1;
+          moves_are = refl;
         },
       )
 
 -- by the request that is answered
 pub answer_said : AccountsApart → (secret : Bytes) (w : World) (s : Ideal) → Holds secret w s → (name : Bytes) (words left : ChaCha) (r : Request) (given : Answer)
     (changes : List Change) → AppliesTo (w.devices name) words r given changes left → MayApply w.server (w.devices name) s name r given
-    → (moves : List Move) × SaysAnswer (w.devices name) name given changes moves
+    → (moves : List Move) × SaysAnswer (w.devices name) (held_by (device_named s name)) name given changes moves
 answer_said apart secret w s h name words left (request.Sync token items limit sync_token cursor_token) (answer.Sync conflicts cursor retrieved saved next_token) changes step may =
     applied_said apart secret w s h name words left items conflicts cursor retrieved saved next_token changes step may
 answer_said apart secret w s h name words left (request.Sync token items limit sync_token cursor_token) (answer.Account other identifier uuid) changes step may = absurd step

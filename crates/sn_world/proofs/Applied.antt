@@ -1,5 +1,5 @@
 -- What was live of a device is live where a saved item is applied to its row.
-use Rattle.std.proofs.Common.{◌≡◌, ◌≢◌, ℕ, Option, Some, Bool, false, sym, ap, ◌∙◌, subst, inl, inr, ⊎_elim}
+use Rattle.std.proofs.Common.{◌≡◌, ◌≢◌, ℕ, Option, Some, None, Bool, false, sym, ap, ◌∙◌, subst, inl, inr, ⊎_elim}
 use Rattle.std.specs.Prelude.{if◌then◌else◌}
 use Rattle.sn_laws.specs.Lookups.{Bytes}
 use Rattle.sn_account.specs.Stored.{body_of}
@@ -25,11 +25,20 @@ not_deleted row q b live is deleted =
     subst (λ (z : Bool). (if z then body.Deleted else body.Strings row.content row.enc) ≡ b) live is in
     cc
 
+-- what of another row was posted stays, and so does what the account's versions make live
 pub applies_live : AppliesLive
-applies_live server device n number local sent saved j change stands sends stored of at (inl h) = inl h
-applies_live server device n number local sent saved j change stands sends stored of at (inr (inl h)) = inr (inl h)
-applies_live server device n number local sent saved j change stands sends stored of at (inr (inr (inl h))) = inr (inr (inl h))
-applies_live server device n number local sent saved j change stands sends stored of at (inr (inr (inr x))) =
+applies_live server device accounts n number local sent saved j change stands sends stored of at (inl h) = inl h
+applies_live server device accounts n number local sent saved j change stands sends stored of at (inr (inl h)) = inr (inl h)
+applies_live server device accounts n number local sent saved j change stands sends stored of at (inr (inr (inl h))) = inr (inr (inl h))
+applies_live server device accounts n number local sent saved j change stands sends stored of at (inr (inr (inr (inr h)))) = inr (inr (inr (inr h)))
+applies_live server device accounts n number local sent saved j change stands (inr again) stored of at (inr (inr (inr (inl x)))) =
+    inr (inr (inr (inl (posted_elsewhere device change number j at x
+    (λ same.
+    let row : x.local ≡ local = one_local x.local local (device (key.Local number)) (ap (λ (k : ℕ). device (key.Local k)) (sym same) ∙ x.stands) stands in
+    let none : local.posted ≡ None = again.3 in
+    let some : local.posted ≡ Some x.posted = ap (λ (y : LocalItem). y.posted) (sym row) ∙ x.posted_is in
+    cc)))))
+applies_live server device accounts n number local sent saved j change stands (inl sends) stored of at (inr (inr (inr (inl x)))) =
     ⊎_elim
     (λ (same : x.number ≡ number).
     let row : x.local ≡ local = one_local x.local local (device (key.Local number)) (ap (λ (k : ℕ). device (key.Local k)) (sym same) ∙ x.stands) stands in
@@ -47,5 +56,5 @@ applies_live server device n number local sent saved j change stands sends store
       (given ∙ bodies, λ live. sym stored.3.kind ∙ of.kind (not_deleted stored.0 stored.0.deleted sent.body live given) ∙ kinds),
     )))
     (λ (differs : x.number ≢ number).
-    inr (inr (inr (posted_elsewhere device change number j at x differs))))
+    inr (inr (inr (inl (posted_elsewhere device change number j at x differs)))))
     (apart_numbers x.number number)

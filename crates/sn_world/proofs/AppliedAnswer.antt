@@ -2,65 +2,79 @@
 use Rattle.std.proofs.Common.{◌≡◌, ◌⊎◌, ℕ, List, [], ◌∷◌, ◌++◌, map, Option, Some, sym, ap, ◌∙◌, subst, None, refl, inl, inr}
 use mathlib.Core.Path.{fun_ext}
 use Rattle.std.specs.List.{Contains}
-use Rattle.std.specs.Prelude.{find}
+use Rattle.std.proofs.lemmas.List.{append-nil}
+use Rattle.std.specs.Prelude.{IsTrue, find, length}
 use Rattle.rand_chacha.specs.ChaCha.{ChaCha}
+use Rattle.sn_adopted.proofs.Facts.{stale_stays}
+use Rattle.sn_adopted.specs.Moves.{IsRetiring, OlderStale}
 use Rattle.sn_account.specs.Sessions.{IsSession}
 use Rattle.sn_account.specs.Tells.{AreApart, IsStored}
 use Rattle.sn_client.specs.Laws.{AreStanding}
-use Rattle.sn_client.specs.States.{HasLocal, HasOwner, IsInSlot, IsSound, OwnerColumns}
-use Rattle.sn_client.specs.Steps.{Applies, start}
+use Rattle.sn_client.specs.States.{HasLocal, HasOwner, IsSound, OwnerColumns}
+use Rattle.sn_client.specs.Steps.{Applies, MayRetire, Retires, applies, start}
 use Rattle.sn_client.specs.Taking.{Progress, Told, is_conflict, is_retrieved, is_saved, told_by}
 use Rattle.sn_conflict.specs.Checks.{HasItsStrings, IsConflict, IsRetrieved, IsSaved}
-use Rattle.sn_laws.proofs.Facts.{one_there}
+use Rattle.sn_laws.proofs.Facts.{end_from-append, one_there}
 use Rattle.sn_laws.specs.Each.{Each}
-use Rattle.sn_laws.specs.Lookups.{Bytes, device_named, is_device}
+use Rattle.sn_laws.specs.Lookups.{Bytes, device_named, held_by, is_account, is_device, last_of}
+use Rattle.sn_laws.specs.Moves.{after, allows}
+use Rattle.sn_laws.specs.Reached.{IsOneOrTwo}
+use Rattle.sn_laws.specs.Relation.{IsLive}
 use Rattle.sn_laws.specs.Runs.{end_from}
 use Rattle.sn_laws.specs.declared.ideal.Account.{Account}
 use Rattle.sn_laws.specs.declared.ideal.Device.{Device}
 use Rattle.sn_laws.specs.declared.ideal.Ideal.{Ideal}
+use Rattle.sn_laws.specs.declared.ideal.Version.{Version}
 use Rattle.sn_laws.specs.declared.moves.Move.{Move}
-use Rattle.sn_rows.specs.Facts.{put_here, row_after-append}
-use Rattle.sn_rows.specs.Table.{Rows, rows_after}
+use Rattle.sn_laws.specs.declared.moves.Move.TheVariants.{Retire}
+use Rattle.sn_rows.specs.Facts.{put_here, removed_elsewhere, row_after-append}
+use Rattle.sn_rows.specs.Table.{Removes, Rows, rows_after}
 use Rattle.sn_rows.specs.declared.change.Change.{Change}
 use Rattle.sn_rows.specs.declared.device_rows.LocalItem.{LocalItem}
 use Rattle.sn_rows.specs.declared.device_rows.OwnerRow.{OwnerRow}
 use Rattle.sn_rows.specs.declared.key.Key.TheVariants as key
-use Rattle.sn_rows.specs.declared.key.Slot.TheVariants.{Asked}
+use Rattle.sn_rows.specs.declared.key.Slot.TheVariants.{Older}
 use Rattle.sn_rows.specs.declared.value.Value.TheVariants as value
 use Rattle.sn_shows.proofs.Facts.{holder_of}
 use Rattle.sn_shows.specs.Laws.{HasAccount, TokensShow}
 use Rattle.sn_string.specs.declared.params.KeySet.{KeySet}
 use Rattle.sn_sync.specs.Versions.{item_of, uuids}
+use Rattle.sn_sync.specs.declared.answer.Answer.TheVariants as answer
 use Rattle.sn_sync.specs.declared.answer.Conflict.{Conflict}
 use Rattle.sn_sync.specs.declared.answer.Conflict.TheVariants as conflict
 use Rattle.sn_sync.specs.declared.item.Item.{Item}
-use Rattle.sn_world.proofs.DeviceRows.{local_past, one_local, one_owner, posted_same, unasked_owner, unstale_same}
+use Rattle.sn_sync.specs.declared.request.Request.TheVariants as request
+use Rattle.sn_world.proofs.DeviceRows.{local_past, one_local, one_owner, posted_same}
 use Rattle.sn_world.proofs.DeviceSets.{identifier_of}
-use Rattle.sn_world.proofs.Frames.{DeviceFrame, HasPulled, device_kept, live_kept}
+use Rattle.sn_world.proofs.Frames.{HasPulled, device_kept, live_kept}
+use Rattle.sn_world.proofs.HeldSets.{held_sets}
+use Rattle.sn_world.proofs.Items.{legal_both}
+use Rattle.sn_world.proofs.AccountSets.{nonces_apart}
+use Rattle.sn_world.proofs.Retired.{Leaves, framed, leaves_retired, stale_retired}
+use Rattle.sn_world.proofs.Unused.{retire_legal}
 use Rattle.sn_laws.proofs.Facts.{each_back, each_front}
 use Rattle.sn_world.proofs.AppliedPulled.{pulled_up, token_some}
 use Rattle.sn_world.proofs.Lists.{each_apart, each_both, each_contained, each_map, each_right, each_unmap, of_each}
-use Rattle.sn_world.proofs.PresentSets.{unasked}
 use Rattle.sn_world.proofs.PulledAll.{Keeps, MetAt, all_pulled}
 use Rattle.sn_world.proofs.Pulls.{stays_on, stays_same}
-use Rattle.sn_world.specs.Pulled.{PulledAt, PulledTo}
+use Rattle.sn_world.specs.Pulled.{HasBase, PulledAt, PulledTo}
 use Rattle.sn_world.proofs.TakenAll.{Good, LinkedAt, NoneSaved, NotSaved, ToldApart, all_told}
 use Rattle.sn_world.proofs.TakenFrames.{Along, Took}
 use Rattle.sn_world.proofs.TakenMet.{TakingLaws}
 use Rattle.sn_client.specs.States.{text_of_token, token_of}
 use Rattle.sn_laws.specs.Lookups.{greatest}
 use Rattle.sn_rows.specs.declared.value.Value.{Value}
-use Rattle.sn_shows.specs.Servers.{ShowsStore, account_at, stamps_in}
+use Rattle.sn_shows.specs.Servers.{ShowsItem, ShowsStore, account_at, stamps_in}
 use Rattle.sn_sync.specs.Tokens.{IsToken}
 use Rattle.sn_world.proofs.Started.{nobody}
 use Rattle.sn_world.specs.Holds.{IsTokenBelow, TokensBelow}
-use Rattle.std.proofs.Common.{◌≤◌}
+use Rattle.std.proofs.Common.{◌<◌, ◌≤◌}
 use Rattle.sn_world.proofs.Tokens.{apart_of, device_account, token_session}
 use Rattle.sn_world.specs.Applying.{SaysApplied, Tells}
-use Rattle.sn_world.specs.Holds.{DeviceToken, HasToken, Holds, TokensDiffer}
+use Rattle.sn_world.specs.Holds.{DeviceToken, HasToken, Holds, StaleOf, TokensDiffer}
 use Rattle.sn_world.specs.Laws.{KeptBy}
 use Rattle.sn_world.specs.Live.{LiveItem}
-use Rattle.sn_world.specs.Making.{IsPostedOf, SendsPosted}
+use Rattle.sn_world.specs.Making.{IsSentBy, IsSentOf}
 use Rattle.sn_world.specs.World.{OnDevice, World}
 
 -- of those that aren't saved
@@ -89,6 +103,11 @@ told_apart (i ∷ is) conflicts retrieved apart = (
   told_apart is conflicts retrieved apart.1,
 )
 
+-- what is sent of a row has its uuid
+sent_uuid : (local : LocalItem) (i : Item) → IsSentBy local i → i.uuid ≡ local.uuid
+sent_uuid local i (inl posted) = posted.0.uuid_is
+sent_uuid local i (inr again) = again.0.uuid_is
+
 each_two : {A : Type 0} (P Q R : A → Type 0) → ((x : A) → P x → Q x → R x) → (xs : List A) → Each P xs → Each Q xs → Each R xs
 each_two P Q R f [] h k = tt
 each_two P Q R f (x ∷ xs) h k = (f x h.0 k.0, each_two P Q R f xs h.1 k.1)
@@ -98,7 +117,7 @@ module _ (laws : TakingLaws) (tokens_law : TokensShow) (secret : Bytes) (w next 
     (retrieved saved : List Item) (token : Bytes) (changes : List Change) (moves : List Move)
     (x : Applies (w.devices name) words sent conflicts cursor retrieved saved token changes left)
     (may : Tells w.server (w.devices name) s name sent conflicts cursor retrieved saved token)
-    (says : SaysApplied (w.devices name) name conflicts cursor retrieved saved token changes moves)
+    (says : SaysApplied (w.devices name) (held_by (device_named s name)) name conflicts cursor retrieved saved token changes moves)
     (sound : IsSound (rows_after (w.devices name) changes)) (on : OnDevice w next name changes) where
   abbrev rows : Rows
   rows = w.devices name
@@ -123,10 +142,11 @@ module _ (laws : TakingLaws) (tokens_law : TokensShow) (secret : Bytes) (w next 
   linked : (i : Item) → Contains saved i → LinkedAt rows i
   linked i among number local stands =
       let is = (may.tells.saved_are i among).1 in
-      let row : IsPostedOf rows is.0 = of_each (IsPostedOf rows) sent may.posted is.0 is.1 in
-      let same_number : row.0 ≡ number = (h.sound name).locals.apart row.0 number row.1 local row.2 stands.0 (sym row.3.0.uuid_is ∙ sym is.2.uuid ∙ sym stands.1) in
+      let row : IsSentOf rows is.0 = of_each (IsSentOf rows) sent may.sent_of is.0 is.1 in
+      let same_number : row.0 ≡ number = (h.sound name).locals.apart row.0 number row.1 local row.2 stands.0
+      (sym (sent_uuid row.1 is.0 row.3) ∙ sym is.2.uuid ∙ sym stands.1) in
       let same : row.1 ≡ local = one_local row.1 local (rows (key.Local number)) (subst (λ (k : ℕ). HasLocal rows k row.1) same_number row.2) stands.0 in
-      (is.0, subst (λ (l : LocalItem). SendsPosted l is.0) same row.3, is.2)
+      (is.0, subst (λ (l : LocalItem). IsSentBy l is.0) same row.3, is.2)
 
   saved_good : Each (λ (i : Item). Good w.server n saved rows (is_saved i)) saved
   saved_good =
@@ -179,20 +199,19 @@ module _ (laws : TakingLaws) (tokens_law : TokensShow) (secret : Bytes) (w next 
     shows = h.devices name;
     holds = says.holds;
     standing = standing;
-    unstale = h.unstale name;
     kinds = λ k v e. (h.sound name).device.kinds k v e;
     numbers = h.numbers;
   }
 
-  took : Took w.server name n a d says.owner says.sets p says.end s moves
+  took : Took w.server name n a d says.owner says.sets p says.end s says.first
   took =
-      all_told laws w.server name n a d says.owner says.sets says.no_older saved (told_by saved conflicts retrieved) p says.end s moves along
+      all_told laws w.server name n a d says.owner says.sets saved (told_by saved conflicts retrieved) p says.end s says.first along
       all_good (told_apart saved conflicts retrieved may.tells.saved_apart) says.told
 
   -- ---- and the device's own row behind them
 
   abbrev later : Ideal
-  later = end_from s moves
+  later = end_from s says.first
 
   abbrev mid : Rows
   mid = says.end.rows
@@ -200,11 +219,11 @@ module _ (laws : TakingLaws) (tokens_law : TokensShow) (secret : Bytes) (w next 
   abbrev new : OwnerRow
   new = says.counted_is.owner
 
-  after_is : rows_after rows changes ≡ rows_after mid (says.counted ∷ [])
+  after_is : rows_after rows changes ≡ rows_after (rows_after mid (says.counted ∷ [])) says.retired
   after_is =
-      ap (rows_after rows) (says.changes_are ∙ ap (λ (c : List Change). c ++ says.counted ∷ []) took.changes)
-      ∙ fun_ext (λ k. row_after-append (rows k) k took.made (says.counted ∷ []))
-      ∙ ap (λ (r : Rows). rows_after r (says.counted ∷ [])) (sym took.rows)
+      ap (rows_after rows) (says.changes_are ∙ ap (λ (c : List Change). c ++ says.counted ∷ says.retired) took.changes)
+      ∙ fun_ext (λ k. row_after-append (rows k) k took.made (says.counted ∷ says.retired))
+      ∙ ap (λ (r : Rows). rows_after r (says.counted ∷ says.retired)) (sym took.rows)
 
   same_device : (other : Bytes) → device_named later other ≡ device_named s other
   same_device other = ap (find (is_device other)) took.devices
@@ -260,7 +279,7 @@ module _ (laws : TakingLaws) (tokens_law : TokensShow) (secret : Bytes) (w next 
 
   pulled_all : Keeps a rows mid × Each (MetAt mid a saved) (told_by saved conflicts retrieved)
   pulled_all =
-      all_pulled laws w.server name n a d says.owner says.sets says.no_older saved (told_by saved conflicts retrieved) p says.end s moves along
+      all_pulled laws w.server name n a d says.owner says.sets saved (told_by saved conflicts retrieved) p says.end s says.first along
       all_good (told_apart saved conflicts retrieved may.tells.saved_apart) says.told
 
   pulled_mid : (uuid : Bytes) → PulledAt mid a may.tells.stamp uuid
@@ -300,7 +319,7 @@ module _ (laws : TakingLaws) (tokens_law : TokensShow) (secret : Bytes) (w next 
       let device : tok.device ≡ d = one_there tok.device d (device_named s name) tok.named may.named in
       apart_of laws.apart s h.reached n tok.number a tok.account may.at tok.at (may.own ∙ sym (tok.own ∙ ap (λ (z : Device). z.account) device)) ∙ number
 
-  frame : DeviceFrame secret w (rows_after mid (says.counted ∷ [])) s later name
+  frame : Leaves secret w (rows_after mid (says.counted ∷ [])) s later name
   frame = record {
     reached = took.along.reached;
     accounts = took.accounts;
@@ -312,10 +331,6 @@ module _ (laws : TakingLaws) (tokens_law : TokensShow) (secret : Bytes) (w next 
           ∙ identifier_of rows s name d a says.owner (holder_of rows s name d a (h.devices name) has) says.holds.owned;
     });
     shows_others = took.others;
-    sound = subst (λ (r : Rows). IsSound r) after_is sound;
-    unstale = unstale_same mid (rows_after mid (says.counted ∷ [])) (local_past mid says.counted (value.Owner new) says.counted_is.puts_it) took.along.unstale;
-    unasked = unasked_owner mid says.counted says.counted_is.puts_it.key_is
-        (subst (λ (o : Option KeySet). IsInSlot mid says.owner.identifier Asked o) (unasked secret w s name h says.owner says.sets says.holds) took.along.holds.wanted);
     numbers = took.along.numbers;
     own_token = token_after;
     sync_tokens = tokens_after;
@@ -324,13 +339,113 @@ module _ (laws : TakingLaws) (tokens_law : TokensShow) (secret : Bytes) (w next 
     live = λ t k tok session i was.
         let same : n ≡ k = number_is t k tok session in
         live_kept mid (rows_after mid (says.counted ∷ [])) (posted_same mid (rows_after mid (says.counted ∷ [])) (local_past mid says.counted (value.Owner new) says.counted_is.puts_it))
-        (w.server (key.Item i.uuid)) k i
-        (subst (λ (m : ℕ). LiveItem (w.server (key.Item i.uuid)) mid m i) same
-        (took.live i (subst (λ (m : ℕ). LiveItem (w.server (key.Item i.uuid)) rows m i) (sym same) was)));
+        (w.server (key.Item i.uuid)) s.accounts k i
+        (subst (λ (m : ℕ). LiveItem (w.server (key.Item i.uuid)) mid s.accounts m i) same
+        (took.live i (subst (λ (m : ℕ). LiveItem (w.server (key.Item i.uuid)) rows s.accounts m i) (sym same) was)));
   }
 
+  -- ---- rows of an older set
+
+  held : IsOneOrTwo (length a.sets) d.held
+  held = held_sets s h.reached name d a has
+
+  -- rows of which the server's version is of the older set are to be sent again
+  stale : OlderStale (rows_after rows changes) a d.held
+  stale =
+      stale_stays rows words left (applies (request.Sync [] sent 0 None None) (answer.Sync conflicts cursor retrieved saved token)) changes s name d a
+      (h.sound name)
+      (h.devices name) has held (nonces_apart s h.reached n a may.at) (h.older_stale name d a has) tt x
+
+  kept_none : says.retired ≡ [] → says.later ≡ [] → KeptBy secret next s moves
+  kept_none none unsaid = subst (λ (ms : List Move). KeptBy secret next s ms) (sym (moves_are ∙ append-nil says.first)) (took.legal, holds)
+    where
+      moves_are : moves ≡ says.first ++ []
+      moves_are = says.moves_are ∙ ap (λ (ms : List Move). says.first ++ ms) unsaid
+
+      rows_are : rows_after rows changes ≡ rows_after mid (says.counted ∷ [])
+      rows_are = after_is ∙ ap (rows_after (rows_after mid (says.counted ∷ []))) none
+
+      stale_now : StaleOf (rows_after rows changes) later name
+      stale_now e b own =
+          let device : d ≡ e = one_there d e (device_named later name) took.along.has.device own.device in
+          let account : a ≡ b = one_there a b (find (is_account e.account) later.accounts)
+          (subst (λ (z : Device). find (is_account z.account) later.accounts ≡ Some a) device took.along.has.account) own.account in
+          subst (λ (z : Account). OlderStale (rows_after rows changes) z e.held) account
+          (subst (λ (z : Device). OlderStale (rows_after rows changes) a z.held) device stale)
+
+      holds : Holds secret next later
+      holds =
+          device_kept secret w next s later name changes h on
+          (framed secret w (rows_after rows changes) s later name (subst (λ (r : Rows). Leaves secret w r s later name) (sym rows_are) frame) sound stale_now)
+
+  -- ---- the older set goes
+
+  -- a row is as it was before that
+  mid_local : (change : Change) → Removes change (key.Set Older) → says.retired ≡ change ∷ [] → (number : ℕ)
+      → rows_after rows changes (key.Local number) ≡ mid (key.Local number)
+  mid_local change gone is number =
+      ap (λ (r : Rows). r (key.Local number)) (after_is ∙ ap (rows_after (rows_after mid (says.counted ∷ []))) is)
+      ∙ removed_elsewhere (rows_after mid (says.counted ∷ [])) change (key.Set Older) (key.Local number) gone (λ e. cc)
+      ∙ local_past mid says.counted (value.Owner new) says.counted_is.puts_it number
+
+  kept_retired : (set : KeySet) → MayRetire mid cursor set → (change : Change) → Removes change (key.Set Older) → says.retired ≡ change ∷ []
+      → (older present : ℕ)
+      → held_by (device_named s name) ≡ older ∷ present ∷ [] → says.later ≡ Retire name older ∷ [] → KeptBy secret next s moves
+  kept_retired set may_go change gone is older present held_is said =
+      subst (λ (ms : List Move). KeptBy secret next s ms) (sym (says.moves_are ∙ ap (λ (ms : List Move). says.first ++ ms) said)) (
+        legal_both s says.first (Retire name older ∷ []) took.legal (legal, tt),
+        subst (λ (t : Ideal). Holds secret next t) (sym (end_from-append s says.first (Retire name older ∷ []))) holds,
+      )
+    where
+      two : d.held ≡ older ∷ present ∷ []
+      two = sym (ap held_by may.named) ∙ held_is
+
+      less : older < present
+      less = (subst (IsOneOrTwo (length a.sets)) two held).1
+
+      rows_are : rows_after rows changes ≡ rows_after (rows_after mid (says.counted ∷ [])) (change ∷ [])
+      rows_are = after_is ∙ ap (rows_after (rows_after mid (says.counted ∷ []))) is
+
+      stale_mid : OlderStale mid a (older ∷ present ∷ [])
+      stale_mid local item strings text there is_body opens =
+          (subst (λ (ns : List ℕ). OlderStale (rows_after rows changes) a ns) two stale) local item strings text
+          (mid_local change gone is local ∙ there) is_body opens
+
+      -- each undeleted last version is the base of a row, since no page is left
+      whole : (uuid : Bytes) (v : Version) → last_of uuid a.versions ≡ Some v → IsLive v.body → HasBase mid uuid v.stamp
+      whole uuid v last alive =
+          let its : ShowsItem w.server n a uuid v = (h.server.all.each n a may.at).items uuid v last in
+          (pulled_mid uuid).live v last
+          (subst (λ (k : ℕ). k ≤ may.tells.stamp) its.updated (may.tells.whole may_go.0 uuid its.row its.stands its.account)) alive
+
+      legal : IsTrue (allows later (Retire name older))
+      legal =
+          retire_legal laws.rise mid later name n a d took.along.reached took.along.at took.along.shows took.along.has older present
+          two less stale_mid set may_go.1 whole
+
+      gone_frame : Leaves secret w (rows_after (rows_after mid (says.counted ∷ [])) (change ∷ [])) s (after later (Retire name older)) name
+      gone_frame =
+          leaves_retired secret w (rows_after mid (says.counted ∷ [])) s later name frame d a took.along.has older present two less change gone legal
+
+      gone_stale : StaleOf (rows_after (rows_after mid (says.counted ∷ [])) (change ∷ [])) (after later (Retire name older)) name
+      gone_stale =
+          stale_retired secret w (rows_after mid (says.counted ∷ [])) s later name frame d a took.along.has older present two less change gone legal
+
+      holds : Holds secret next (after later (Retire name older))
+      holds =
+          device_kept secret w next s (after later (Retire name older)) name changes h on
+          (framed secret w (rows_after rows changes) s (after later (Retire name older)) name
+          (subst (λ (r : Rows). Leaves secret w r s (after later (Retire name older)) name) (sym rows_are) gone_frame) sound
+          (subst (λ (r : Rows). StaleOf r (after later (Retire name older)) name) (sym rows_are) gone_stale))
+
   pub applied_so : KeptBy secret next s moves
-  applied_so = (
-    took.legal,
-    device_kept secret w next s later name changes h on (subst (λ (r : Rows). DeviceFrame secret w r s later name) (sym after_is) frame),
-  )
+  applied_so = by says.sets.older says.retires says.retiring
+    where
+      by : (older : Option KeySet) → Retires mid cursor older says.retired → IsRetiring mid cursor older name (held_by (device_named s name)) says.later
+          → KeptBy secret next s moves
+      by None none unsaid = kept_none none unsaid
+      by (Some set) (inl (may_go, (change, gone, is))) (inl (goes, (older, present, held_is, said))) =
+          kept_retired set may_go change gone is older present held_is said
+      by (Some set) (inl (may_go, removed)) (inr (may_not, unsaid)) = absurd (may_not may_go)
+      by (Some set) (inr (may_not, none)) (inl (may_go, said)) = absurd (may_not may_go)
+      by (Some set) (inr (may_not, none)) (inr (stays, unsaid)) = kept_none none unsaid

@@ -21,7 +21,7 @@ use Rattle.sn_rows.specs.declared.key.Key.TheVariants as key
 use Rattle.sn_rows.specs.declared.server_rows.StoreRow.{StoreRow}
 use Rattle.sn_rows.specs.declared.value.Value.{Value}
 use Rattle.sn_shows.specs.Servers.{ShowsItem, ShowsStore}
-use Rattle.sn_string.proofs.Base64Facts.{length-base64_text}
+use Rattle.sn_string.proofs.Facts.{length-base64_text}
 use Rattle.sn_string.specs.Base64.{base64_text}
 use Rattle.sn_sync.specs.Tokens.{IsToken}
 use Rattle.sn_sync.specs.Versions.{uuids}

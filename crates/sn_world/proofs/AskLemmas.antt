@@ -1,5 +1,6 @@
 -- A request of a device, whatever becomes of it, as steps of the world; and a call that goes on with its answer.
-use Rattle.std.proofs.Common.{◌≡◌, ℕ, List, [], ◌∷◌, ◌++◌, Option, true, false, refl, sym, ap, subst, inl, inr}
+use Rattle.std.proofs.Common.{◌≡◌, ℕ, List, [], ◌∷◌, Option, true, false, refl, sym, ap, subst, inl, inr}
+use Rattle.std.proofs.lemmas.List.{append-nil}
 use Rattle.sn_account.specs.Rule.{Rule}
 use Rattle.sn_client.specs.Asking.{Reply, lost, said, unheard, unread}
 use Rattle.sn_client.specs.Runs.{Act, AsksFirst, Halt, Refuses, asked, rows_done}
@@ -21,7 +22,7 @@ use Rattle.sn_world.specs.Happens.{makes, serves}
 use Rattle.sn_world.specs.Holds.{Holds, TokensDiffer}
 use Rattle.sn_world.specs.Laws.{Keeps, SaysSome}
 use Rattle.sn_world.specs.Making.{Makes, MakesOf}
-use Rattle.sn_world.specs.Serving.{Serves, moves_for}
+use Rattle.sn_world.specs.Serving.{SaysServed, Serves}
 use Rattle.sn_world.specs.World.{Made, World}
 
 abbrev pub made_of : Bytes → Option KeySet → Request → Made
@@ -46,51 +47,6 @@ serves_so v m server now changes given server_is fits rule = record {
   rule = subst (λ (x : Rows). Rule x m.request now changes given) (sym server_is) rule;
   on = record { server = refl; devices = refl; made = refl };
 }
-
--- it is made and served, with the moves of its route
-abbrev pub served_leads : (secret name : Bytes) (begins : Option KeySet) (v : World) (t : Ideal) (server rows : Rows) (r : Request) (now : ℕ) (changes : List Change)
-    (given : Answer) → Stands secret name v t server rows → MakesOf rows begins r → FitsRequest r → Rule server r now changes given
-    → Leads secret v t name (makes (made_of name begins r) ∷ serves (made_of name begins r) now changes given true ∷ []) (rows_after server changes) rows
-served_leads secret name begins v t server rows r now changes given k of fits rule =
-    let m : Made = made_of name begins r in
-    let first : List Move = moves_for v.server name begins r changes in
-    record {
-      moves = first ++ [];
-      next = served_world v m changes;
-      goes = (
-        made_world v m,
-        [],
-        first ++ [],
-        makes_so v name begins r rows k.device_is of,
-        refl,
-        (served_world v m changes, first, [], serves_so v m server now changes given k.server_is fits rule, refl, (refl, refl), refl),
-        refl,
-      );
-      server_is = ap (λ (x : Rows). rows_after x changes) k.server_is;
-      device_is = k.device_is;
-    }
-
-pub ask_leads : (secret name : Bytes) (begins : Option KeySet) (v : World) (t : Ideal) (server rows : Rows) (r : Request) (reply : Reply) (fate : Fate)
-    → Stands secret name v t server rows → MakesOf rows begins r → IsServed server r reply fate
-    → Leads secret v t name (call_steps name begins (asked r reply ∷ []) (fate ∷ [])) (rows_behind server fate) rows
-ask_leads secret name begins v t server rows r reply undelivered k of over = record {
-  moves = [];
-  next = made_world v (made_of name begins r);
-  goes = (made_world v (made_of name begins r), [], [], makes_so v name begins r rows k.device_is of, refl, (refl, refl), refl);
-  server_is = k.server_is;
-  device_is = k.device_is;
-}
-ask_leads secret name begins v t server rows r reply (served now changes given arrives) k of (fits, rule, back) =
-    served_leads secret name begins v t server rows r now changes given k of fits rule
-ask_leads secret name begins v t server rows r reply (crashed now changes given) k of over =
-    let made : World = made_world v (made_of name begins r) in
-    record {
-      moves = [];
-      next = made;
-      goes = (made, [], [], makes_so v name begins r rows k.device_is of, refl, (made, [], [], refl, refl, (refl, refl), refl), refl);
-      server_is = k.server_is;
-      device_is = k.device_is;
-    }
 
 -- where an answer comes back, the request was served, and it is that answer
 pub record IsAnswered (server : Rows) (r : Request) (given : Answer) (fate : Fate) : Type 0 where
@@ -118,7 +74,7 @@ is_answered server r given lost fate is over = absurd (cc)
 is_answered server r given unheard fate is over = absurd (cc)
 is_answered server r given (unread at) fate is over = absurd (cc)
 
--- ---- a call that goes on with the answer
+-- ---- a request, whatever becomes of it
 
 module _ (keeps : Keeps) (says : SaysSome) (secret : Bytes) (differ : TokensDiffer secret) (name : Bytes) (begins : Option KeySet) (v : World) (t : Ideal)
     (server rows : Rows) (k : Stands secret name v t server rows) (r : Request) (of : MakesOf rows begins r) where
@@ -128,16 +84,75 @@ module _ (keeps : Keeps) (says : SaysSome) (secret : Bytes) (differ : TokensDiff
   pub holds_made : Holds secret (made_world v m) t
   holds_made = (keeps secret v (made_world v m) t (makes m) [] differ k.holds (makes_so v name begins r rows k.device_is of) refl).1
 
-  -- the steps up to the answer
-  abbrev pub answered_leads : (now : ℕ) (changes : List Change) (given : Answer) → FitsRequest r → Rule server r now changes given
-      → Leads secret v t name (makes m ∷ serves m now changes given true ∷ []) (rows_after server changes) rows
-  answered_leads now changes given fits rule = served_leads secret name begins v t server rows r now changes given k of fits rule
+  -- it is made and served, with these moves
+  served_leads : (now : ℕ) (changes : List Change) (given : Answer) (moves : List Move) → FitsRequest r → Rule server r now changes given
+      → SaysServed v.server (v.devices name) m changes moves
+      → (one : Leads secret v t name (makes m ∷ serves m now changes given true ∷ []) (rows_after server changes) rows)
+      × (one.moves ≡ moves) × (one.next ≡ served_world v m changes)
+  served_leads now changes given moves fits rule says_it = (
+    record {
+      moves = moves;
+      next = served_world v m changes;
+      goes = (
+        made_world v m,
+        [],
+        moves,
+        makes_so v name begins r rows k.device_is of,
+        refl,
+        (served_world v m changes, moves, [], serves_so v m server now changes given k.server_is fits rule, says_it, (refl, refl), sym (append-nil moves)),
+        refl,
+      );
+      server_is = ap (λ (x : Rows). rows_after x changes) k.server_is;
+      device_is = k.device_is;
+    },
+    refl,
+    refl,
+  )
 
-  pub answered_stands : (now : ℕ) (changes : List Change) (given : Answer) → FitsRequest r → Rule server r now changes given
-      → Stands secret name (served_world v m changes) (end_from t (moves_for v.server name begins r changes ++ [])) (rows_after server changes) rows
-  answered_stands now changes given fits rule =
-      stands_then keeps says secret differ name v t (makes m ∷ serves m now changes given true ∷ []) (rows_after server changes) rows k.holds
-      (answered_leads now changes given fits rule)
+  -- some moves are said
+  pub said_moves : (now : ℕ) (changes : List Change) (given : Answer) → FitsRequest r → Rule server r now changes given
+      → (moves : List Move) × SaysServed v.server (v.devices name) m changes moves
+  said_moves now changes given fits rule =
+      says secret (made_world v m) (served_world v m changes) t (serves m now changes given true) holds_made
+      (serves_so v m server now changes given k.server_is fits rule)
+
+  pub ask_leads : (reply : Reply) (fate : Fate) → IsServed server r reply fate
+      → Leads secret v t name (call_steps name begins (asked r reply ∷ []) (fate ∷ [])) (rows_behind server fate) rows
+  ask_leads reply undelivered over = record {
+    moves = [];
+    next = made_world v m;
+    goes = (made_world v m, [], [], makes_so v name begins r rows k.device_is of, refl, (refl, refl), refl);
+    server_is = k.server_is;
+    device_is = k.device_is;
+  }
+  ask_leads reply (served now changes given arrives) (fits, rule, back) =
+      let some = said_moves now changes given fits rule in
+      (served_leads now changes given some.0 fits rule some.1).0
+  ask_leads reply (crashed now changes given) over = record {
+    moves = [];
+    next = made_world v m;
+    goes = (
+      made_world v m,
+      [],
+      [],
+      makes_so v name begins r rows k.device_is of,
+      refl,
+      (made_world v m, [], [], refl, refl, (refl, refl), refl),
+      refl,
+    );
+    server_is = k.server_is;
+    device_is = k.device_is;
+  }
+
+  -- ---- a call that goes on with the answer
+
+  pub answered_stands : (now : ℕ) (changes : List Change) (given : Answer) (moves : List Move) → FitsRequest r → Rule server r now changes given
+      → SaysServed v.server (v.devices name) m changes moves → Stands secret name (served_world v m changes) (end_from t moves) (rows_after server changes) rows
+  answered_stands now changes given moves fits rule says_it =
+      let one = served_leads now changes given moves fits rule says_it in
+      subst (λ (x : World). Stands secret name x (end_from t moves) (rows_after server changes) rows) one.2
+      (subst (λ (ms : List Move). Stands secret name one.0.next (end_from t ms) (rows_after server changes) rows) one.1
+      (stands_then keeps says secret differ name v t (makes m ∷ serves m now changes given true ∷ []) (rows_after server changes) rows k.holds one.0))
 
   -- no answer is gone on with
   last_asked : (reply : Reply) (later : List Act) (fates : List Fate) (halt : Halt) (why : ClientError) → Refuses later halt why
@@ -148,14 +163,14 @@ module _ (keeps : Keeps) (says : SaysSome) (secret : Bytes) (differ : TokensDiff
       subst (λ (xs : List Act). Goes secret name begins v t server rows (asked r reply ∷ xs) (fate ∷ fates) halt) (sym none)
       (subst (λ (fs : List Fate). Goes secret name begins v t server rows (asked r reply ∷ []) (fate ∷ fs) halt) (sym no_fates)
       (subst (λ (z : Halt). Goes secret name begins v t server rows (asked r reply ∷ []) (fate ∷ []) z) (sym is)
-      (ask_leads secret name begins v t server rows r reply fate k of one)))
+      (ask_leads reply fate one)))
 
-  -- what is done behind an answer of the server
+  -- what is done behind an answer of the server, whatever moves it says
   abbrev pub Behind : (Answer → List Act → Halt → Type 0) → Halt → Type 0
-  Behind P halt = (now : ℕ) (changes : List Change) (given : Answer) (later : List Act) (fates : List Fate) → FitsRequest r → Rule server r now changes given
-      → P given later halt → AreServed (rows_after server changes) later fates
-      → Goes secret name begins (served_world v m changes) (end_from t (moves_for v.server name begins r changes ++ [])) (rows_after server changes) rows
-      later fates halt
+  Behind P halt = (now : ℕ) (changes : List Change) (given : Answer) (moves : List Move) (later : List Act) (fates : List Fate) → FitsRequest r
+      → Rule server r now changes given → SaysServed v.server (v.devices name) m changes moves → P given later halt
+      → AreServed (rows_after server changes) later fates
+      → Goes secret name begins (served_world v m changes) (end_from t moves) (rows_after server changes) rows later fates halt
 
   goes_on_asked : (P : Answer → List Act → Halt → Type 0) (reply : Reply) (given : Answer) (later : List Act) (fates : List Fate) (halt : Halt) → Behind P halt
       → reply ≡ said given → P given later halt → AreServed server (asked r reply ∷ later) fates
@@ -164,10 +179,15 @@ module _ (keeps : Keeps) (says : SaysSome) (secret : Bytes) (differ : TokensDiff
   goes_on_asked P reply given later (fate ∷ fates) halt on is p (one, rest) =
       let a = is_answered server r given reply fate is one in
       let beyond : AreServed (rows_after server a.changes) later fates = subst (λ (f : Fate). AreServed (rows_behind server f) later fates) a.fate_is rest in
+      let some = said_moves a.now a.changes given a.fits a.rule in
+      let leads = served_leads a.now a.changes given some.0 a.fits a.rule some.1 in
+      let behind : Goes secret name begins leads.0.next (end_from t leads.0.moves) (rows_after server a.changes) rows later fates halt =
+      subst (λ (x : World). Goes secret name begins x (end_from t leads.0.moves) (rows_after server a.changes) rows later fates halt) (sym leads.2)
+      (subst (λ (ms : List Move). Goes secret name begins (served_world v m a.changes) (end_from t ms) (rows_after server a.changes) rows later fates halt)
+      (sym leads.1) (on a.now a.changes given some.0 later fates a.fits a.rule some.1 p beyond)) in
       subst (λ (f : Fate). Goes secret name begins v t server rows (asked r reply ∷ later) (f ∷ fates) halt) (sym a.fate_is)
       (leads_to_on keeps says secret differ name v t (makes m ∷ serves m a.now a.changes given true ∷ []) (call_steps name begins later fates)
-      (rows_after server a.changes) rows (rows_served (rows_after server a.changes) fates) (rows_done rows later) halt
-      (answered_leads a.now a.changes given a.fits a.rule) (on a.now a.changes given later fates a.fits a.rule p beyond))
+      (rows_after server a.changes) rows (rows_served (rows_after server a.changes) fates) (rows_done rows later) halt leads.0 behind)
 
   pub asks_goes : (P : Answer → List Act → Halt → Type 0) (acts : List Act) (fates : List Fate) (halt : Halt) → Behind P halt → AsksFirst r P acts halt
       → AreServed server acts fates → Goes secret name begins v t server rows acts fates halt

@@ -3,6 +3,7 @@ use Rattle.std.proofs.Common.{◌≡◌, ◌≢◌, ℕ, zero, suc, List, [], �
 use Rattle.std.specs.Prelude.{IsTrue, cond, find, if◌then◌else◌, slice_get}
 use Rattle.std.specs.Str.{bytes_eq}
 use Rattle.sn_account.specs.Sessions.{session_token}
+use Rattle.sn_adopted.specs.Moves.{OlderStale}
 use Rattle.sn_laws.proofs.Facts.{allowed_to, clash, is_below, one_there, same_text, text_same}
 use Rattle.sn_laws.specs.Lookups.{Bytes, account_named, device_named, draft_at, greatest, is_account, is_device}
 use Rattle.sn_laws.specs.Moves.{after, allows, joined}
@@ -17,7 +18,7 @@ use Rattle.sn_rows.specs.Table.{Rows, rows_after}
 use Rattle.sn_rows.specs.declared.change.Change.{Change}
 use Rattle.sn_rows.specs.declared.device_rows.OwnerRow.{OwnerRow}
 use Rattle.sn_rows.specs.declared.key.Key.TheVariants as key
-use Rattle.sn_rows.specs.declared.key.Slot.TheVariants.{Present, Asked}
+use Rattle.sn_rows.specs.declared.key.Slot.TheVariants.{Present}
 use Rattle.sn_rows.specs.declared.value.Value.TheVariants as value
 use Rattle.sn_shows.proofs.Facts.{find_new, find_past_new, not_device}
 use Rattle.sn_shows.specs.Devices.{ShowsDevice, ShowsDeviceAs, ShowsNothing}
@@ -174,7 +175,7 @@ module _ (apart : AccountsApart) (law : JoinedShows) (keeps : JoinKeeps) (secret
 
   frame : DeviceFrame secret w rows s later name
   frame = record {
-    reached = reached_more s (Join name identifier number) tt h.reached legal;
+    reached = reached_more s (Join name identifier number) h.reached legal;
     accounts = refl;
     others = others;
     shows = law (w.devices name) s name identifier number a x.owner x.present (h.devices name) none named (record {
@@ -196,10 +197,8 @@ module _ (apart : AccountsApart) (law : JoinedShows) (keeps : JoinKeeps) (secret
     });
     shows_others = λ at other off k. keeps at s name other identifier number off k;
     sound = sound;
-    unstale = λ at local there. let nothing : rows (key.Local at) ≡ None = no_local at in absurd (cc);
-    unasked =
-        neither_put (w.devices name) x.owner x.present key.Owner (key.Set Present) (key.Set Asked) (value.Owner new) (value.Set x.keys) x.owner_is.puts_it x.present_is
-        (λ e. cc) (λ e. cc) ∙ fresh (key.Set Asked);
+    older_stale = λ d b of.
+        subst (λ (e : Device). OlderStale rows b e.held) (one_there device d (device_named later name) own_device of.device) tt;
     numbers = numbers;
     own_token = token_after;
     pulls = (

@@ -2,7 +2,7 @@
 use Rattle.std.proofs.Common.{◌≡◌, ◌≢◌, ◌⊎◌, ℕ, List, [], ◌∷◌, Option, Some, None, refl, sym, ap, ◌∙◌, subst, inl, inr, ⊎_elim}
 use Rattle.std.specs.Prelude.{IsSome}
 use Rattle.rand_chacha.specs.ChaCha.{ChaCha}
-use Rattle.sn_laws.specs.Lookups.{Bytes, greatest}
+use Rattle.sn_laws.specs.Lookups.{Bytes, device_named, greatest, held_by}
 use Rattle.sn_laws.specs.Relation.{HasLive, IsPlain, MayDelete as DeletionAllowed, MayWrite}
 use Rattle.sn_laws.specs.declared.ideal.Account.{Account}
 use Rattle.sn_laws.specs.declared.ideal.Content.{Content}
@@ -30,7 +30,9 @@ use Rattle.sn_sync.specs.declared.answer.Answer.{Answer}
 use Rattle.sn_sync.specs.declared.answer.Answer.TheVariants as answer
 use Rattle.sn_sync.specs.declared.request.Request.{Request}
 use Rattle.sn_sync.specs.declared.request.Request.TheVariants as request
+use Rattle.sn_world.proofs.Adopted.{adopted_so}
 use Rattle.sn_world.proofs.AppliedAnswer.{applied_so}
+use Rattle.sn_world.proofs.Asked.{asked_so, forgot_so}
 use Rattle.sn_world.proofs.Begun.{begun_so}
 use Rattle.sn_world.proofs.TakenMet.{TakingLaws}
 use Rattle.sn_world.specs.Applying.{MayApply, SaysAnswer}
@@ -38,11 +40,12 @@ use Rattle.sn_world.proofs.DeviceRows.{one_local}
 use Rattle.sn_world.proofs.DeviceSets.{account_is, present_at}
 use Rattle.sn_world.proofs.Dropped.{dropped_so}
 use Rattle.sn_world.proofs.Edited.{edit_kept, has_live}
+use Rattle.sn_world.proofs.HeldSets.{stale_kept}
 use Rattle.sn_world.proofs.Posted.{posts_all}
 use Rattle.sn_world.proofs.PutNew.{put_so}
 use Rattle.sn_world.proofs.Renewed.{renewed}
 use Rattle.sn_world.specs.Committing.{MayCommit, SaysCommit, SaysDeletion, SaysEdit}
-use Rattle.sn_world.specs.Holds.{Holds, TokensDiffer}
+use Rattle.sn_world.specs.Holds.{Holds, StaleOf, TokensDiffer}
 use Rattle.sn_world.specs.Laws.{KeepsCommitting, KeptBy}
 use Rattle.sn_client.specs.Laws.{StepsStaySound}
 use Rattle.sn_client.specs.States.{HasItem, HasLocal, IsSound, columns}
@@ -145,12 +148,14 @@ module _ (laws : DeviceLaws) (secret : Bytes) (w next : World) (s : Ideal) (h : 
       ap (λ (u : Bytes). Edit name u local.kind local.base text ∷ []) stands.1 ∙ ap (λ (l : LocalItem). Edit name uuid l.kind l.base text ∷ []) same ∙ sym is
 
   edited_by : (words left : ChaCha) (uuid text : Bytes) (changes : List Change) (moves : List Move) (x : Edits (w.devices name) words uuid text changes left)
-      → IsSound (rows_after (w.devices name) changes) → OnDevice w next name changes → SaysEdit (w.devices name) name uuid (content.Plain text) moves
-      → KeptBy secret next s moves
-  edited_by words left uuid text changes moves x sound on says =
+      → IsSound (rows_after (w.devices name) changes) → StaleOf (rows_after (w.devices name) changes) s name → OnDevice w next name changes
+      → SaysEdit (w.devices name) name uuid (content.Plain text) moves → KeptBy secret next s moves
+  edited_by words left uuid text changes moves x sound older on says =
       subst (λ (ms : List Move). KeptBy secret next s ms) (said_edit uuid x.number x.local x.stands (content.Plain text) moves says)
       (edit_kept secret w next s h name x.number x.local x.stands.0 (row.Sealed x.strings) (content.Plain text) x.change x.change_is
-      (subst (λ (c : List Change). IsSound (rows_after (w.devices name) c)) x.changes_are sound) (subst (λ (c : List Change). OnDevice w next name c) x.changes_are on)
+      (subst (λ (c : List Change). IsSound (rows_after (w.devices name) c)) x.changes_are sound)
+      (subst (λ (c : List Change). StaleOf (rows_after (w.devices name) c) s name) x.changes_are older)
+      (subst (λ (c : List Change). OnDevice w next name c) x.changes_are on)
       (λ d acc has shown. (
         record {
           set = x.sets.present;
@@ -161,29 +166,35 @@ module _ (laws : DeviceLaws) (secret : Bytes) (w next : World) (s : Ideal) (h : 
       )))
 
   deleted_by : (uuid : Bytes) (changes : List Change) (moves : List Move) (x : Deletes (w.devices name) uuid changes)
-      → IsSound (rows_after (w.devices name) changes) → OnDevice w next name changes → SaysDeletion (w.devices name) name uuid moves → KeptBy secret next s moves
-  deleted_by uuid changes moves x sound on (other, twin, there, inl (unknown, said)) =
+      → IsSound (rows_after (w.devices name) changes) → StaleOf (rows_after (w.devices name) changes) s name → OnDevice w next name changes
+      → SaysDeletion (w.devices name) name uuid moves → KeptBy secret next s moves
+  deleted_by uuid changes moves x sound older on (other, twin, there, inl (unknown, said)) =
       let same : x.local ≡ twin = one_row uuid x.number other x.local twin x.stands there in
       ⊎_elim
       (λ (gone : IsUnknown x.local × Removes x.change (key.Local x.number)).
       subst (λ (ms : List Move). KeptBy secret next s ms) (ap (λ (l : LocalItem). Drop name l.uuid ∷ []) same ∙ sym said)
       (dropped_so laws.taking.keeps secret w next s h name x.number x.local x.stands.0 gone.0 x.change gone.1
-      (subst (λ (c : List Change). IsSound (rows_after (w.devices name) c)) x.changes_are sound) (subst (λ (c : List Change). OnDevice w next name c) x.changes_are on)))
+      (subst (λ (c : List Change). IsSound (rows_after (w.devices name) c)) x.changes_are sound)
+      (subst (λ (c : List Change). StaleOf (rows_after (w.devices name) c) s name) x.changes_are older)
+      (subst (λ (c : List Change). OnDevice w next name c) x.changes_are on)))
       (λ (kept : ¬ (IsUnknown x.local) × PutsColumns x.change x.number (drafted (Some row.Deleted) (columns x.local))).
       absurd (kept.0 (subst (λ (l : LocalItem). IsUnknown l) (sym same) unknown))) x.change_is
-  deleted_by uuid changes moves x sound on (other, twin, there, inr (known, said)) =
+  deleted_by uuid changes moves x sound older on (other, twin, there, inr (known, said)) =
       let same : x.local ≡ twin = one_row uuid x.number other x.local twin x.stands there in
       ⊎_elim
       (λ (gone : IsUnknown x.local × Removes x.change (key.Local x.number)). absurd (known (subst (λ (l : LocalItem). IsUnknown l) same gone.0)))
       (λ (kept : ¬ (IsUnknown x.local) × PutsColumns x.change x.number (drafted (Some row.Deleted) (columns x.local))).
       subst (λ (ms : List Move). KeptBy secret next s ms) (said_edit uuid x.number x.local x.stands content.Deleted moves (other, twin, there, said))
       (edit_kept secret w next s h name x.number x.local x.stands.0 row.Deleted content.Deleted x.change kept.1
-      (subst (λ (c : List Change). IsSound (rows_after (w.devices name) c)) x.changes_are sound) (subst (λ (c : List Change). OnDevice w next name c) x.changes_are on)
+      (subst (λ (c : List Change). IsSound (rows_after (w.devices name) c)) x.changes_are sound)
+      (subst (λ (c : List Change). StaleOf (rows_after (w.devices name) c) s name) x.changes_are older)
+      (subst (λ (c : List Change). OnDevice w next name c) x.changes_are on)
       (λ d acc has shown. (tt, deletion_allowed s name d acc x.local has shown kept.0)))) x.change_is
 
   applied_by : TokensDiffer secret → (words left : ChaCha) (r : Request) (given : Answer) (changes : List Change) (moves : List Move)
       → AppliesTo (w.devices name) words r given changes left → IsSound (rows_after (w.devices name) changes) → OnDevice w next name changes
-      → MayApply w.server (w.devices name) s name r given → SaysAnswer (w.devices name) name given changes moves → KeptBy secret next s moves
+      → MayApply w.server (w.devices name) s name r given
+      → SaysAnswer (w.devices name) (held_by (device_named s name)) name given changes moves → KeptBy secret next s moves
   applied_by differ words left (request.Sync token items limit sync_token cursor_token) (answer.Sync conflicts cursor retrieved saved next_token) changes moves step sound on may
       says =
       applied_so laws.taking laws.tokens secret w next s differ h name words left items conflicts cursor retrieved saved next_token changes moves step may says
@@ -205,19 +216,30 @@ module _ (laws : DeviceLaws) (secret : Bytes) (w next : World) (s : Ideal) (h : 
   by_kind differ words left (renews token) changes moves step sound on may says =
       subst (λ (ms : List Move). KeptBy secret next s ms) (sym says)
       (renewed laws.apart laws.tokens secret w next s h name token changes step.0 may
-      (subst (λ (c : List Change). IsSound (rows_after (w.devices name) c)) step.0.changes_are sound) on)
+      (subst (λ (c : List Change). IsSound (rows_after (w.devices name) c)) step.0.changes_are sound)
+      (subst (λ (c : List Change). StaleOf (rows_after (w.devices name) c) s name) step.0.changes_are
+      (stale_kept secret w s h name words left (renews token) changes tt step)) on)
   by_kind differ words left (puts uuid kind text) changes moves step sound on may says =
       subst (λ (ms : List Move). KeptBy secret next s ms) (sym says)
       (put_so laws.edited laws.tokens laws.edit_keeps secret w next s h name words left uuid kind text changes step
-      (subst (λ (c : List Change). IsSound (rows_after (w.devices name) c)) step.changes_are sound) on)
-  by_kind differ words left (edits uuid text) changes moves step sound on may says = edited_by words left uuid text changes moves step sound on says
-  by_kind differ words left (deletes uuid) changes moves step sound on may says = deleted_by uuid changes moves step.0 sound on says
+      (subst (λ (c : List Change). IsSound (rows_after (w.devices name) c)) step.changes_are sound)
+      (subst (λ (c : List Change). StaleOf (rows_after (w.devices name) c) s name) step.changes_are
+      (stale_kept secret w s h name words left (puts uuid kind text) changes tt step)) on)
+  by_kind differ words left (edits uuid text) changes moves step sound on may says =
+      edited_by words left uuid text changes moves step sound (stale_kept secret w s h name words left (edits uuid text) changes tt step) on says
+  by_kind differ words left (deletes uuid) changes moves step sound on may says =
+      deleted_by uuid changes moves step.0 sound (stale_kept secret w s h name words left (deletes uuid) changes tt step) on says
   by_kind differ words left (posts numbers) changes moves step sound on may says =
       posts_all laws.posted laws.post_keeps laws.sound secret words numbers changes moves w next s name h step.0 may says on
   by_kind differ words left (applies r given) changes moves step sound on may says = applied_by differ words left r given changes moves step sound on may says
-  by_kind differ words left (asks set) changes moves step sound on may says = absurd may
-  by_kind differ words left (adopts set token) changes moves step sound on may says = absurd may
-  by_kind differ words left forgets changes moves step sound on may says = absurd may
+  by_kind differ words left (asks set) changes moves step sound on may says =
+      subst (λ (ms : List Move). KeptBy secret next s ms) (sym says)
+      (asked_so secret w next s h name changes sound (stale_kept secret w s h name words left (asks set) changes tt step) on set step.0)
+  by_kind differ words left (adopts set token) changes moves step sound on may says =
+      adopted_so laws.apart secret w next s differ h name words left set token changes moves step may says sound on
+  by_kind differ words left forgets changes moves step sound on may says =
+      subst (λ (ms : List Move). KeptBy secret next s ms) (sym says)
+      (forgot_so secret w next s h name changes sound (stale_kept secret w s h name words left forgets changes tt step) on step.0)
 
 pub keeps_committing : DeviceLaws → KeepsCommitting
 keeps_committing laws secret w next s name what changes moves differ h x may says =

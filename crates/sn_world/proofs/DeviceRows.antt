@@ -6,15 +6,14 @@ use Rattle.sn_laws.proofs.Facts.{same_text, text_same}
 use Rattle.sn_laws.specs.Lookups.{Bytes}
 use Rattle.sn_laws.specs.declared.ideal.Account.{Account}
 use Rattle.sn_laws.specs.declared.ideal.Device.{Device}
-use Rattle.sn_rows.specs.Facts.{apart_keys, put_elsewhere, put_here, put_or_not, removed_elsewhere, removed_here}
-use Rattle.sn_rows.specs.Table.{Puts, Removes, Rows, key_of, rows_after, same_key, value_of}
+use Rattle.sn_rows.specs.Facts.{apart_keys, put_elsewhere, put_here, put_or_not}
+use Rattle.sn_rows.specs.Table.{Puts, Rows, key_of, rows_after, same_key, value_of}
 use Rattle.sn_rows.specs.declared.body.RowStrings.{RowStrings}
 use Rattle.sn_rows.specs.declared.change.Change.{Change}
 use Rattle.sn_rows.specs.declared.device_rows.LocalItem.{LocalItem}
 use Rattle.sn_rows.specs.declared.device_rows.OwnerRow.{OwnerRow}
 use Rattle.sn_rows.specs.declared.key.Key.{Key}
 use Rattle.sn_rows.specs.declared.key.Key.TheVariants as key
-use Rattle.sn_rows.specs.declared.key.Slot.TheVariants.{Asked}
 use Rattle.sn_rows.specs.declared.value.Value.{Value}
 use Rattle.sn_rows.specs.declared.value.Value.TheVariants as value
 use Rattle.sn_sets.specs.Sets.{sealed_of}
@@ -23,7 +22,7 @@ use Rattle.sn_shows.specs.Sets.{OpensUnder}
 use Rattle.sn_string.specs.declared.params.KeySet.{KeySet}
 use Rattle.sn_sync.specs.declared.item.Item.{Item}
 use Rattle.sn_world.proofs.Frames.{KeepsPosted, SentAlike}
-use Rattle.sn_world.specs.Holds.{AsksNoSet, DeviceToken, IsTokenBelow, NoneStale, TokensBelow}
+use Rattle.sn_world.specs.Holds.{DeviceToken, IsTokenBelow, TokensBelow}
 use Rattle.sn_client.specs.Sending.{PutsColumns}
 use Rattle.sn_client.specs.States.{Columns, HasLocal, HasOwner, token_of}
 use Rattle.sn_client.specs.Taking.{new_columns}
@@ -129,45 +128,6 @@ posted_elsewhere rows change number i of x differs = record {
   posted_is = x.posted_is;
   body_is = x.body_is;
 }
-
--- ---- rows that are to be sealed again
-
-pub unstale_same : (rows now : Rows) → ((number : ℕ) → now (key.Local number) ≡ rows (key.Local number)) → NoneStale rows → NoneStale now
-unstale_same rows now same h number local there = h number local (sym (same number) ∙ there)
-
-pub unstale_put : (rows : Rows) (change : Change) (number : ℕ) (new : LocalItem) → Puts change (key.Local number) (value.Local new) → new.stale ≡ false → NoneStale rows
-    → NoneStale (rows_after rows (change ∷ []))
-unstale_put rows change number new puts fresh h at local there =
-    ⊎_elim
-    (λ (same : key.Local number ≡ key.Local at).
-    let is : local ≡ new = one_local local new (rows_after rows (change ∷ []) (key.Local at)) there
-    (ap (rows_after rows (change ∷ [])) (sym same) ∙ put_here rows change (key.Local number) (value.Local new) puts) in
-    ap (λ (l : LocalItem). l.stale) is ∙ fresh)
-    (λ (past : rows_after rows (change ∷ []) (key.Local at) ≡ rows (key.Local at)). h at local (sym past ∙ there))
-    (put_or_not rows change (key.Local number) (value.Local new) puts (key.Local at))
-
-pub unstale_removed : (rows : Rows) (change : Change) (number : ℕ) → Removes change (key.Local number) → NoneStale rows → NoneStale (rows_after rows (change ∷ []))
-unstale_removed rows change number gone h at local there = h at local (sym (removed_elsewhere rows change (key.Local number) (key.Local at) gone off) ∙ there)
-  where
-    off : key.Local number ≢ key.Local at
-    off e =
-        let none : rows_after rows (change ∷ []) (key.Local at) ≡ None = ap (rows_after rows (change ∷ [])) (sym e) ∙ removed_here rows change (key.Local number) gone in
-        let some : rows_after rows (change ∷ []) (key.Local at) ≡ Some (value.Local local) = there in
-        cc
-
--- ---- the set that is asked for
-
-pub unasked_past : (rows : Rows) (change : Change) (at : Key) → key_of change ≡ at → at ≢ key.Set Asked → AsksNoSet rows
-    → AsksNoSet (rows_after rows (change ∷ []))
-unasked_past rows change at of apart none = past_key rows change at (key.Set Asked) of apart ∙ none
-
--- a change of an item's row leaves it, and so does a put of the device's own
-pub unasked_local : (rows : Rows) (change : Change) (number : ℕ) → key_of change ≡ key.Local number → AsksNoSet rows
-    → AsksNoSet (rows_after rows (change ∷ []))
-unasked_local rows change number of none = unasked_past rows change (key.Local number) of (λ e. cc) none
-
-pub unasked_owner : (rows : Rows) (change : Change) → key_of change ≡ key.Owner → AsksNoSet rows → AsksNoSet (rows_after rows (change ∷ []))
-unasked_owner rows change of none = unasked_past rows change key.Owner of (λ e. cc) none
 
 -- ---- a world with one device's rows changed
 

@@ -1,5 +1,5 @@
 -- A row's draft that meets the server's version of its item: which moves of it are legal.
-use Rattle.std.proofs.Common.{◌≡◌, ◌≢◌, ℕ, Option, Some, None, false, refl, sym, ◌∙◌, subst, inl, inr, arith}
+use Rattle.std.proofs.Common.{◌≡◌, ◌≢◌, ◌⊎◌, ℕ, List, Option, Some, None, false, refl, sym, ap, ◌∙◌, subst, inl, inr, ⊎_elim, arith}
 use Rattle.std.specs.Prelude.{IsTrue}
 use Rattle.sn_account.specs.Stored.{IsGiven}
 use Rattle.sn_conflict.specs.Meetings.{HasContent, HasContentOf, IsKnown, PostedHasContent, SameStrings}
@@ -7,13 +7,14 @@ use Rattle.sn_items.specs.ItemLaws.{OneContent}
 use Rattle.sn_items.specs.Items.{OpensItem}
 use Rattle.sn_items.specs.declared.sealed.Sealed.{Sealed}
 use Rattle.sn_laws.proofs.Facts.{allowed_to, one_there}
-use Rattle.sn_laws.specs.Lookups.{Bytes, draft_at, greatest, last_of}
+use Rattle.sn_laws.specs.Each.{Each, One}
+use Rattle.sn_laws.specs.Lookups.{Bytes, device_named, draft_at, greatest, held_by, last_of}
 use Rattle.sn_laws.specs.Moves.{allows}
 use Rattle.sn_laws.specs.Reached.{DeletionsStay}
-use Rattle.sn_laws.specs.Relation.{IsContentOf, IsLive, IsPlain, IsSentAs, IsUnder, MeetsLast}
+use Rattle.sn_laws.specs.Relation.{IsContentOf, IsLive, IsPlain, IsSentAs, IsUnseen, MeetsLast}
 use Rattle.sn_laws.specs.declared.ideal.Account.{Account}
 use Rattle.sn_laws.specs.declared.ideal.Body.{Body}
-use Rattle.sn_laws.specs.declared.ideal.Body.TheVariants.{Under}
+use Rattle.sn_laws.specs.declared.ideal.Body.TheVariants.{Under, Gone}
 use Rattle.sn_laws.specs.declared.ideal.Content.{Content}
 use Rattle.sn_laws.specs.declared.ideal.Content.TheVariants as content
 use Rattle.sn_laws.specs.declared.ideal.Device.{Device}
@@ -42,6 +43,7 @@ use Rattle.sn_sync.specs.declared.item.Body.TheVariants as body
 use Rattle.sn_sync.specs.declared.item.Item.{Item}
 use Rattle.sn_world.proofs.Based.{given_gone, given_strings, gone_version, live_version, sealed_same, two}
 use Rattle.sn_world.proofs.DeviceSets.{account_is, present_at}
+use Rattle.sn_world.proofs.NumberedSets.{AreHeld, HoldsEach, among_or_not, opened_held}
 use Rattle.sn_world.proofs.Settling.{content_is, drafted, version}
 use Rattle.sn_world.specs.Holds.{Reached}
 use Rattle.sn_world.specs.Settling.{MeetsStored}
@@ -165,13 +167,14 @@ module _ (server device : Rows) (s : Ideal) (name : Bytes) (n number : ℕ) (a :
       present_at device s name d a x.owner x.sets (holder_of device s name d a x.shows x.has) x.holds in
       inl (subst (λ (z : KeySet). OpensItem sealed i.uuid z text) (one_there o.set x.sets.present (set_at g a.sets) o.at present) o.opens)
 
-  -- ---- where the version is under that set too
+  -- ---- where the version is under a set that is held
 
-  module _ (last_under : (v : Version) → last_of i.uuid a.versions ≡ Some v → (k : ℕ) (set : KeySet) → IsUnder k v.body → set_at k a.sets ≡ Some set → k ≡ g) where
+  abbrev IsSeen : Body → Type 0
+  IsSeen b = (text : Bytes) (k : ℕ) → b ≡ Under text k → One (λ m. m ≡ k) d.held
+
+  module _ (held : AreHeld a d.held x.sets) (each : HoldsEach a d.held x.sets) (seen : IsSeen its.0.body) where
     under : (text : Bytes) (k : ℕ) → its.0.body ≡ Under text k → (sealed : Sealed) → OpensUnder a.sets k i.uuid sealed text → OpensHeld x.sets i.uuid sealed text
-    under text k is sealed o =
-        let number : k ≡ g = last_under its.0 its.1 k o.set (subst (λ (b : Body). IsUnder k b) (sym is) refl) o.at in
-        opened sealed text (subst (λ (m : ℕ). OpensUnder a.sets m i.uuid sealed text) number o)
+    under text k is sealed o = opened_held a d.held x.sets held each k i.uuid sealed text (seen text k is) o
 
     -- the version's content is the draft's
     content_of : (b : RowBody) (c : Content) (given : Sent) → i.body ≡ given → ShowsContent a.sets g i.uuid b c → IsContentOf local.kind c its.0.kind its.0.body
@@ -206,6 +209,25 @@ module _ (server device : Rows) (s : Ideal) (name : Bytes) (n number : ℕ) (a :
         let b = posted_was p is in
         differs (b.0, b.1, content_of b.0 p.content i.body refl b.2 (subst (λ (k : Bytes). IsContentOf k p.content its.0.kind its.0.body) (sym own.2.kind) same))
 
+  -- ---- whether it is or not
+
+  seen_or_not : (b : Body) → IsUnseen d.held b ⊎ IsSeen b
+  seen_or_not Gone = inr (λ text k is. absurd (cc))
+  seen_or_not (Under text k) =
+      ⊎_elim
+      (λ (one : One (λ (m : ℕ). m ≡ k) d.held).
+      inr (λ other n is. let same : k ≡ n = cc in subst (λ (z : ℕ). One (λ (m : ℕ). m ≡ z) d.held) same one))
+      (λ (none : Each (λ (m : ℕ). m ≢ k) d.held). inl none) (among_or_not k d.held)
+
+  held_is : d.held ≡ held_by (device_named s name)
+  held_is = sym (ap held_by x.has.device)
+
+  module _ (held : AreHeld a d.held x.sets) (each : HoldsEach a d.held x.sets) where
+    unseen_or : {A : Type 0} → (IsSeen its.0.body → A) → IsUnseen (held_by (device_named s name)) its.0.body ⊎ A
+    unseen_or f =
+        ⊎_elim (λ (unseen : IsUnseen d.held its.0.body). inl (subst (λ (ns : List ℕ). IsUnseen ns its.0.body) held_is unseen))
+        (λ (seen : IsSeen its.0.body). inr (f seen)) (seen_or_not its.0.body)
+
     -- ---- a deletion gives way
 
     alive : (given : Sent) → i.body ≡ given → ¬ (HasContentOf x.sets local row_body.Deleted i given) → IsLive its.0.body
@@ -227,7 +249,7 @@ module _ (server device : Rows) (s : Ideal) (name : Bytes) (n number : ℕ) (a :
           deleted = deleted_is own.0.latest (subst (λ (b : RowBody). ShowsContent a.sets g i.uuid b own.0.latest) gone own.3);
           live = alive i.body refl differs;
           passed = passed news;
-          other = inr (not_sent differed);
+          other = unseen_or (λ seen. not_sent held each seen differed);
         })
 
     -- ---- a content forks
@@ -242,6 +264,9 @@ module _ (server device : Rows) (s : Ideal) (name : Bytes) (n number : ℕ) (a :
           version = its.0;
           meets = met;
           plain = subst (λ (c : Content). IsPlain c) (sym (text_of strings e).1) tt;
-          another = record { passed = passed news; other = inr (not_latest differs, not_sent differed) };
+          another = record {
+            passed = passed news;
+            other = unseen_or (λ seen. (not_latest held each seen differs, not_sent held each seen differed));
+          };
           free = free;
         })

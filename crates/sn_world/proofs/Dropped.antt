@@ -24,7 +24,7 @@ use Rattle.sn_shows.specs.Devices.{ShowsDraft, ShowsHolder, ShowsPosted}
 use Rattle.sn_shows.specs.Laws.{HasAccount, SettleKeeps}
 use Rattle.sn_shows.specs.Servers.{stamps_in}
 use Rattle.sn_string.specs.declared.params.KeySet.{KeySet}
-use Rattle.sn_world.proofs.DeviceRows.{sync_tokens_same, token_same, unasked_local, unstale_removed}
+use Rattle.sn_world.proofs.DeviceRows.{sync_tokens_same, token_same}
 use Rattle.sn_world.proofs.DeviceSets.{account_is, row_draft}
 use Rattle.sn_world.proofs.DraftMoves.{numbers_kept}
 use Rattle.sn_world.proofs.Frames.{DeviceFrame, device_kept, live_kept}
@@ -33,7 +33,7 @@ use Rattle.sn_world.proofs.Settled.{draft_before}
 use Rattle.sn_world.proofs.ShowsLemmas.{holder_from}
 use Rattle.sn_world.proofs.Steps.{reached_more}
 use Rattle.sn_world.proofs.TakenFrames.{posted_removed}
-use Rattle.sn_world.specs.Holds.{Holds}
+use Rattle.sn_world.specs.Holds.{Holds, StaleOf}
 use Rattle.sn_world.specs.Laws.{KeptBy}
 use Rattle.sn_world.specs.World.{OnDevice, World}
 
@@ -44,7 +44,8 @@ unsent_of sets number uuid (Some p) h = absurd h
 
 module _ (keeps : SettleKeeps) (secret : Bytes) (w next : World) (s : Ideal) (h : Holds secret w s) (name : Bytes) (number : ℕ) (local : LocalItem)
     (stands : HasLocal (w.devices name) number local) (unknown : IsUnknown local) (change : Change) (gone : Removes change (key.Local number))
-    (sound : IsSound (rows_after (w.devices name) (change ∷ []))) (on : OnDevice w next name (change ∷ [])) where
+    (sound : IsSound (rows_after (w.devices name) (change ∷ []))) (older : StaleOf (rows_after (w.devices name) (change ∷ [])) s name)
+    (on : OnDevice w next name (change ∷ [])) where
   abbrev was : Rows
   was = w.devices name
 
@@ -101,19 +102,18 @@ module _ (keeps : SettleKeeps) (secret : Bytes) (w next : World) (s : Ideal) (h 
   frame : DeviceFrame secret w rows s later name
   frame = record {
     pulls = pulls_kept was rows s.accounts (device_named s name) (alike_removed was change number local stands gone unknown.0) (h.bases_pulled name) (h.pulled name);
-    reached = reached_more s (Drop name local.uuid) tt h.reached legal;
+    reached = reached_more s (Drop name local.uuid) h.reached legal;
     accounts = refl;
     others = λ other off. refl;
     shows = removed_shows was s name number local d a change (h.devices name) account.2 stands gone;
     shows_others = λ at other off k. keeps at s name other local.uuid off k;
     sound = sound;
-    unstale = unstale_removed was change number gone (h.unstale name);
-    unasked = unasked_local was change number gone.key_is (h.unasked name);
+    older_stale = λ e b of. older e b (record { device = of.device; account = of.account });
     numbers = numbers_kept s later.drafts (λ other item e at some. draft_before s name local.uuid other item e at) h.numbers;
     own_token = λ e named. token_same secret was rows s.accounts e owner_past (h.own_tokens name e named);
     sync_tokens = sync_tokens_same was rows (greatest 0 (stamps_in s.accounts)) owner_past (h.sync_tokens name);
     tokens = λ t k. k;
-    live = λ t n tok session i k. live_kept was rows (posted_removed was change number local stands unknown.1 gone) (w.server (key.Item i.uuid)) n i k;
+    live = λ t n tok session i k. live_kept was rows (posted_removed was change number local stands unknown.1 gone) (w.server (key.Item i.uuid)) s.accounts n i k;
   }
 
   pub dropped_so : KeptBy secret next s (Drop name local.uuid ∷ [])

@@ -27,12 +27,12 @@ use Rattle.sn_shows.proofs.Facts.{find_new, find_past_new, holder_of}
 use Rattle.sn_shows.specs.Devices.{IsBase, ListsBase, OpensBase, ShowsBase, ShowsContent, ShowsDevice, ShowsDrafted, ShowsHolder, ShowsLocal, ShowsPosted}
 use Rattle.sn_shows.specs.Laws.{HasAccount}
 use Rattle.sn_shows.specs.Servers.{stamps_in}
-use Rattle.sn_world.proofs.DeviceRows.{one_local, owner_past, posted_put, sync_tokens_same, token_same, unasked_local, unstale_put}
+use Rattle.sn_world.proofs.DeviceRows.{one_local, owner_past, posted_put, sync_tokens_same, token_same}
 use Rattle.sn_world.proofs.Frames.{DeviceFrame, device_kept, live_kept}
 use Rattle.sn_world.proofs.Pulls.{alike_row, pulls_kept}
 use Rattle.sn_world.proofs.ShowsLemmas.{IsPut, draft_is, draft_passes, find_changed, find_past_changed, holder_from, not_of_device, not_of_item, put_holder, shows_alike, shows_of}
 use Rattle.sn_world.proofs.Steps.{reached_more}
-use Rattle.sn_world.specs.Holds.{Holds, NumbersOf}
+use Rattle.sn_world.specs.Holds.{Holds, NumbersOf, StaleOf}
 use Rattle.sn_world.specs.Laws.{KeptBy}
 use Rattle.sn_client.specs.Sending.{PutsColumns}
 use Rattle.sn_client.specs.States.{Columns, HasLocal, IsSound, columns}
@@ -219,7 +219,7 @@ module _ (secret : Bytes) (w next : World) (s : Ideal) (h : Holds secret w s) (n
   posted_is = ap (λ (c : Columns). c.posted) puts.columns_are
 
   module _ (content_is : ShowsContent a.sets (greatest 0 d.held) local.uuid latest text) (allowed : IsAllowed s move) (sound : IsSound rows)
-      (on : OnDevice w next name (change ∷ [])) where
+      (older : StaleOf rows s name) (on : OnDevice w next name (change ∷ [])) where
     legal : IsTrue (allows s move)
     legal = allowed_to s move allowed
 
@@ -283,14 +283,13 @@ module _ (secret : Bytes) (w next : World) (s : Ideal) (h : Holds secret w s) (n
     frame = record {
       pulls = pulls_kept (w.devices name) rows s.accounts (device_named s name)
           (alike_row (w.devices name) change number local new stands puts.puts uuid_is base_is) (h.bases_pulled name) (h.pulled name);
-      reached = reached_more s move tt h.reached legal;
+      reached = reached_more s move h.reached legal;
       accounts = refl;
       others = λ other off. refl;
       shows = shows;
       shows_others = λ at other off k. shows_alike at s then other refl (λ identifier. refl) (off_device s name local.uuid local.kind local.base text other off) k;
       sound = sound;
-      unstale = unstale_put (w.devices name) change number new puts.puts (stale_is ∙ h.unstale name number local stands) (h.unstale name);
-      unasked = unasked_local (w.devices name) change number puts.puts.key_is (h.unasked name);
+      older_stale = λ e b of. older e b (record { device = of.device; account = of.account });
       numbers = numbers;
       sync_tokens = sync_tokens_same (w.devices name) rows (greatest 0 (stamps_in s.accounts)) (owner_past (w.devices name) change number (value.Local new) puts.puts) (h.sync_tokens name);
       own_token = λ e named. token_same secret (w.devices name) rows s.accounts e (owner_past (w.devices name) change number (value.Local new) puts.puts) (h.own_tokens name e named);
@@ -302,7 +301,7 @@ module _ (secret : Bytes) (w next : World) (s : Ideal) (h : Holds secret w s) (n
           let same : was ≡ local = one_local was local (w.devices name (key.Local number)) there stands in
           subst (λ (l : LocalItem). (new.uuid ≡ l.uuid) × (new.kind ≡ l.kind) × (new.base ≡ l.base) × (new.posted ≡ l.posted)) (sym same)
           (uuid_is, kind_is, base_is, posted_is)))
-          (w.server (key.Item i.uuid)) n i k;
+          (w.server (key.Item i.uuid)) s.accounts n i k;
     }
 
     edited_so : KeptBy secret next s (move ∷ [])
@@ -311,11 +310,11 @@ module _ (secret : Bytes) (w next : World) (s : Ideal) (h : Holds secret w s) (n
 -- where the content is the row's, and the move is allowed
 pub edit_kept : (secret : Bytes) (w next : World) (s : Ideal) → Holds secret w s → (name : Bytes) (number : ℕ) (local : LocalItem)
     → HasLocal (w.devices name) number local → (latest : RowBody) (text : Content) (change : Change) → PutsColumns change number (drafted (Some latest) (columns local))
-    → IsSound (rows_after (w.devices name) (change ∷ [])) → OnDevice w next name (change ∷ [])
+    → IsSound (rows_after (w.devices name) (change ∷ [])) → StaleOf (rows_after (w.devices name) (change ∷ [])) s name → OnDevice w next name (change ∷ [])
     → ((d : Device) (a : Account) → HasAccount s name d a → ShowsLocal s name (greatest 0 d.held) a local
     → ShowsContent a.sets (greatest 0 d.held) local.uuid latest text × IsAllowed s (Edit name local.uuid local.kind local.base text))
     → KeptBy secret next s (Edit name local.uuid local.kind local.base text ∷ [])
-edit_kept secret w next s h name number local stands latest text change puts sound on f =
+edit_kept secret w next s h name number local stands latest text change puts sound older on f =
     let of = own secret w next s h name number local stands latest text change puts in
     let both = f of.0 of.1 of.2 (shown secret w next s h name number local stands latest text change puts) in
-    edited_so secret w next s h name number local stands latest text change puts both.0 both.1 sound on
+    edited_so secret w next s h name number local stands latest text change puts both.0 both.1 sound older on

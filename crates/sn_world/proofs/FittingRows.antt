@@ -27,12 +27,7 @@ use Rattle.sn_client.specs.Laws.{FreshIsSound, StepsStaySound}
 use Rattle.sn_client.specs.Sending.{Posts}
 use Rattle.sn_client.specs.States.{Bytes, Columns, HasLocal, HasOwner, HasSet, IsFresh, IsInSlot, IsSound}
 use Rattle.sn_client.specs.Steps.{Adopts, AppliesAnswer, AppliesTo, Asks, Begins, Deletes, Forgets, Step, What, adopts, applies, asks, begins, deletes, edits, forgets, posts, puts, renews}
-use Rattle.sn_client.proofs.AdoptRows.{adopted}
-use Rattle.sn_client.proofs.AdoptSound.{past_asked}
-use Rattle.sn_client.proofs.Frames.{Parts, item_after, parts_keep}
-use Rattle.sn_client.proofs.SoundSteps.{begin_empty}
-use Rattle.sn_client.proofs.Standing.{IsKept, Stand}
-use Rattle.sn_client.proofs.StepStands.{apply_parts, apply_stands, delete_parts, delete_stands, edit_parts, edit_stands, new_stands, post_parts, post_stands, put_parts, renew_parts}
+use Rattle.sn_client.proofs.Facts.{IsKept, Parts, Stand, adopted, apply_parts, apply_stands, begin_empty, delete_parts, delete_stands, edit_parts, edit_stands, item_after, new_stands, parts_keep, past_asked, post_parts, post_stands, put_parts, renew_parts}
 use Rattle.sn_world.specs.Fitting.{FitsPasswords, FitsUuids, FitsWhat, FreshFits, StepsFit, StepsFitUuids}
 
 -- ---- uuids: a row's uuid is one that a string names, or a former row's

@@ -5,7 +5,7 @@ use Rattle.std.proofs.lemmas.Bool.{cases_Bool}
 use Rattle.rand_chacha.specs.ChaCha.{ChaCha}
 use Rattle.sn_client.specs.Asking.{Reply, unheard}
 use Rattle.sn_client.specs.Laws.{StepsStaySound}
-use Rattle.sn_client.specs.Runs.{Act, Call, Halt, Run, SyncsUnder, answered, asked, begun, broken, commits as committed, content, delete, edit, list, passwd, put, refused, register, sign_in, sync}
+use Rattle.sn_client.specs.Runs.{Act, Call, Halt, Run, SyncsUnder, answered, asked, begun, broken, commits as committed, passwd, refused}
 use Rattle.sn_client.specs.States.{IsSound}
 use Rattle.sn_client.specs.Steps.{What}
 use Rattle.sn_laws.proofs.Facts.{clash, same_text, text_same}
@@ -21,16 +21,18 @@ use Rattle.sn_sync.specs.declared.request.Request.{Request}
 use Rattle.sn_world.proofs.FittingCalls.{run_fits}
 use Rattle.sn_world.proofs.FittingPieces.{IsGood, alone_has, answers_fit, front_fits}
 use Rattle.sn_world.proofs.Lists.{each_both}
+use Rattle.sn_world.proofs.PlainKept.{trace_plain}
+use Rattle.sn_world.proofs.PlainLines.{keeps_password, line_plain}
 use Rattle.sn_world.proofs.PresentSets.{unasked}
-use Rattle.sn_world.proofs.Traced.{trace_from}
 use Rattle.sn_world.specs.Delivered.{AreServedBy, CallsFit, DevicesFit, FirstFits, FitsDevices, FitsWorld, IsCalledBy, IsServedBy, KeepsPassword, LinesGoBy, LinesKeepBy, MayComeBy, MayFollowBy, TracesFit}
 use Rattle.sn_world.specs.Calls.{AreServed, Fate, IsServed, call_steps, crashed, fate_steps, rows_behind, served, undelivered}
 use Rattle.sn_world.specs.Committing.{Commits}
 use Rattle.sn_world.specs.Fitting.{AreFitting, FitsCall, FitsUuids, StepsFitUuids}
 use Rattle.sn_world.specs.Happens.{Happens, commits, makes, serves, starts}
 use Rattle.sn_world.specs.Holds.{Holds, TokensDiffer}
-use Rattle.sn_world.specs.Laws.{HoldsFirst, Keeps, KeptBy}
-use Rattle.sn_world.specs.Sessions.{IsCalled, LeadsLine, Line, LinesGo, MayAsk, MayCome, MayFollow, again, calls, line_steps, made_behind, opens, stops, with_end}
+use Rattle.sn_world.specs.Laws.{Keeps, KeptBy}
+use Rattle.sn_world.specs.Plain.{AsksNoSet, HoldsPlain, KeepsPlain, KeptPlain, PlainFirst}
+use Rattle.sn_world.specs.Sessions.{IsCalled, LeadsLine, Line, LinesGo, MayCome, MayFollow, again, calls, line_steps, made_behind, opens, stops, with_end}
 use Rattle.sn_world.specs.World.{Made, World, at_first}
 
 -- ---- each request, where all are within their bounds
@@ -66,19 +68,20 @@ no_passwd : {A : Type 0} (call : Call) (password : Bytes) (cost : ℕ) → Keeps
 no_passwd call password cost keeps is = absurd (subst KeepsPassword is keeps)
 
 call_fits : StepsFitUuids → StepsStaySound → (secret : Bytes) (w : World) (s : Ideal) (name : Bytes) (least : ℕ) (call : Call) (words : ChaCha) (acts : List Act)
-    (halt : Halt) → Holds secret w s → FitsUuids (w.devices name) → FitsCall call → KeepsPassword call → Run least call (w.devices name) words acts halt → AreFitting acts
-call_fits steps stay secret w s name least call words acts halt h uuids fits keeps run =
+    (halt : Halt) → Holds secret w s → AsksNoSet (w.devices name) → FitsUuids (w.devices name) → FitsCall call → KeepsPassword call
+    → Run least call (w.devices name) words acts halt → AreFitting acts
+call_fits steps stay secret w s name least call words acts halt h none uuids fits keeps run =
     let good : HasUuids (w.devices name) = record { sound = h.sound name; uuids = uuids } in
     let is_good : IsGood HasUuids = uuids_good steps stay in
     run_fits least call (w.devices name) words acts halt fits
     (λ owner sets holds syncs.
-    answers_fit HasUuids is_good (SyncsUnder owner sets) (alone_has HasUuids is_good owner sets (unasked secret w s name h owner sets holds))
+    answers_fit HasUuids is_good (SyncsUnder owner sets) (alone_has HasUuids is_good owner sets (unasked (w.devices name) owner sets none holds))
     (begun (w.devices name) words) acts halt good syncs)
     (λ password cost owner sets is holds changes. no_passwd call password cost keeps is) run
 
 pub calls_fit : StepsFitUuids → StepsStaySound → CallsFit
-calls_fit steps stay secret w s name least call words acts fates halt h uuids fits keeps run over =
-    all_served w.server acts fates (call_fits steps stay secret w s name least call words acts halt h uuids fits keeps run) over
+calls_fit steps stay secret w s name least call words acts fates halt h none uuids fits keeps run over =
+    all_served w.server acts fates (call_fits steps stay secret w s name least call words acts halt h none uuids fits keeps run) over
 
 -- ---- steps of a world
 
@@ -164,17 +167,6 @@ one_fits (x ∷ ms) m each (inr behind) = one_fits ms m each.1 behind
 
 -- ---- what happens
 
-pub keeps_password : (s : Ideal) (call : Call) → MayAsk s call → KeepsPassword call
-keeps_password s (register identifier password cost) may = tt
-keeps_password s (sign_in identifier password) may = tt
-keeps_password s (put kind text) may = tt
-keeps_password s (edit uuid text) may = tt
-keeps_password s (delete uuid) may = tt
-keeps_password s list may = tt
-keeps_password s (content uuid) may = tt
-keeps_password s sync may = tt
-keeps_password s (passwd password cost) may = may
-
 module _ (steps : StepsFitUuids) (stay : StepsStaySound) (secret : Bytes) where
   -- the acts of the line fit
   abbrev LineFits : Line → Type 0
@@ -183,25 +175,25 @@ module _ (steps : StepsFitUuids) (stay : StepsStaySound) (secret : Bytes) where
   LineFits (stops name least call words front met) = AreFitting front
   LineFits (again name r fate) = Unit {0}
 
-  line_fits : (w : World) (s : Ideal) (line : Line) → Holds secret w s → FitsWorld w → MayComeBy secret w s line → LineFits line
+  line_fits : (w : World) (s : Ideal) (line : Line) → HoldsPlain secret w s → FitsWorld w → MayComeBy secret w s line → LineFits line
   line_fits w s (opens changes stands) h fits may = tt
   line_fits w s (calls name least call words acts fates halt stands) h fits may =
-      call_fits steps stay secret w s name least call words acts halt h (fits.devices name) may.fits (keeps_password s call may.may) may.runs
+      call_fits steps stay secret w s name least call words acts halt h.holds (h.plain.unasked name) (fits.devices name) may.fits (keeps_password s call may.may) may.runs
   line_fits w s (stops name least call words front met) h fits may =
       front_fits front may.later
-      (call_fits steps stay secret w s name least call words (front ++ may.later) may.halt h (fits.devices name) may.called.fits
+      (call_fits steps stay secret w s name least call words (front ++ may.later) may.halt h.holds (h.plain.unasked name) (fits.devices name) may.called.fits
       (keeps_password s call may.called.may) may.called.runs)
   line_fits w s (again name r fate) h fits may = tt
 
   called_so : (w : World) (s : Ideal) (name : Bytes) (least : ℕ) (call : Call) (words : ChaCha) (acts : List Act) (fates : List Fate) (halt : Halt)
-      → Holds secret w s → FitsWorld w → IsCalledBy w s name least call words acts fates halt → IsCalled w s name least call words acts fates halt
+      → HoldsPlain secret w s → FitsWorld w → IsCalledBy w s name least call words acts fates halt → IsCalled w s name least call words acts fates halt
   called_so w s name least call words acts fates halt h fits may = record {
     may = may.may;
     runs = may.runs;
     over = all_served w.server acts fates (line_fits w s (calls name least call words acts fates halt true) h fits may) may.over;
   }
 
-  may_come : (w : World) (s : Ideal) (line : Line) → Holds secret w s → FitsWorld w → MayComeBy secret w s line → MayCome secret w s line
+  may_come : (w : World) (s : Ideal) (line : Line) → HoldsPlain secret w s → FitsWorld w → MayComeBy secret w s line → MayCome secret w s line
   may_come w s (opens changes stands) h fits may = may
   may_come w s (calls name least call words acts fates halt stands) h fits may = called_so w s name least call words acts fates halt h fits may
   may_come w s (stops name least call words front met) h fits may = record {
@@ -224,27 +216,28 @@ module _ (steps : StepsFitUuids) (stay : StepsStaySound) (secret : Bytes) where
   line_makes begins (stops name least call words front met) fit = call_makes name begins front met fit
   line_makes begins (again name r fate) fit = again_makes (record { device = name; request = r; begins = begins }) fate
 
-  module _ (keeps : Keeps) (traces : TracesFit) (differ : TokensDiffer secret) where
-    behind_fits : (w : World) (s : Ideal) (line : Line) → Holds secret w s → FitsWorld w → LineFits line → (x : LeadsLine secret w s line) → FitsWorld x.next
+  module _ (keeps : KeepsPlain) (traces : TracesFit) (differ : TokensDiffer secret) where
+    behind_fits : (w : World) (s : Ideal) (line : Line) → HoldsPlain secret w s → FitsWorld w → LineFits line → (x : LeadsLine secret w s line) → FitsWorld x.next
     behind_fits w s line h fits fit x = record {
-      devices = traces secret w x.next s (line_steps x.begins line) x.moves differ h fits.devices x.goes;
+      devices = traces secret w x.next s (line_steps x.begins line) x.moves differ h.holds fits.devices x.goes;
       made = subst (Each FitsMade) (sym x.made_is) (made_fit w.made (line_steps x.begins line) fits.made (line_makes x.begins line fit));
     }
 
-    may_follow : (w : World) (s : Ideal) (lines : List Line) → Holds secret w s → FitsWorld w → MayFollowBy secret w s lines → MayFollow secret w s lines
+    may_follow : (w : World) (s : Ideal) (lines : List Line) → HoldsPlain secret w s → FitsWorld w → MayFollowBy secret w s lines → MayFollow secret w s lines
     may_follow w s [] h fits may = tt
     may_follow w s (line ∷ lines) h fits (comes, follow) = (
       may_come w s line h fits comes,
       λ x.
-          (let kept : KeptBy secret x.next s x.moves = trace_from keeps secret differ (line_steps x.begins line) x.moves w x.next s h x.goes in
+          (let plain = line_plain secret w s line x.begins h.plain (may_come w s line h fits comes) in
+          let kept : KeptPlain secret x.next s x.moves = trace_plain keeps secret differ (line_steps x.begins line) x.moves w x.next s h plain x.goes in
           may_follow x.next (end_from s x.moves) lines kept.1 (behind_fits w s line h fits (line_fits w s line h fits comes) x) (follow x)),
     )
 
-pub lines_go_by : StepsFitUuids → StepsStaySound → Keeps → TracesFit → LinesGo → LinesGoBy
+pub lines_go_by : StepsFitUuids → StepsStaySound → KeepsPlain → TracesFit → LinesGo → LinesGoBy
 lines_go_by steps stay keeps traces go secret w s lines differ h fits may =
     go secret w s lines differ h (may_follow steps stay secret keeps traces differ w s lines h fits may)
 
-pub lines_keep_by : HoldsFirst → FirstFits → LinesGoBy → LinesKeepBy
+pub lines_keep_by : PlainFirst → FirstFits → LinesGoBy → LinesKeepBy
 lines_keep_by first fits go secret lines differ may =
     let x = go secret at_first empty lines differ (first secret) fits may in
     (x, x.keeps.0, x.keeps.1)

@@ -1,5 +1,5 @@
 -- What a commit of one end leaves of the invariant, where it is known what it makes of that end's rows.
-use Rattle.std.proofs.Common.{◌≡◌, ◌≢◌, ◌≤◌, ℕ, List, [], ◌∷◌, Option, Some, None, Bool, true, false, refl, sym, ap, ◌∙◌, subst, inl, inr, arith}
+use Rattle.std.proofs.Common.{◌≡◌, ◌≢◌, ◌≤◌, ℕ, List, [], ◌∷◌, length, Option, Some, None, Bool, true, false, refl, sym, ap, ◌∙◌, subst, inl, inr, arith}
 use Rattle.std.specs.Prelude.{find}
 use Rattle.std.specs.Str.{bytes_eq}
 use Rattle.sn_account.specs.Lookups.{HasStore}
@@ -7,7 +7,7 @@ use Rattle.sn_account.specs.Sessions.{IsSession}
 use Rattle.sn_account.specs.Sound.{IsSound as IsSoundServer}
 use Rattle.sn_laws.proofs.Facts.{clash, same_text, text_same}
 use Rattle.sn_laws.specs.Each.{Each}
-use Rattle.sn_laws.specs.Lookups.{Bytes, device_named, greatest, is_device, last_of}
+use Rattle.sn_laws.specs.Lookups.{Bytes, device_named, greatest, is_account, is_device, last_of}
 use Rattle.sn_laws.specs.declared.ideal.Account.{Account}
 use Rattle.sn_laws.specs.declared.ideal.Device.{Device}
 use Rattle.sn_laws.specs.declared.ideal.Ideal.{Ideal}
@@ -19,12 +19,13 @@ use Rattle.sn_rows.specs.declared.server_rows.StoreRow.{StoreRow}
 use Rattle.sn_rows.specs.declared.value.Value.{Value}
 use Rattle.sn_shows.specs.Devices.{ShowsDevice}
 use Rattle.sn_shows.specs.Servers.{ShowsServer, account_at, stamps_in}
+use Rattle.sn_string.specs.declared.params.KeySet.{KeySet}
 use Rattle.sn_sync.specs.declared.item.Item.{Item}
 use Rattle.sn_sync.specs.Laws.{HasOneToken}
 use Rattle.sn_sync.specs.Tokens.{IsToken}
 use Rattle.sn_laws.specs.declared.ideal.Version.{Version}
 use Rattle.sn_world.specs.Pulled.{BasesPulled, PulledAt, PulledTo}
-use Rattle.sn_world.specs.Holds.{AreFew, AsksNoSet, DeviceToken, HasToken, Holds, HoldsSync, IsSync, IsTokenBelow, NoneStale, NumbersOf, Reached, TokensBelow}
+use Rattle.sn_world.specs.Holds.{AreFew, DeviceToken, HasToken, Holds, HoldsChange, HoldsSync, IsSync, IsTokenBelow, NumbersOf, Reached, StaleOf, TokensBelow}
 use Rattle.sn_world.specs.Live.{KnownBelow, LiveItem, LiveItems}
 use Rattle.sn_client.specs.Sending.{SaysBase}
 use Rattle.sn_client.specs.States.{HasLocal, IsSound, token_of}
@@ -41,9 +42,9 @@ same_world secret next s server devices made server_is devices_are made_is h =
 
 -- ---- a commit of the server
 
--- the account of this number is there, with its identifier; whatever sets it has
+-- the account of this number is there, with its identifier, and has no fewer sets
 abbrev pub StillAt : List Account → ℕ → Account → Type 0
-StillAt accounts n a = (b : Account) × (account_at n accounts ≡ Some b) × (b.identifier ≡ a.identifier)
+StillAt accounts n a = (b : Account) × (account_at n accounts ≡ Some b) × (b.identifier ≡ a.identifier) × (length a.sets ≤ length b.sets)
 
 -- a last version up to the greatest stamp was there, the last of its item in the account
 abbrev pub LastsBefore : List Account → List Account → Type 0
@@ -64,8 +65,10 @@ pub record ServerFrame (secret : Bytes) (w : World) (server : Rows) (s later : I
   pub last : greatest 0 (stamps_in s.accounts) ≤ greatest 0 (stamps_in later.accounts)
   pub session : (name token : Bytes) (n : ℕ) → HasToken secret s.accounts (device_named s name) token → IsSession server token n → IsSession w.server token n
   pub lasts : LastsBefore s.accounts later.accounts
-  pub live : (rows : Rows) (n : ℕ) (i : Item) → KnownBelow (greatest 0 (stamps_in s.accounts)) i → LiveItem (w.server (key.Item i.uuid)) rows n i
-      → LiveItem (server (key.Item i.uuid)) rows n i
+  pub older_stale : (rows : Rows) (name : Bytes) → ShowsDevice rows s name → StaleOf rows s name → StaleOf rows later name
+  pub live : (name token : Bytes) (n : ℕ) → HasToken secret s.accounts (device_named s name) token → IsSession server token n → (rows : Rows) (i : Item)
+      → KnownBelow (greatest 0 (stamps_in s.accounts)) i → LiveItem (w.server (key.Item i.uuid)) rows s.accounts n i
+      → LiveItem (server (key.Item i.uuid)) rows later.accounts n i
 
 below_later : (found : Option Bytes) (last later : ℕ) → last ≤ later → IsTokenBelow found last → IsTokenBelow found later
 below_later None last later up h = tt
@@ -79,11 +82,12 @@ known_still last later [] up h = tt
 known_still last later (i ∷ items) up h =
     (λ text stamp e spelled. let low : stamp ≤ last = h.0 text stamp e spelled in omega arith, known_still last later items up h.1)
 
-pub live_still : (server later rows : Rows) (n last : ℕ) (items : List Item)
-    → ((i : Item) → KnownBelow last i → LiveItem (server (key.Item i.uuid)) rows n i → LiveItem (later (key.Item i.uuid)) rows n i)
-    → Each (KnownBelow last) items → LiveItems server rows n items → LiveItems later rows n items
-live_still server later rows n last [] f known h = tt
-live_still server later rows n last (i ∷ items) f known h = (f i known.0 h.0, live_still server later rows n last items f known.1 h.1)
+pub live_still : (server later rows : Rows) (accounts now : List Account) (n last : ℕ) (items : List Item)
+    → ((i : Item) → KnownBelow last i → LiveItem (server (key.Item i.uuid)) rows accounts n i → LiveItem (later (key.Item i.uuid)) rows now n i)
+    → Each (KnownBelow last) items → LiveItems server rows accounts n items → LiveItems later rows now n items
+live_still server later rows accounts now n last [] f known h = tt
+live_still server later rows accounts now n last (i ∷ items) f known h =
+    (f i known.0 h.0, live_still server later rows accounts now n last items f known.1 h.1)
 
 pub token_still : (secret : Bytes) (accounts now : List Account) (found : Option Device) (token : Bytes)
     → ((n : ℕ) (a : Account) → account_at n accounts ≡ Some a → StillAt now n a) → HasToken secret accounts found token → HasToken secret now found token
@@ -99,6 +103,28 @@ token_still secret accounts now found token still x =
       generation = x.generation;
       held = x.held;
       is = x.is;
+    }
+
+pub change_still : (secret : Bytes) (accounts now : List Account) (found : Option KeySet) (token pw : Bytes) (cost : ℕ) (nonce : Bytes)
+    → ((n : ℕ) (a : Account) → account_at n accounts ≡ Some a → StillAt now n a) → HoldsChange secret accounts found token pw cost nonce
+    → HoldsChange secret now found token pw cost nonce
+change_still secret accounts now found token pw cost nonce still x =
+    let b = still x.number x.account x.at in
+    let low : x.generation ≤ length x.account.sets = x.within in
+    let up : length x.account.sets ≤ length b.0.sets = b.3 in
+    record {
+      set = x.set;
+      is = x.is;
+      pw_is = x.pw_is;
+      cost_is = x.cost_is;
+      nonce_is = x.nonce_is;
+      number = x.number;
+      account = b.0;
+      at = b.1;
+      own = b.2 ∙ x.own;
+      generation = x.generation;
+      within = omega arith;
+      token_is = x.token_is;
     }
 
 module _ (one_token : HasOneToken) (secret : Bytes) (w : World) (server : Rows) (s later : Ideal) (h : Holds secret w s) (f : ServerFrame secret w server s later) where
@@ -120,8 +146,8 @@ module _ (one_token : HasOneToken) (secret : Bytes) (w : World) (server : Rows) 
             (token_still secret s.accounts later.accounts (device_named s m.device) token f.accounts x.of_device);
         known = known_still (greatest 0 (stamps_in s.accounts)) (greatest 0 (stamps_in later.accounts)) items f.last x.known;
         live = λ n session.
-            live_still w.server server (w.devices m.device) n (greatest 0 (stamps_in s.accounts)) items (f.live (w.devices m.device) n) x.known
-            (x.live n (f.session m.device token n x.of_device session));
+            live_still w.server server (w.devices m.device) s.accounts later.accounts n (greatest 0 (stamps_in s.accounts)) items
+            (f.live m.device token n x.of_device session (w.devices m.device)) x.known (x.live n (f.session m.device token n x.of_device session));
       }
 
   -- no device has pulled what is new
@@ -157,15 +183,15 @@ module _ (one_token : HasOneToken) (secret : Bytes) (w : World) (server : Rows) 
     server_sound = f.sound;
     devices = λ name. f.shown (w.devices name) name (h.devices name);
     sound = h.sound;
-    unstale = h.unstale;
-    unasked = h.unasked;
+    older_stale = λ name. f.older_stale (w.devices name) name (h.devices name) (h.older_stale name);
     numbers = λ name. f.numbers (w.devices name) name (h.devices name) (h.numbers name);
     own_tokens = own_token;
     sync_tokens = λ name. tokens_later (w.devices name) (greatest 0 (stamps_in s.accounts)) (greatest 0 (stamps_in later.accounts)) f.last (h.sync_tokens name);
     bases_pulled = h.bases_pulled;
     pulled = pulled;
     syncs = sync_still;
-    no_change = h.no_change;
+    changes = λ m token current pw cost nonce made is.
+        change_still secret s.accounts later.accounts m.begins token pw cost nonce f.accounts (h.changes m token current pw cost nonce made is);
     registers = h.registers;
   }
 
@@ -182,20 +208,20 @@ pub record DeviceFrame (secret : Bytes) (w : World) (rows : Rows) (s later : Ide
   pub shows : ShowsDevice rows later name
   pub shows_others : (at : Rows) (other : Bytes) → other ≢ name → ShowsDevice at s other → ShowsDevice at later other
   pub sound : IsSound rows
-  pub unstale : NoneStale rows
-  pub unasked : AsksNoSet rows
+  pub older_stale : StaleOf rows later name
   pub numbers : (other : Bytes) → NumbersOf later other
   pub sync_tokens : TokensBelow rows (greatest 0 (stamps_in s.accounts))
   pub pulls : HasPulled rows s.accounts (device_named later name)
   pub own_token : (d : Device) → device_named later name ≡ Some d → DeviceToken secret rows s.accounts d
   pub tokens : (token : Bytes) → HasToken secret s.accounts (device_named s name) token → HasToken secret s.accounts (device_named later name) token
   pub live : (token : Bytes) (n : ℕ) → HasToken secret s.accounts (device_named s name) token → IsSession w.server token n → (i : Item)
-      → LiveItem (w.server (key.Item i.uuid)) (w.devices name) n i → LiveItem (w.server (key.Item i.uuid)) rows n i
+      → LiveItem (w.server (key.Item i.uuid)) (w.devices name) s.accounts n i → LiveItem (w.server (key.Item i.uuid)) rows s.accounts n i
 
-live_all : (server rows now : Rows) (n : ℕ) (items : List Item) → ((i : Item) → LiveItem (server (key.Item i.uuid)) rows n i → LiveItem (server (key.Item i.uuid)) now n i)
-    → LiveItems server rows n items → LiveItems server now n items
-live_all server rows now n [] f h = tt
-live_all server rows now n (i ∷ items) f h = (f i h.0, live_all server rows now n items f h.1)
+live_all : (server rows now : Rows) (accounts : List Account) (n : ℕ) (items : List Item)
+    → ((i : Item) → LiveItem (server (key.Item i.uuid)) rows accounts n i → LiveItem (server (key.Item i.uuid)) now accounts n i)
+    → LiveItems server rows accounts n items → LiveItems server now accounts n items
+live_all server rows now accounts n [] f h = tt
+live_all server rows now accounts n (i ∷ items) f h = (f i h.0, live_all server rows now accounts n items f h.1)
 
 module _ (secret : Bytes) (w next : World) (s later : Ideal) (name : Bytes) (changes : List Change) (h : Holds secret w s)
     (on : OnDevice w next name changes) (f : DeviceFrame secret w (rows_after (w.devices name) changes) s later name) where
@@ -228,7 +254,7 @@ module _ (secret : Bytes) (w next : World) (s later : Ideal) (name : Bytes) (cha
   sync_after token items m made is = record {
     of_device = of_accounts (λ accounts. HasToken secret accounts (device_named later m.device) token) token_after;
     known = of_accounts (λ accounts. Each (KnownBelow (greatest 0 (stamps_in accounts))) items) x.known;
-    live = λ n session. items_after n session (x.live n session);
+    live = λ n session. of_accounts (λ accounts. LiveItems w.server (next.devices m.device) accounts n items) (items_after n session (x.live n session));
   }
     where
       x : HoldsSync secret w.server (w.devices m.device) s m.device token items
@@ -239,10 +265,22 @@ module _ (secret : Bytes) (w next : World) (s later : Ideal) (name : Bytes) (cha
           of_each (λ o r. HasToken secret s.accounts (device_named s o) token → HasToken secret s.accounts (device_named later o) token) (f.tokens token)
           (λ o apart k. subst (λ (found : Option Device). HasToken secret s.accounts found token) (sym (f.others o apart)) k) m.device x.of_device
 
-      items_after : (n : ℕ) → IsSession w.server token n → LiveItems w.server (w.devices m.device) n items → LiveItems w.server (next.devices m.device) n items
+      items_after : (n : ℕ) → IsSession w.server token n → LiveItems w.server (w.devices m.device) s.accounts n items
+          → LiveItems w.server (next.devices m.device) s.accounts n items
       items_after n session =
-          of_each (λ o r. HasToken secret s.accounts (device_named s o) token → LiveItems w.server (w.devices o) n items → LiveItems w.server r n items)
-          (λ t. live_all w.server (w.devices name) rows n items (f.live token n t session)) (λ o apart t k. k) m.device x.of_device
+          of_each (λ o r. HasToken secret s.accounts (device_named s o) token → LiveItems w.server (w.devices o) s.accounts n items
+          → LiveItems w.server r s.accounts n items)
+          (λ t. live_all w.server (w.devices name) rows s.accounts n items (f.live token n t session)) (λ o apart t k. k) m.device x.of_device
+
+  stale_after : (other : Bytes) → StaleOf (next.devices other) later other
+  stale_after = of_each (λ o r. StaleOf r later o) f.older_stale (λ o apart. others_stale o apart)
+    where
+      others_stale : (o : Bytes) → o ≢ name → StaleOf (w.devices o) later o
+      others_stale o apart d a has =
+          h.older_stale o d a (record {
+            device = sym (f.others o apart) ∙ has.device;
+            account = subst (λ (xs : List Account). find (is_account d.account) xs ≡ Some a) f.accounts has.account;
+          })
 
   pub device_kept : Holds secret next later
   device_kept =
@@ -255,8 +293,7 @@ module _ (secret : Bytes) (w next : World) (s later : Ideal) (name : Bytes) (cha
         server_sound = h.server_sound;
         devices = of_each (λ o r. ShowsDevice r later o) f.shows (λ o apart. f.shows_others (w.devices o) o apart (h.devices o));
         sound = of_each (λ o r. IsSound r) f.sound (λ o apart. h.sound o);
-        unstale = of_each (λ o r. NoneStale r) f.unstale (λ o apart. h.unstale o);
-        unasked = of_each (λ o r. AsksNoSet r) f.unasked (λ o apart. h.unasked o);
+        older_stale = stale_after;
         numbers = f.numbers;
         own_tokens = own_tokens;
         sync_tokens = λ other.
@@ -268,7 +305,8 @@ module _ (secret : Bytes) (w next : World) (s later : Ideal) (name : Bytes) (cha
             (of_each (λ o r. PulledTo r s.accounts (device_named later o)) f.pulls.1
             (λ o apart. subst (λ (found : Option Device). PulledTo (w.devices o) s.accounts found) (sym (f.others o apart)) (h.pulled o)) other);
         syncs = λ m token items made is. sync_after token items m made is;
-        no_change = h.no_change;
+        changes = λ m token current pw cost nonce made is.
+            of_accounts (λ accounts. HoldsChange secret accounts m.begins token pw cost nonce) (h.changes m token current pw cost nonce made is);
         registers = h.registers;
       })
 
@@ -281,14 +319,16 @@ SentAlike local now = (now.uuid ≡ local.uuid) × (now.kind ≡ local.kind) × 
 abbrev pub KeepsPosted : Rows → Rows → Type 0
 KeepsPosted rows now = (number : ℕ) (local : LocalItem) → HasLocal rows number local → local.posted ≢ None → (l : LocalItem) × HasLocal now number l × SentAlike local l
 
-pub live_kept : (rows now : Rows) → KeepsPosted rows now → (found : Option Value) (n : ℕ) (i : Item) → LiveItem found rows n i → LiveItem found now n i
-live_kept rows now keeps found n i (inl x) = inl x
-live_kept rows now keeps found n i (inr (inl x)) = inr (inl x)
-live_kept rows now keeps found n i (inr (inr (inl x))) = inr (inr (inl x))
-live_kept rows now keeps found n i (inr (inr (inr x))) =
+pub live_kept : (rows now : Rows) → KeepsPosted rows now → (found : Option Value) (accounts : List Account) (n : ℕ) (i : Item)
+    → LiveItem found rows accounts n i → LiveItem found now accounts n i
+live_kept rows now keeps found accounts n i (inl x) = inl x
+live_kept rows now keeps found accounts n i (inr (inl x)) = inr (inl x)
+live_kept rows now keeps found accounts n i (inr (inr (inl x))) = inr (inr (inl x))
+live_kept rows now keeps found accounts n i (inr (inr (inr (inr x)))) = inr (inr (inr (inr x)))
+live_kept rows now keeps found accounts n i (inr (inr (inr (inl x)))) =
     let some : x.local.posted ≢ None = λ none. let is : x.local.posted ≡ Some x.posted = x.posted_is in cc in
     let l = keeps x.number x.local x.stands some in
-    inr (inr (inr (record {
+    inr (inr (inr (inl (record {
       number = x.number;
       local = l.0;
       stands = l.1;
@@ -298,4 +338,4 @@ live_kept rows now keeps found n i (inr (inr (inr x))) =
       posted = x.posted;
       posted_is = l.2.3 ∙ x.posted_is;
       body_is = x.body_is;
-    })))
+    }))))

@@ -1,9 +1,9 @@
 -- How the honest server answers what a device sends: for want of stamps alone it refuses; else the answer passes the device's checks and isn't more than
 -- it can commit.
-use Rattle.std.proofs.Common.{◌≡◌, ◌⊎◌, ◌+◌, ◌≤◌, ℕ, List, length, Option, None, refl, sym, ap, ◌∙◌, subst, inl, inr, ⊎_elim, arith}
+use Rattle.std.proofs.Common.{◌≡◌, ◌⊎◌, ◌+◌, ◌≤◌, ℕ, List, length, Option, None, true, refl, sym, ap, ◌∙◌, subst, inl, inr, ⊎_elim, arith}
 use Rattle.std.specs.List.{Contains}
 use Rattle.rand_chacha.specs.ChaCha.{ChaCha}
-use Rattle.sn_account.proofs.AccountUuids.{IsUuidText-account}
+use Rattle.sn_account.proofs.Facts.{IsUuidText-account}
 use Rattle.sn_account.specs.Rule.{Rule}
 use Rattle.sn_account.specs.Sound.{IsSound as IsSoundServer}
 use Rattle.sn_account.specs.Syncs.{IsStampOf}
@@ -37,20 +37,22 @@ use Rattle.sn_sync.specs.declared.request.Request.TheVariants as request
 use Rattle.sn_world.proofs.AnswerCounts.{IsSynced, OutOfStamps, all_told_count, rule_answers}
 use Rattle.sn_world.proofs.AnswerLists.{zip_length}
 use Rattle.sn_world.proofs.AnswerPage.{few_retrieved, goes_on, page_weight, retrieved_right, weigh_all}
-use Rattle.sn_world.proofs.AnswerPasses.{answer_passes, never_long, posted_strings, short_strings}
+use Rattle.sn_world.proofs.AnswerPasses.{answer_passes, as_posted, never_long, posted_strings, short_strings}
 use Rattle.sn_world.proofs.AskLemmas.{made_of, made_world, makes_so, served_world, serves_so}
 use Rattle.sn_world.proofs.Batches.{applied_fit}
 use Rattle.sn_world.proofs.CallLemmas.{Stands}
 use Rattle.sn_world.proofs.DeviceRows.{one_owner}
 use Rattle.sn_world.proofs.Lists.{of_each}
-use Rattle.sn_world.proofs.OneHeld.{holder_at, no_older, present_session, stamp_below}
+use Rattle.sn_world.proofs.OneHeld.{alive_session, holder_at, stamp_below}
+use Rattle.sn_world.proofs.PlainEnds.{IsPlainDevice}
 use Rattle.sn_world.proofs.RoundLemmas.{RoundLaws}
 use Rattle.sn_world.proofs.TakenSizes.{kept_weight}
 use Rattle.sn_world.specs.Applying.{Tells}
 use Rattle.sn_world.specs.Fitting.{FitsUuids}
+use Rattle.sn_world.specs.Happens.{serves}
 use Rattle.sn_world.specs.Holds.{DeviceToken, Holds, TokensDiffer}
-use Rattle.sn_world.specs.Making.{HasTokens, IsPostedOf, MakesOf, SendsTokens}
-use Rattle.sn_world.specs.Serving.{Serves, moves_for}
+use Rattle.sn_world.specs.Making.{HasTokens, IsSentOf, MakesOf, SendsTokens}
+use Rattle.sn_world.specs.Serving.{SaysServed, Serves}
 use Rattle.sn_world.specs.World.{Made, World}
 
 -- a device sends 150 items at most
@@ -64,7 +66,8 @@ few_items chosen items sent few =
     omega arith
 
 module _ (laws : RoundLaws) (rise : VersionsRise) (one_stamp : HasOneStamp) (secret : Bytes) (differ : TokensDiffer secret) (name : Bytes) (v : World) (t : Ideal)
-    (server ready : Rows) (k : Stands secret name v t server ready) (owner : OwnerRow) (owned : HasOwner ready owner) (items : List Item) where
+    (server ready : Rows) (k : Stands secret name v t server ready) (plain : IsPlainDevice v t name) (owner : OwnerRow) (owned : HasOwner ready owner)
+    (items : List Item) where
   abbrev pub sync_of : Request
   sync_of = request.Sync owner.token items most_retrieved (token_of owner.sync_token) (token_of owner.cursor_token)
 
@@ -72,19 +75,21 @@ module _ (laws : RoundLaws) (rise : VersionsRise) (one_stamp : HasOneStamp) (sec
   own = ap (λ (z : Rows). z key.Owner) k.device_is ∙ owned
 
   module _ (of : MakesOf ready None sync_of) (few : length items ≤ 150) where
-    posted : Each (IsPostedOf (v.devices name)) items
-    posted = subst (λ (z : Rows). Each (IsPostedOf z) items) (sym k.device_is) of.from
+    sent : Each (IsSentOf (v.devices name)) items
+    sent = subst (λ (z : Rows). Each (IsSentOf z) items) (sym k.device_is) of.from
 
     short : (i : Item) → Contains items i → AreShort (strings_in i.body)
     short i among =
         let whose = holder_at secret v t k.holds name owner own in
         let holder = holder_of (v.devices name) t name whose.0 whose.1 (k.holds.devices name) whose.2 in
-        short_strings i (posted_strings secret v t k.holds name whose.0 whose.1 holder i (of_each (IsPostedOf (v.devices name)) items posted i among))
+        short_strings i
+        (posted_strings secret v t k.holds name whose.0 whose.1 holder i
+        (as_posted (v.devices name) plain.fresh i (of_each (IsSentOf (v.devices name)) items sent i among)))
 
     pub honest : (now : ℕ) (changes : List Change) (given : Answer) → Rule server sync_of now changes given
         → OutOfStamps server owner.token items now changes given ⊎ IsSynced server owner.token items most_retrieved now changes given
     honest now changes given rule =
-        let session = present_session secret v t k.holds name owner laws.apart own in
+        let session = alive_session secret v t k.holds name owner laws.apart own plain.last in
         let below = k.holds.sync_tokens name owner own in
         let sync = stamp_below (token_of owner.sync_token) _ below.0 in
         let cursor = cursor_of below.1 sync in
@@ -106,9 +111,6 @@ module _ (laws : RoundLaws) (rise : VersionsRise) (one_stamp : HasOneStamp) (sec
       abbrev m : Made
       m = made_of name None sync_of
 
-      abbrev first : List Move
-      first = moves_for v.server name None sync_of changes
-
       abbrev last : World
       last = served_world v m changes
 
@@ -118,15 +120,21 @@ module _ (laws : RoundLaws) (rise : VersionsRise) (one_stamp : HasOneStamp) (sec
       serving : Serves (made_world v m) last m now changes (answer.Sync conflicts cursor retrieved saved token)
       serving = serves_so v m server now changes (answer.Sync conflicts cursor retrieved saved token) k.server_is fits rule
 
+      said : (moves : List Move) × SaysServed v.server (v.devices name) m changes moves
+      said = laws.says secret (made_world v m) last t (serves m now changes (answer.Sync conflicts cursor retrieved saved token) true) made serving
+
+      abbrev first : List Move
+      first = said.0
+
       served_holds : Holds secret last (end_from t first)
       served_holds =
-          (laws.serve secret (made_world v m) last t m now changes (answer.Sync conflicts cursor retrieved saved token) first differ made serving refl).1
+          (laws.serve secret (made_world v m) last t m now changes (answer.Sync conflicts cursor retrieved saved token) first differ made serving said.1).1
 
       tells : Tells last.server (last.devices name) (end_from t first) name items conflicts cursor retrieved saved token
       tells =
           laws.tells secret (made_world v m) last t m owner.token items now changes first conflicts cursor retrieved saved token differ made
-          (record { limit = most_retrieved; sync_token = token_of owner.sync_token; cursor_token = token_of owner.cursor_token; is = refl }) posted
-          (subst (λ (z : Rows). HasTokens z (token_of owner.sync_token) (token_of owner.cursor_token)) (sym k.device_is) tokens) apart serving refl
+          (record { limit = most_retrieved; sync_token = token_of owner.sync_token; cursor_token = token_of owner.cursor_token; is = refl }) sent
+          (subst (λ (z : Rows). HasTokens z (token_of owner.sync_token) (token_of owner.cursor_token)) (sym k.device_is) tokens) apart serving said.1
 
       sound : IsSoundServer server
       sound = subst IsSoundServer k.server_is (k.holds.server_sound y.store (ap (λ (z : Rows). z key.Store) k.server_is ∙ y.stands))
@@ -149,12 +157,13 @@ module _ (laws : RoundLaws) (rise : VersionsRise) (one_stamp : HasOneStamp) (sec
 
       pub heard_passes : Passes items saved conflicts retrieved cursor
       heard_passes =
-          answer_passes laws.apart rise one_stamp secret last (end_from t first) served_holds name items conflicts cursor retrieved saved token tells
-          page_right page_on
+          answer_passes laws.apart rise one_stamp secret last (end_from t first) served_holds name items conflicts cursor retrieved saved token plain.fresh
+          tells page_right page_on
 
       pub heard_short : (word : Bytes) → HasLongToken cursor token word → ⊥
       heard_short word long =
-          never_long laws.apart rise one_stamp secret last (end_from t first) served_holds name items conflicts cursor retrieved saved token tells word long
+          never_long laws.apart rise one_stamp secret last (end_from t first) served_holds name items conflicts cursor retrieved saved token plain.fresh
+          tells word long
 
       few_told : length saved + length conflicts ≤ 150
       few_told =
@@ -184,6 +193,6 @@ module _ (laws : RoundLaws) (rise : VersionsRise) (one_stamp : HasOneStamp) (sec
       pub heard_fits : (words left : ChaCha) (applied : List Change) → FitsUuids ready
           → Applies ready words items conflicts cursor retrieved saved token applied left → IsBatch applied
       heard_fits words left applied have x =
-          let none = no_older secret v t k.holds name x.owner x.sets (subst (λ (z : Rows). HasSets z x.owner x.sets) (sym k.device_is) x.holds) in
+          let none = plain.no_older x.owner x.sets (subst (λ (z : Rows). HasSets z x.owner x.sets) (sym k.device_is) x.holds) in
           applied_fit ready words left items conflicts cursor retrieved saved token applied x (kept_weight x.sets none) have (account_length x.owner x.holds.owned)
           few_told few_page light_page

@@ -2,66 +2,77 @@
 use Rattle.std.proofs.Common.{◌≡◌, ◌≢◌, ◌⊎◌, ◌<◌, ◌≤◌, ℕ, List, [], ◌∷◌, ◌++◌, length, Option, Some, Bool, true, false, refl, sym, ap, ◌∙◌, subst, inl, inr, ⊎_elim, arith, append_assoc}
 use mathlib.Core.Path.{fun_ext}
 use Rattle.std.proofs.lemmas.List.{append-nil}
-use Rattle.std.specs.Prelude.{◌==◌}
 use Rattle.std.specs.Str.{bytes_eq}
-use Rattle.sn_account.specs.Incoming.{IsAbsent, IsFree, IsHeld, Names, Progress, SameVersion, Takes, TakesAll, stamp_of}
+use Rattle.sn_account.specs.Incoming.{IsAbsent, IsFree, IsHeld, Names, Progress, SameVersion, Takes, TakesAll, TakesNew, stamp_of}
 use Rattle.sn_account.specs.Incoming.{PutsVersion as RulePuts}
-use Rattle.sn_rows.specs.Table.{Puts}
-use Rattle.sn_laws.proofs.Facts.{end_from-append, number_same, same_number, same_text}
+use Rattle.sn_account.specs.Lookups.{HasItem}
+pub use Rattle.sn_changed.proofs.Facts.{apart_numbers}
+use Rattle.sn_changed.specs.Leaves.{with_version}
+use Rattle.sn_laws.proofs.Facts.{clash, end_from-append, same_text, text_same}
 use Rattle.sn_laws.specs.Each.{Each}
-use Rattle.sn_laws.specs.Lookups.{Bytes, greatest}
+use Rattle.sn_laws.specs.Lookups.{Bytes, account_named, greatest}
 use Rattle.sn_laws.specs.Moves.{after}
 use Rattle.sn_laws.specs.Runs.{LegalFrom, end_from}
 use Rattle.sn_laws.specs.declared.ideal.Account.{Account}
 use Rattle.sn_laws.specs.declared.ideal.Device.{Device}
 use Rattle.sn_laws.specs.declared.ideal.Ideal.{Ideal}
 use Rattle.sn_laws.specs.declared.moves.Move.{Move}
-use Rattle.sn_laws.specs.declared.moves.Move.TheVariants.{Accept}
-use Rattle.sn_rows.specs.Table.{Rows, rows_after}
+use Rattle.sn_rows.specs.Facts.{put_apart, put_here, row_after-append}
+use Rattle.sn_rows.specs.Table.{Puts, Rows, rows_after}
 use Rattle.sn_rows.specs.declared.change.Change.{Change}
 use Rattle.sn_rows.specs.declared.key.Key.TheVariants as key
 use Rattle.sn_rows.specs.declared.server_rows.ItemRow.{ItemRow}
 use Rattle.sn_rows.specs.declared.value.Value.{Value}
 use Rattle.sn_rows.specs.declared.value.Value.TheVariants as value
-use Rattle.sn_string.specs.declared.params.KeySet.{KeySet}
-use Rattle.sn_string.specs.declared.params.Params.{Params}
-use Rattle.sn_sync.specs.Stamps.{last_stamp}
-use Rattle.sn_sync.specs.declared.item.Item.{Item}
-use Rattle.sn_rows.specs.Facts.{put_apart, put_here, row_after-append}
-use Rattle.sn_world.specs.Holds.{AreFew, NumbersOf}
-use Rattle.sn_world.specs.Live.{IsPosted, KnownBelow, LiveItem, LiveItems}
-use Rattle.sn_world.proofs.Alive.{IsAlive}
-use Rattle.sn_world.specs.Serving.{number_of}
-use Rattle.sn_world.proofs.Saying.{AreAccepts}
-use Rattle.sn_world.proofs.Accepting.{move_under, said_is, same_row}
-use Rattle.sn_world.proofs.Lasts.{above_last}
-use Rattle.sn_world.proofs.Steps.{Below, counted, few_after, lasts, legal, move, numbered, numbers_kept, serving, version}
-use Rattle.sn_world.proofs.ShowsLemmas.{more}
-use Rattle.sn_shows.specs.Servers.{ShowsAccounts, account_at, stamps_in}
 use Rattle.sn_shows.specs.Devices.{ShowsDevice}
+use Rattle.sn_shows.specs.Servers.{ShowsAccounts, ShowsItem, account_at, stamps_in}
+use Rattle.sn_string.specs.declared.params.Params.{Params}
+use Rattle.sn_sync.specs.declared.item.Item.{Item}
+use Rattle.sn_world.proofs.Accepting.{posted_of, same_row}
+use Rattle.sn_world.proofs.Alive.{IsAlive, IsTaken}
+use Rattle.sn_world.proofs.Becoming.{few_after, lasts, numbered, numbers_kept, rewrap_stays, same_device, stale_kept}
+use Rattle.sn_world.proofs.Deciding.{decide_sent}
 use Rattle.sn_world.proofs.Frames.{LastsBefore}
+use Rattle.sn_world.proofs.Lasts.{above_last}
+use Rattle.sn_world.proofs.Rewrapping.{rewraps}
+use Rattle.sn_world.proofs.SaidChanges.{both_say, one_says, put_says}
+use Rattle.sn_world.proofs.Steps.{Below, accepts, reached_more}
+use Rattle.sn_world.proofs.Tokens.{named_identifier}
+use Rattle.sn_world.specs.Holds.{AreFew, NumbersOf, StaleOf}
+use Rattle.sn_world.specs.Live.{IsPosted, IsRewrap, KnownBelow, LiveItem, LiveItems}
+use Rattle.sn_world.specs.Serving.{IsSentRow, SaysChanges}
 
--- what an accepted row makes of any item of any request, of this account or another
-
-pub apart_numbers : (n m : ℕ) → (n ≡ m) ⊎ (n ≢ m)
-apart_numbers n m = at (n == m) refl
-  where
-    at : (b : Bool) → (n == m) ≡ b → (n ≡ m) ⊎ (n ≢ m)
-    at true e = inl (same_number n m e)
-    at false e = inr (λ k. let t : (n == m) ≡ true = number_same n m k in cc)
-
-pub live_after : (p : Progress) (n stamp : ℕ) (i j : Item) (row : ItemRow) (change : Change) (device : Rows) (m : ℕ) → RulePuts p n stamp i row change
-    → p.last < stamp → KnownBelow p.last j → LiveItem (p.rows (key.Item j.uuid)) device m j
-    → LiveItem (rows_after p.rows (change ∷ []) (key.Item j.uuid)) device m j
-live_after p n stamp i j row change device m puts new known h = at (bytes_eq i.uuid j.uuid) refl
+-- what an accepted row makes of any item of any request, of this account or another: of another item nothing is changed; of the same one it is another account's, or it is passed
+live_after : (low : Below) (p q : Progress) (device : Rows) (s : Ideal) (name : Bytes) (n stamp : ℕ) (a : Account) (i j : Item) (row : ItemRow) (change : Change)
+    (others : Rows) (m : ℕ) → RulePuts p n stamp i row change → q.rows ≡ rows_after p.rows (change ∷ []) → p.last < stamp
+    → p.last ≡ greatest 0 (stamps_in s.accounts) → q.last ≡ stamp
+    → (x : IsTaken p q device s name n a i row) → KnownBelow p.last j → LiveItem (p.rows (key.Item j.uuid)) others s.accounts m j
+    → LiveItem (q.rows (key.Item j.uuid)) others (after s x.move).accounts m j
+live_after low p q device s name n stamp a i j row change others m puts rows_are new last_is stamp_is x known h =
+    subst (λ (r : Rows). LiveItem (r (key.Item j.uuid)) others (after s x.move).accounts m j) (sym rows_are) (at (bytes_eq i.uuid j.uuid) refl)
   where
     put : Puts change (key.Item i.uuid) (value.Item row)
     put = puts.puts
 
-    at : (b : Bool) → bytes_eq i.uuid j.uuid ≡ b → LiveItem (rows_after p.rows (change ∷ []) (key.Item j.uuid)) device m j
+    above : greatest 0 (stamps_in s.accounts) < x.version.stamp
+    above = let is : x.version.stamp ≡ q.last = x.stamp_is in omega arith
+
+    elsewhere : x.version.uuid ≢ j.uuid → LiveItem (p.rows (key.Item j.uuid)) others s.accounts m j
+        → LiveItem (p.rows (key.Item j.uuid)) others (after s x.move).accounts m j
+    elsewhere differs (inl foreign) = inl foreign
+    elsewhere differs (inr (inl same)) = inr (inl same)
+    elsewhere differs (inr (inr (inl passed))) = inr (inr (inl passed))
+    elsewhere differs (inr (inr (inr (inl posted)))) = inr (inr (inr (inl posted)))
+    elsewhere differs (inr (inr (inr (inr again)))) =
+        inr
+        (inr
+        (inr (inr (rewrap_stays low.version_lasts low.version_on_last s (after s x.move) n a x.version x.only above m j differs again))))
+
+    at : (b : Bool) → bytes_eq i.uuid j.uuid ≡ b → LiveItem (rows_after p.rows (change ∷ []) (key.Item j.uuid)) others (after s x.move).accounts m j
     at false off =
-        subst (λ (found : Option Value). LiveItem found device m j)
-        (sym (put_apart p.rows change (key.Item i.uuid) (key.Item j.uuid) (value.Item row) put off)) h
+        subst (λ (found : Option Value). LiveItem found others (after s x.move).accounts m j)
+        (sym (put_apart p.rows change (key.Item i.uuid) (key.Item j.uuid) (value.Item row) put off))
+        (elsewhere (λ e. clash (bytes_eq i.uuid j.uuid) (text_same i.uuid j.uuid (sym x.uuid_is ∙ e)) off) h)
     at true same =
         let there : rows_after p.rows (change ∷ []) (key.Item j.uuid) ≡ Some (value.Item row) =
         subst (λ (u : Bytes). rows_after p.rows (change ∷ []) (key.Item u) ≡ Some (value.Item row)) (same_text i.uuid j.uuid same)
@@ -79,22 +90,22 @@ live_after p n stamp i j row change device m puts new known h = at (bytes_eq i.u
         (λ (other : row.account ≢ m). inl (row, there, other))
         (apart_numbers row.account m)
 
--- where an item may be accepted, only the device's own row makes it live
-free_is_posted : (p : Progress) (device : Rows) (n : ℕ) (present : Params) (i : Item) → LiveItem (p.rows (key.Item i.uuid)) device n i
-    → IsFree p n present i → IsPosted device i
-free_is_posted p device n present i (inl (row, there, other)) free =
+-- where an item may be accepted, only the device's own row makes it live, or it is the last version, sealed again
+free_is_live : (p : Progress) (device : Rows) (accounts : List Account) (n : ℕ) (present : Params) (i : Item)
+    → LiveItem (p.rows (key.Item i.uuid)) device accounts n i → IsFree p n present i → IsPosted device i ⊎ IsRewrap accounts n i
+free_is_live p device accounts n present i (inl (row, there, other)) free =
     ⊎_elim (λ (absent : IsAbsent p.rows i.uuid). absurd (absent row there))
     (λ (held : (r : ItemRow) × IsHeld p n i r × ¬ (SameVersion r i) × Names i r).
     absurd (other (ap (λ (r : ItemRow). r.account) (same_row row held.0 (p.rows (key.Item i.uuid)) there held.1.0) ∙ held.1.1))) free.0
-free_is_posted p device n present i (inr (inl (row, there, own, same))) free =
+free_is_live p device accounts n present i (inr (inl (row, there, own, same))) free =
     ⊎_elim (λ (absent : IsAbsent p.rows i.uuid). absurd (absent row there))
     (λ (held : (r : ItemRow) × IsHeld p n i r × ¬ (SameVersion r i) × Names i r).
     absurd (held.2 (subst (λ (r : ItemRow). SameVersion r i) (same_row row held.0 (p.rows (key.Item i.uuid)) there held.1.0) same))) free.0
-free_is_posted p device n present i (inr (inr (inl (row, there, own, not_named)))) free =
+free_is_live p device accounts n present i (inr (inr (inl (row, there, own, not_named)))) free =
     ⊎_elim (λ (absent : IsAbsent p.rows i.uuid). absurd (absent row there))
     (λ (held : (r : ItemRow) × IsHeld p n i r × ¬ (SameVersion r i) × Names i r).
     absurd (not_named (subst (λ (r : ItemRow). Names i r) (sym (same_row row held.0 (p.rows (key.Item i.uuid)) there held.1.0)) held.3))) free.0
-free_is_posted p device n present i (inr (inr (inr x))) free = x
+free_is_live p device accounts n present i (inr (inr (inr x))) free = x
 
 -- after some items: the moves are those of the changes made, and what was live is live
 pub record Ran (p q : Progress) (device : Rows) (s : Ideal) (name : Bytes) (n : ℕ) (a : Account) (d : Device) : Type 0 where
@@ -102,7 +113,7 @@ pub record Ran (p q : Progress) (device : Rows) (s : Ideal) (name : Bytes) (n : 
   pub legal : LegalFrom s moves
   pub made : List Change
   pub changes : q.changes ≡ p.changes ++ made
-  pub says : AreAccepts name n (length a.sets) made moves
+  pub says : SaysChanges p.rows device name made moves
   pub account : Account
   pub sets : account.sets ≡ a.sets
   pub serving : IsAlive q device (end_from s moves) name n account d
@@ -116,8 +127,10 @@ pub record Ran (p q : Progress) (device : Rows) (s : Ideal) (name : Bytes) (n : 
   pub counted : length (end_from s moves).accounts ≡ length s.accounts
   pub few : AreFew s.accounts → AreFew (end_from s moves).accounts
   pub later : p.last ≤ q.last
+  pub stale : (others : Rows) (other : Bytes) → StaleOf others s other → StaleOf others (end_from s moves) other
   pub lasts : LastsBefore s.accounts (end_from s moves).accounts
-  pub live : (j : Item) (rows : Rows) (m : ℕ) → KnownBelow p.last j → LiveItem (p.rows (key.Item j.uuid)) rows m j → LiveItem (q.rows (key.Item j.uuid)) rows m j
+  pub live : (j : Item) (rows : Rows) (m : ℕ) → KnownBelow p.last j → LiveItem (p.rows (key.Item j.uuid)) rows s.accounts m j
+      → LiveItem (q.rows (key.Item j.uuid)) rows (end_from s moves).accounts m j
 
 stays : (p q : Progress) (device : Rows) (s : Ideal) (name : Bytes) (n : ℕ) (a : Account) (d : Device) → IsAlive p device s name n a d → q.rows ≡ p.rows
     → q.last ≡ p.last → q.changes ≡ p.changes → Ran p q device s name n a d
@@ -126,7 +139,7 @@ stays p q device s name n a d v rows last changes = record {
   legal = tt;
   made = [];
   changes = changes ∙ sym (append-nil p.changes);
-  says = tt;
+  says = refl;
   account = a;
   sets = refl;
   serving = record {
@@ -136,6 +149,7 @@ stays p q device s name n a d v rows last changes = record {
     at = v.at;
     has = v.has;
     rows = v.rows;
+    sound = v.sound;
     alive = v.alive;
     numbers = v.numbers;
   };
@@ -148,56 +162,100 @@ stays p q device s name n a d v rows last changes = record {
   counted = refl;
   few = λ f. f;
   later = omega arith;
+  stale = λ others other h. h;
   lasts = λ m b uuid y at found within. (b, at, refl, found);
-  live = λ j others m known h. subst (λ (r : Rows). LiveItem (r (key.Item j.uuid)) others m j) (sym rows) h;
+  live = λ j others m known h. subst (λ (r : Rows). LiveItem (r (key.Item j.uuid)) others s.accounts m j) (sym rows) h;
 }
 
-accepts : (low : Below) (p q : Progress) (device : Rows) (s : Ideal) (name : Bytes) (n now : ℕ) (present : Params) (a : Account) (d : Device) (i : Item)
-    → IsAlive p device s name n a d → IsPosted device i → IsFree p n present i → stamp_of now p.last ≤ last_stamp
-    → (row : ItemRow) (change : Change) → RulePuts p n (stamp_of now p.last) i row change
-    → q.rows ≡ rows_after p.rows (change ∷ []) → q.last ≡ stamp_of now p.last → q.changes ≡ p.changes ++ change ∷ [] → Ran p q device s name n a d
-accepts low p q device s name n now present a d i v x free within row change puts rows last changes =
-    let above : p.last < stamp_of now p.last = above_last now p.last in
-    let number = said_is p device s name n now present a d i low.one_stamp v x free row change puts in
-    record {
-      moves = move low p device s name n now present a d i v x free within row change puts ∷ [];
-      legal = (legal low p device s name n now present a d i v x free within row change puts, tt);
-      made = change ∷ [];
-      changes = changes;
-      says = (
-        (
-          i.uuid,
-          row,
-          puts.puts,
-          puts.account,
-          ap (λ (k : Option ℕ). Accept name i.uuid (stamp_of now p.last) k) number
-              ∙ ap (λ (k : ℕ). Accept name i.uuid k (number_of row.deleted (length a.sets))) (sym puts.updated),
-        ),
-        tt,
-      );
-      account = more (version low p device s name n now present a d i v x free within row change puts) a;
-      sets = refl;
-      serving = serving low p device s name n now present a d i v x free within row change puts q rows last;
-      rows = rows;
-      spares = λ k. ap (λ (r : Rows). r (key.Account k)) rows
-          ∙ put_apart p.rows change (key.Item i.uuid) (key.Account k) (value.Item row) puts.puts refl;
-      devices = refl;
-      keeps = λ others other h. low.keeps others s other name i.uuid (stamp_of now p.last) (move_under p device s name n now present a d i low.one_stamp v x free) h;
-      numbers = numbers_kept low p device s name n now present a d i v x free within row change puts;
-      numbered = numbered low p device s name n now present a d i v x free within row change puts;
-      few = few_after low p device s name n now present a d i v x free within row change puts;
-      counted = counted low p device s name n now present a d i v x free within row change puts;
-      later = omega arith;
-      lasts = lasts low p device s name n now present a d i v x free within row change puts;
-      live = λ j others m known h.
-          subst (λ (r : Rows). LiveItem (r (key.Item j.uuid)) others m j) (sym rows)
-          (live_after p n (stamp_of now p.last) i j row change others m puts above known h);
-    }
+-- one that is taken
+
+taken : (low : Below) (p q : Progress) (device : Rows) (s : Ideal) (name : Bytes) (n now : ℕ) (a : Account) (d : Device) (i : Item)
+    → IsAlive p device s name n a d → (row : ItemRow) (change : Change) → RulePuts p n (stamp_of now p.last) i row change
+    → q.rows ≡ rows_after p.rows (change ∷ []) → q.last ≡ stamp_of now p.last → q.changes ≡ p.changes ++ change ∷ []
+    → IsTaken p q device s name n a i row → Ran p q device s name n a d
+taken low p q device s name n now a d i v row change puts rows last changes x = record {
+  moves = x.move ∷ [];
+  legal = (x.legal, tt);
+  made = change ∷ [];
+  changes = changes;
+  says = one_says p.rows device name change (x.move ∷ [])
+      (put_says p.rows device name change (key.Item i.uuid) (value.Item row) (x.move ∷ []) puts.puts x.says);
+  account = with_version x.version a;
+  sets = refl;
+  serving = record {
+    reached = reached_more s x.move v.reached x.legal;
+    accounts = x.shows;
+    last = x.last;
+    at = x.only.is;
+    has = record { device = same_device s later x.only.drafts x.only.devices name ∙ v.has.device; account = named };
+    rows = x.keeps device name v.rows;
+    sound = v.sound;
+    alive = v.alive;
+    numbers = numbers_kept low.version_lasts low.version_on_last s later n a x.version x.only above device name v.rows v.numbers;
+  };
+  rows = rows;
+  spares = λ k. ap (λ (r : Rows). r (key.Account k)) rows
+      ∙ put_apart p.rows change (key.Item i.uuid) (key.Account k) (value.Item row) puts.puts refl;
+  devices = x.only.devices;
+  keeps = x.keeps;
+  numbers = numbers_kept low.version_lasts low.version_on_last s later n a x.version x.only above;
+  numbered = λ m b at. let c = numbered low.version_lasts low.version_on_last s later n a x.version x.only above m b at in (c.0, c.1, c.2, c.3);
+  few = few_after low.version_lasts low.version_on_last s later n a x.version x.only above;
+  counted = x.only.counted;
+  later = let up : p.last < stamp_of now p.last = new in omega arith;
+  stale = stale_kept low.version_lasts low.version_on_last s later n a x.version x.only above;
+  lasts = lasts low.version_lasts low.version_on_last s later n a x.version x.only above;
+  live = λ j others m known h. live_after low p q device s name n (stamp_of now p.last) a i j row change others m puts rows new v.last last x known h;
+}
+  where
+    later : Ideal
+    later = after s x.move
+
+    new : p.last < stamp_of now p.last
+    new = above_last now p.last
+
+    above : greatest 0 (stamps_in s.accounts) < x.version.stamp
+    above =
+        let up : p.last < stamp_of now p.last = new in
+        let from : p.last ≡ greatest 0 (stamps_in s.accounts) = v.last in
+        let is : x.version.stamp ≡ q.last = x.stamp_is in
+        omega arith
+
+    identifier_is : d.account ≡ a.identifier
+    identifier_is = sym (named_identifier s d.account a v.has.account)
+
+    named : account_named later d.account ≡ Some (with_version x.version a)
+    named = subst (λ (t : Bytes). account_named later t ≡ Some (with_version x.version a)) (sym identifier_is) x.only.is_named
 
 -- one item
 
+-- the device's row decides which move it is
+takes_new : (low : Below) (p q : Progress) (device : Rows) (s : Ideal) (name : Bytes) (n now : ℕ) (present : Params) (a : Account) (d : Device) (i : Item)
+    → IsAlive p device s name n a d → (new : TakesNew present now n p i q) → (row : ItemRow) (change : Change) → RulePuts p n (stamp_of now p.last) i row change
+    → q.rows ≡ rows_after p.rows (change ∷ []) → q.last ≡ stamp_of now p.last
+    → IsPosted device i ⊎ IsRewrap s.accounts n i → IsTaken p q device s name n a i row
+takes_new low p q device s name n now present a d i v new row change puts rows last (inl x) =
+    accepts low p q device s name n now present a d i v x new.0 new.1 row change puts rows last
+takes_new low p q device s name n now present a d i v new row change puts rows last (inr x) =
+    ⊎_elim
+    (λ (sent : IsSentRow (p.rows (key.Item i.uuid)) device i.uuid row).
+    accepts low p q device s name n now present a d i v
+    (posted_of p device n (stamp_of now p.last) i held.0 row change held.1.0 held.1.1 puts sent) new.0 new.1 row change puts rows last)
+    (λ (unsent : ¬ (IsSentRow (p.rows (key.Item i.uuid)) device i.uuid row)).
+    rewraps low p q device s name n now present a d i v x new row change puts last unsent)
+    (decide_sent (p.rows (key.Item i.uuid)) device i.uuid row v.sound)
+  where
+    its : ShowsItem p.rows n x.account i.uuid x.version
+    its = (v.accounts.each n x.account x.at).items i.uuid x.version x.last
+
+    -- its last version has a row, which it names
+    held : (row : ItemRow) × (HasItem p.rows i.uuid row × Names i row)
+    held =
+        ⊎_elim (λ (absent : IsAbsent p.rows i.uuid). absurd (absent its.row its.stands))
+        (λ (h : (r : ItemRow) × IsHeld p n i r × ¬ (SameVersion r i) × Names i r). (h.0, (h.1.0, h.3))) new.0.0
+
 takes : (low : Below) (p q : Progress) (device : Rows) (s : Ideal) (name : Bytes) (n now : ℕ) (present : Params) (a : Account) (d : Device) (i : Item)
-    → IsAlive p device s name n a d → LiveItem (p.rows (key.Item i.uuid)) device n i → Takes present now n p i q → Ran p q device s name n a d
+    → IsAlive p device s name n a d → LiveItem (p.rows (key.Item i.uuid)) device s.accounts n i → Takes present now n p i q → Ran p q device s name n a d
 takes low p q device s name n now present a d i v h (inl (foreign, is)) =
     stays p q device s name n a d v (ap (λ (x : Progress). x.rows) is) (ap (λ (x : Progress). x.last) is) (ap (λ (x : Progress). x.changes) is)
 takes low p q device s name n now present a d i v h (inr (inl (row, given, held, same, gives, is))) =
@@ -207,8 +265,10 @@ takes low p q device s name n now present a d i v h (inr (inr (inl (row, given, 
 takes low p q device s name n now present a d i v h (inr (inr (inr (inl (stands, bad, is))))) =
     stays p q device s name n a d v (ap (λ (x : Progress). x.rows) is) (ap (λ (x : Progress). x.last) is) (ap (λ (x : Progress). x.changes) is)
 takes low p q device s name n now present a d i v h (inr (inr (inr (inr (free, within, (row, change, given, puts, gives, is)))))) =
-    accepts low p q device s name n now present a d i v (free_is_posted p device n present i h free) free within row change puts
-    (ap (λ (x : Progress). x.rows) is) (ap (λ (x : Progress). x.last) is) (ap (λ (x : Progress). x.changes) is)
+    taken low p q device s name n now a d i v row change puts (ap (λ (x : Progress). x.rows) is) (ap (λ (x : Progress). x.last) is)
+    (ap (λ (x : Progress). x.changes) is)
+    (takes_new low p q device s name n now present a d i v (free, within, (row, change, given, puts, gives, is)) row change puts
+    (ap (λ (x : Progress). x.rows) is) (ap (λ (x : Progress). x.last) is) (free_is_live p device s.accounts n present i h free))
 
 -- all of them
 
@@ -223,13 +283,6 @@ pub legal_both : (s : Ideal) (xs ys : List Move) → LegalFrom s xs → LegalFro
 legal_both s [] ys h k = k
 legal_both s (x ∷ xs) ys h k = (h.0, legal_both (after s x) xs ys h.1 k)
 
-accepts_both : (name : Bytes) (n k : ℕ) (xs ys : List Change) (ms ns : List Move) → AreAccepts name n k xs ms → AreAccepts name n k ys ns
-    → AreAccepts name n k (xs ++ ys) (ms ++ ns)
-accepts_both name n k [] ys [] ns h r = r
-accepts_both name n k [] ys (m ∷ ms) ns h r = absurd h
-accepts_both name n k (x ∷ xs) ys [] ns h r = absurd h
-accepts_both name n k (x ∷ xs) ys (m ∷ ms) ns h r = (h.0, accepts_both name n k xs ys ms ns h.1 r)
-
 then_ran : (p q r : Progress) (device : Rows) (s : Ideal) (name : Bytes) (n : ℕ) (a : Account) (d : Device) → p.last ≡ greatest 0 (stamps_in s.accounts)
     → (x : Ran p q device s name n a d) → Ran q r device (end_from s x.moves) name n x.account d → Ran p r device s name n a d
 then_ran p q r device s name n a d before x y =
@@ -241,8 +294,8 @@ then_ran p q r device s name n a d before x y =
       legal = legal_both s x.moves y.moves x.legal y.legal;
       made = x.made ++ y.made;
       changes = y.changes ∙ ap (λ (c : List Change). c ++ y.made) x.changes ∙ append_assoc p.changes x.made y.made;
-      says = accepts_both name n (length a.sets) x.made y.made x.moves y.moves x.says
-          (subst (λ (k : List KeySet). AreAccepts name n (length k) y.made y.moves) x.sets y.says);
+      says = both_say p.rows device name x.made y.made x.moves y.moves x.says
+          (subst (λ (o : Rows). SaysChanges o device name y.made y.moves) x.rows y.says);
       account = y.account;
       sets = y.sets ∙ x.sets;
       serving = subst (λ (t : Ideal). IsAlive r device t name n y.account d) (sym joined) y.serving;
@@ -259,11 +312,14 @@ then_ran p q r device s name n a d before x y =
       counted = subst (λ (t : Ideal). length t.accounts ≡ length s.accounts) (sym joined) (y.counted ∙ x.counted);
       few = λ f. subst (λ (t : Ideal). AreFew t.accounts) (sym joined) (y.few (x.few f));
       later = omega arith;
+      stale = λ others other h. subst (λ (t : Ideal). StaleOf others t other) (sym joined) (y.stale others other (x.stale others other h));
       lasts = subst (λ (t : Ideal). LastsBefore s.accounts t.accounts) (sym joined)
           (lasts_both s.accounts (end_from s x.moves).accounts (end_from (end_from s x.moves) y.moves).accounts
           (let from : p.last ≡ greatest 0 (stamps_in s.accounts) = before in
           let to : q.last ≡ greatest 0 (stamps_in (end_from s x.moves).accounts) = x.serving.last in omega arith) x.lasts y.lasts);
-      live = λ j rows m known h. y.live j rows m (λ text stamp is spelled. let low : stamp ≤ p.last = known text stamp is spelled in omega arith) (x.live j rows m known h);
+      live = λ j rows m known h.
+          subst (λ (t : Ideal). LiveItem (r.rows (key.Item j.uuid)) rows t.accounts m j) (sym joined)
+          (y.live j rows m (λ text stamp is spelled. let low : stamp ≤ p.last = known text stamp is spelled in omega arith) (x.live j rows m known h));
     }
 
 pub still_known : (p q : Progress) (items : List Item) → p.last ≤ q.last → Each (KnownBelow p.last) items → Each (KnownBelow q.last) items
@@ -271,14 +327,14 @@ still_known p q [] up h = tt
 still_known p q (i ∷ is) up h =
     (λ text stamp e spelled. let low : stamp ≤ p.last = h.0 text stamp e spelled in omega arith, still_known p q is up h.1)
 
-still_live : (p q : Progress) (device : Rows) (n : ℕ) (items : List Item)
-    → ((j : Item) → KnownBelow p.last j → LiveItem (p.rows (key.Item j.uuid)) device n j → LiveItem (q.rows (key.Item j.uuid)) device n j)
-    → Each (KnownBelow p.last) items → LiveItems p.rows device n items → LiveItems q.rows device n items
-still_live p q device n [] f known h = tt
-still_live p q device n (i ∷ is) f known h = (f i known.0 h.0, still_live p q device n is f known.1 h.1)
+still_live : (p q : Progress) (device : Rows) (accounts later : List Account) (n : ℕ) (items : List Item)
+    → ((j : Item) → KnownBelow p.last j → LiveItem (p.rows (key.Item j.uuid)) device accounts n j → LiveItem (q.rows (key.Item j.uuid)) device later n j)
+    → Each (KnownBelow p.last) items → LiveItems p.rows device accounts n items → LiveItems q.rows device later n items
+still_live p q device accounts later n [] f known h = tt
+still_live p q device accounts later n (i ∷ is) f known h = (f i known.0 h.0, still_live p q device accounts later n is f known.1 h.1)
 
 pub takes_all : (low : Below) (items : List Item) (p q : Progress) (device : Rows) (s : Ideal) (name : Bytes) (n now : ℕ) (present : Params) (a : Account) (d : Device)
-    → IsAlive p device s name n a d → Each (KnownBelow p.last) items → LiveItems p.rows device n items → TakesAll present now n p items q
+    → IsAlive p device s name n a d → Each (KnownBelow p.last) items → LiveItems p.rows device s.accounts n items → TakesAll present now n p items q
     → Ran p q device s name n a d
 takes_all low [] p q device s name n now present a d v known live t =
     stays p q device s name n a d v (ap (λ (x : Progress). x.rows) t) (ap (λ (x : Progress). x.last) t) (ap (λ (x : Progress). x.changes) t)
@@ -288,4 +344,4 @@ takes_all low (i ∷ is) p q device s name n now present a d v known live (inr (
     let ran = takes low p r device s name n now present a d i v live.0 first in
     then_ran p r q device s name n a d v.last ran
     (takes_all low is r q device (end_from s ran.moves) name n now present ran.account d ran.serving (still_known p r is ran.later known.1)
-    (still_live p r device n is (λ j k h. ran.live j device n k h) known.1 live.1) rest)
+    (still_live p r device s.accounts (end_from s ran.moves).accounts n is (λ j k h. ran.live j device n k h) known.1 live.1) rest)

@@ -27,14 +27,15 @@ use Rattle.sn_shows.proofs.Facts.{holder_of}
 use Rattle.sn_shows.specs.Devices.{ShowsDrafted, ShowsPosted}
 use Rattle.sn_shows.specs.Laws.{HasAccount, PostKeeps, PostedShows, PutsPosted}
 use Rattle.sn_shows.specs.Servers.{stamps_in}
-use Rattle.sn_world.proofs.DeviceRows.{first_change, one_local, owner_past, posted_put, then_others, sync_tokens_same, token_same, unasked_local, unstale_put, with_device, with_own}
+use Rattle.sn_world.proofs.DeviceRows.{first_change, one_local, owner_past, posted_put, then_others, sync_tokens_same, token_same, with_device, with_own}
 use Rattle.sn_world.proofs.DeviceSets.{account_is}
 use Rattle.sn_world.proofs.Frames.{DeviceFrame, device_kept, live_kept}
+use Rattle.sn_world.proofs.HeldSets.{stale_kept}
 use Rattle.sn_world.proofs.Pulls.{alike_row, pulls_kept}
 use Rattle.sn_world.proofs.ShowsLemmas.{draft_is, find_changed, find_past_changed, holder_from, not_of_device, not_of_item}
 use Rattle.sn_world.proofs.Steps.{reached_more}
 use Rattle.sn_world.specs.Committing.{AreDifferent, IsPostOf}
-use Rattle.sn_world.specs.Holds.{Holds, NumbersOf}
+use Rattle.sn_world.specs.Holds.{Holds, NumbersOf, StaleOf}
 use Rattle.sn_world.specs.Laws.{KeptBy}
 use Rattle.sn_client.specs.Laws.{StepsStaySound}
 use Rattle.sn_client.specs.Sending.{Posts, PostsAll}
@@ -86,7 +87,7 @@ some_latest (Some b) some e = cc
 
 module _ (shows : PostedShows) (keeps : PostKeeps) (secret : Bytes) (w next : World) (s : Ideal) (h : Holds secret w s) (name : Bytes) (number : ℕ)
     (change : Change) (x : Posts (w.devices name) number change) (sound : IsSound (rows_after (w.devices name) (change ∷ [])))
-    (on : OnDevice w next name (change ∷ [])) where
+    (older : StaleOf (rows_after (w.devices name) (change ∷ [])) s name) (on : OnDevice w next name (change ∷ [])) where
   abbrev local : LocalItem
   local = x.local
 
@@ -164,15 +165,13 @@ module _ (shows : PostedShows) (keeps : PostKeeps) (secret : Bytes) (w next : Wo
     pulls = pulls_kept (w.devices name) rows s.accounts (device_named s name)
         (alike_row (w.devices name) change number local new x.stands x.puts.puts (ap (λ (c : Columns). c.uuid) x.puts.columns_are)
         (ap (λ (c : Columns). c.base) x.puts.columns_are)) (h.bases_pulled name) (h.pulled name);
-    reached = reached_more s (Post name local.uuid) tt h.reached legal;
+    reached = reached_more s (Post name local.uuid) h.reached legal;
     accounts = refl;
     others = λ other off. refl;
     shows = shows (w.devices name) s name number local change (h.devices name) x.stands some x.unsent.1 puts_posted;
     shows_others = λ at other off k. keeps at s name other local.uuid off k;
     sound = sound;
-    unstale = unstale_put (w.devices name) change number new x.puts.puts (ap (λ (c : Columns). c.stale) x.puts.columns_are ∙ h.unstale name number local x.stands)
-        (h.unstale name);
-    unasked = unasked_local (w.devices name) change number x.puts.puts.key_is (h.unasked name);
+    older_stale = λ e b of. older e b (record { device = of.device; account = of.account });
     numbers = numbers;
     sync_tokens = sync_tokens_same (w.devices name) rows (greatest 0 (stamps_in s.accounts)) (owner_past (w.devices name) change number (value.Local new) x.puts.puts) (h.sync_tokens name);
     own_token = λ e named. token_same secret (w.devices name) rows s.accounts e (owner_past (w.devices name) change number (value.Local new) x.puts.puts) (h.own_tokens name e named);
@@ -183,7 +182,7 @@ module _ (shows : PostedShows) (keeps : PostKeeps) (secret : Bytes) (w next : Wo
         (λ was stands posted.
         let same : was ≡ local = one_local was local (w.devices name (key.Local number)) stands x.stands in
         absurd (posted (ap (λ (z : LocalItem). z.posted) same ∙ x.unsent.1))))
-        (w.server (key.Item i.uuid)) n i k;
+        (w.server (key.Item i.uuid)) s.accounts n i k;
   }
 
   pub posted_one : Holds secret next later
@@ -228,8 +227,7 @@ nothing_changed secret w next s name h on = device_kept secret w next s s name [
   shows = h.devices name;
   shows_others = λ at other off k. k;
   sound = h.sound name;
-  unstale = h.unstale name;
-  unasked = h.unasked name;
+  older_stale = h.older_stale name;
   numbers = h.numbers;
   own_token = h.own_tokens name;
   sync_tokens = h.sync_tokens name;
@@ -249,8 +247,9 @@ posts_all shows keeps stay secret words (n ∷ ns) (c ∷ cs) [] w next s name h
 posts_all shows keeps stay secret words (n ∷ ns) (c ∷ cs) (m ∷ ms) w next s name h (first, rest) apart (said, says) on =
     let mid : World = with_device w name (rows_after (w.devices name) (c ∷ [])) in
     let sound : IsSound (rows_after (w.devices name) (c ∷ [])) = stay (w.devices name) words words (posts (n ∷ [])) (c ∷ []) (h.sound name) ((first, tt), refl) in
+    let older : StaleOf (rows_after (w.devices name) (c ∷ [])) s name = stale_kept secret w s h name words words (posts (n ∷ [])) (c ∷ []) tt ((first, tt), refl) in
     let one : Holds secret mid (after s (Post name first.local.uuid)) =
-    posted_one shows keeps secret w mid s h name n c first sound (first_change w name c) in
+    posted_one shows keeps secret w mid s h name n c first sound older (first_change w name c) in
     let local : said.0 ≡ first.local = one_local said.0 first.local (w.devices name (key.Local n)) said.1 first.stands in
     let move : Post name first.local.uuid ≡ m = ap (λ (l : LocalItem). Post name l.uuid) (sym local) ∙ sym said.2 in
     let own : rows_after (w.devices name) (c ∷ []) ≡ mid.devices name = sym (with_own w name (rows_after (w.devices name) (c ∷ []))) in
@@ -259,4 +258,4 @@ posts_all shows keeps stay secret words (n ∷ ns) (c ∷ cs) (m ∷ ms) w next 
     (subst (λ (r : Rows). PostsAll r ns cs) own (all_past (w.devices name) c n ns cs first apart.0 rest)) apart.1
     (subst (λ (r : Rows). AllZip (IsPostOf r name) ns ms) own (says_past (w.devices name) name c n ns ms first apart.0 says)) (then_others w next name c cs on) in
     subst (λ (x : Move). KeptBy secret next s (x ∷ ms)) move
-    ((legal shows keeps secret w mid s h name n c first sound (first_change w name c), behind.0), behind.1)
+    ((legal shows keeps secret w mid s h name n c first sound older (first_change w name c), behind.0), behind.1)

@@ -52,7 +52,7 @@ met_later rows later a saved (is_conflict c) keeps met = tt
 met_later rows later a saved (is_retrieved i) keeps (inl has) = inl has
 met_later rows later a saved (is_retrieved i) keeps (inr met) = inr (λ upto. keeps i.uuid upto (met upto))
 
-module _ (laws : TakingLaws) (server : Rows) (name : Bytes) (n : ℕ) (a : Account) (d : Device) (owner : OwnerRow) (sets : Sets) (no_older : sets.older ≡ None)
+module _ (laws : TakingLaws) (server : Rows) (name : Bytes) (n : ℕ) (a : Account) (d : Device) (owner : OwnerRow) (sets : Sets)
     (saved : List Item) where
   abbrev AlongHere : Progress → Ideal → Type 0
   AlongHere p s = Along server name n a d owner sets p s
@@ -65,14 +65,14 @@ module _ (laws : TakingLaws) (server : Rows) (name : Bytes) (n : ℕ) (a : Accou
       subst (λ (r : Progress). StaysAt p.rows r.rows v) (sym so)
       (stays_removed p.rows change number v gone
       (λ it there is. ap (λ (l : LocalItem). l.base) (one_local it local (p.rows (key.Local number)) there stands)
-      ∙ no_base laws server name n a d owner sets no_older p s h number local stands theirs))
+      ∙ no_base laws server name n a d owner sets p s h number local stands theirs))
   renames_stay p q s h number local stands theirs (Some (row.Sealed strings)) (inl closed) v =
       stays_same p.rows q.rows (λ m. ap (λ (r : Progress). r.rows (key.Local m)) closed.1) v
   renames_stay p q s h number local stands theirs (Some (row.Sealed strings)) (inr (text, uuid, rest, again, left, change, opens, fresh, seals, puts, so)) v =
       subst (λ (r : Progress). StaysAt p.rows r.rows v) (sym so)
       (stays_put p.rows change number puts.local v puts.puts
       (λ it there is. inl (ap (λ (l : LocalItem). l.base) (one_local it local (p.rows (key.Local number)) there stands)
-      ∙ no_base laws server name n a d owner sets no_older p s h number local stands theirs))
+      ∙ no_base laws server name n a d owner sets p s h number local stands theirs))
       (λ is none. ap (λ (c : Columns). c.base) puts.columns_are))
 
   foreign_keeps : (p q : Progress) (s : Ideal) (uuid : Bytes) (moves : List Move) → AlongHere p s → IsOthers server n uuid → SaysForeign name sets p uuid q moves
@@ -106,7 +106,7 @@ module _ (laws : TakingLaws) (server : Rows) (name : Bytes) (n : ℕ) (a : Accou
   all_pulled (t ∷ ts) p q s moves h good apart (r, first, later, says, rest, is) =
       let standing : AreStanding r.next r.rows =
       laws.standing sets saved p r t (checked_of server n saved p.rows t good.0) h.standing (takes_of name sets saved p r t first says) in
-      let one = one_told laws server name n a d owner sets no_older saved t p r s first h good.0 says standing in
+      let one = one_told laws server name n a d owner sets saved t p r s first h good.0 says standing in
       let x = one_pulled t p r s first h good.0 says in
       let y =
       all_pulled ts r q (end_from s first) later one.0.along (all_left server n saved p.rows r.rows t ts one.1 apart.0 good.1) apart.1 rest in

@@ -25,13 +25,13 @@ use Rattle.sn_shows.proofs.Facts.{find_new, find_past_new, holder_of}
 use Rattle.sn_shows.specs.Devices.{ShowsDevice, ShowsHolder}
 use Rattle.sn_shows.specs.Laws.{EditKeeps, EditedShows, HasAccount, TokensShow}
 use Rattle.sn_shows.specs.Servers.{stamps_in}
-use Rattle.sn_world.proofs.DeviceRows.{local_past, one_owner, posted_both, posted_put, posted_same, puts_new, sync_tokens_kept, unasked_local, unasked_owner, unstale_put, unstale_same}
+use Rattle.sn_world.proofs.DeviceRows.{local_past, one_owner, posted_both, posted_put, posted_same, puts_new, sync_tokens_kept}
 use Rattle.sn_world.proofs.DeviceSets.{account_is, free_undrafted, identifier_of, next_is_free, present_at}
 use Rattle.sn_world.proofs.Frames.{DeviceFrame, KeepsPosted, device_kept, live_kept}
 use Rattle.sn_world.proofs.Pulls.{alike_put, pulls_kept, stays_both, stays_put, stays_same}
 use Rattle.sn_world.proofs.ShowsLemmas.{holder_from}
 use Rattle.sn_world.proofs.Steps.{reached_more}
-use Rattle.sn_world.specs.Holds.{DeviceToken, Holds, NumbersOf}
+use Rattle.sn_world.specs.Holds.{DeviceToken, Holds, NumbersOf, StaleOf}
 use Rattle.sn_world.specs.Laws.{KeptBy}
 use Rattle.sn_client.specs.States.{Columns, IsSound, OwnerColumns}
 use Rattle.sn_client.specs.Steps.{PutsNew}
@@ -49,7 +49,8 @@ undrafted found draft e k = cc
 
 module _ (edit_law : EditedShows) (tokens_law : TokensShow) (keeps : EditKeeps) (secret : Bytes) (w next : World) (s : Ideal) (h : Holds secret w s) (name : Bytes)
     (words left : ChaCha) (uuid kind text : Bytes) (changes : List Change) (x : PutsNew (w.devices name) words uuid kind text changes left)
-    (sound : IsSound (rows_after (w.devices name) (x.item ∷ x.counted ∷ []))) (on : OnDevice w next name changes) where
+    (sound : IsSound (rows_after (w.devices name) (x.item ∷ x.counted ∷ []))) (older : StaleOf (rows_after (w.devices name) (x.item ∷ x.counted ∷ [])) s name)
+    (on : OnDevice w next name changes) where
   abbrev before : Rows
   before = w.devices name
 
@@ -187,21 +188,19 @@ module _ (edit_law : EditedShows) (tokens_law : TokensShow) (keeps : EditKeeps) 
               (stays_same mid rows (local_past mid x.counted (value.Owner new) x.counted_is.puts_it) item);
           token = alike_put before rows x.owner new x.holds.owned here (ap (λ (c : OwnerColumns). c.sync_token) x.counted_is.columns_are);
         }) (h.bases_pulled name) (h.pulled name);
-    reached = reached_more s (Edit name uuid kind None (content.Plain text)) tt h.reached legal;
+    reached = reached_more s (Edit name uuid kind None (content.Plain text)) h.reached legal;
     accounts = refl;
     others = λ other off. refl;
     shows = shown;
     shows_others = λ at other off k. keeps at s name other uuid kind text off none k;
     sound = sound;
-    unstale = unstale_same mid rows (local_past mid x.counted (value.Owner new) x.counted_is.puts_it)
-        (unstale_put before x.item x.owner.next local x.item_is.puts (ap (λ (c : Columns). c.stale) x.item_is.columns_are) (h.unstale name));
-    unasked = unasked_owner mid x.counted x.counted_is.puts_it.key_is (unasked_local before x.item x.owner.next x.item_is.puts.key_is (h.unasked name));
+    older_stale = λ e b of. older e b (record { device = of.device; account = of.account });
     numbers = numbers;
     own_token = token_after;
     sync_tokens = sync_tokens_kept before rows (greatest 0 (stamps_in s.accounts)) x.owner new x.holds.owned here
         (ap (λ (c : OwnerColumns). c.sync_token) x.counted_is.columns_are) (ap (λ (c : OwnerColumns). c.cursor_token) x.counted_is.columns_are) (h.sync_tokens name);
     tokens = λ t k. k;
-    live = λ t n tok session i k. live_kept before rows keeps_posted (w.server (key.Item i.uuid)) n i k;
+    live = λ t n tok session i k. live_kept before rows keeps_posted (w.server (key.Item i.uuid)) s.accounts n i k;
   }
 
   pub put_so : KeptBy secret next s (Edit name uuid kind None (content.Plain text) ∷ [])

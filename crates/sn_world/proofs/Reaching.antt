@@ -20,14 +20,17 @@ use Rattle.sn_sync.specs.declared.request.Request.{Request}
 use Rattle.sn_world.proofs.AskLemmas.{is_answered}
 use Rattle.sn_world.proofs.CallLemmas.{Stands, commit_leads, stands_then}
 use Rattle.sn_world.proofs.FittingRows.{steps_fit_uuids}
+use Rattle.sn_world.proofs.PlainEnds.{round_plain}
+use Rattle.sn_world.proofs.PlainKept.{trace_plain}
 use Rattle.sn_world.proofs.RoundLemmas.{RoundLaws, round_goes, sent_of}
 use Rattle.sn_world.specs.Answering.{Arrives, requests_in}
 use Rattle.sn_world.specs.Calls.{AreServed, Fate, Leads, rows_behind, rows_served, served}
 use Rattle.sn_world.specs.Committing.{AreDifferent}
 use Rattle.sn_world.specs.Fitting.{FitsUuids}
-use Rattle.sn_world.specs.Happens.{commits}
+use Rattle.sn_world.specs.Happens.{Happens, commits}
 use Rattle.sn_world.specs.Holds.{TokensDiffer}
 use Rattle.sn_world.specs.Laws.{Keeps, SaysSome}
+use Rattle.sn_world.specs.Plain.{HoldsPlain, IsPlain, IsPlainStep, KeepsPlain}
 use Rattle.sn_world.specs.Rounds.{round_steps}
 use Rattle.sn_world.specs.World.{World}
 
@@ -88,24 +91,32 @@ over_round server round acts fates over =
     round_served server round.request round.given round.applied acts fates
     (over_posting server round.numbers round.posted (tail ++ acts) fates (subst (λ (xs : List Act). AreServed server xs fates) parts over))
 
-module _ (laws : RoundLaws) (keeps : Keeps) (says : SaysSome) (secret : Bytes) (differ : TokensDiffer secret) (name : Bytes) where
+module _ (laws : RoundLaws) (keeps : Keeps) (says : SaysSome) (plainly : KeepsPlain) (secret : Bytes) (differ : TokensDiffer secret) (name : Bytes) where
+  -- where steps that change no password lead, none is changed
+  plain_then : (v : World) (t : Ideal) (server rows : Rows) (steps : List Happens) → HoldsPlain secret v t → Each IsPlainStep steps
+      → (one : Leads secret v t name steps server rows) → IsPlain one.next (end_from t one.moves)
+  plain_then v t server rows steps p plain one = (trace_plain plainly secret differ steps one.moves v one.next t p plain one.goes).1.plain
+
   -- ---- a posting
 
   pub record Ready (server rows : Rows) : Type 0 where
     pub world : World
     pub ideal : Ideal
     pub stands : Stands secret name world ideal server rows
+    pub plain : IsPlain world ideal
 
   pub ready_at : (v : World) (t : Ideal) (server rows : Rows) (words : ChaCha) (numbers : List ℕ) (posted : List Change) → Stands secret name v t server rows
-      → PostsAll rows numbers posted → AreDifferent numbers → Ready server (rows_after rows posted)
-  ready_at v t server rows words [] [] k all apart = record { world = v; ideal = t; stands = k }
-  ready_at v t server rows words [] (c ∷ posted) k all apart = absurd all
-  ready_at v t server rows words (n ∷ ns) posted k all apart =
+      → IsPlain v t → PostsAll rows numbers posted → AreDifferent numbers → Ready server (rows_after rows posted)
+  ready_at v t server rows words [] [] k plain all apart = record { world = v; ideal = t; stands = k; plain = plain }
+  ready_at v t server rows words [] (c ∷ posted) k plain all apart = absurd all
+  ready_at v t server rows words (n ∷ ns) posted k plain all apart =
       let one = commit_leads keeps says secret differ name v t server rows words words (posts (n ∷ ns)) posted k (all, refl) apart in
       record {
         world = one.next;
         ideal = end_from t one.moves;
         stands = stands_then keeps says secret differ name v t (commits name (posts (n ∷ ns)) posted true ∷ []) server (rows_after rows posted) k.holds one;
+        plain = plain_then v t server (rows_after rows posted) (commits name (posts (n ∷ ns)) posted true ∷ []) (record { holds = k.holds; plain = plain })
+            (tt, tt) one;
       }
 
   -- ---- uuids
@@ -114,11 +125,12 @@ module _ (laws : RoundLaws) (keeps : Keeps) (says : SaysSome) (secret : Bytes) (
   sound_at v t server rows k = subst IsSound k.device_is (k.holds.sound name)
 
   uuids_round : (v : World) (t : Ideal) (server : Rows) (at : Standing) (round : Round) (after : Standing) → Stands secret name v t server at.rows
-      → FitsUuids at.rows → IsRound at round after → FitsUuids after.rows
-  uuids_round v t server at round after k have is =
+      → IsPlain v t → FitsUuids at.rows → IsRound at round after → FitsUuids after.rows
+  uuids_round v t server at round after k plain have is =
       let sends = is.sends in
       let apart = (sent_of laws.sends secret v t name at.rows k.holds k.device_is round.numbers round.posted round.request is.ready sends).0 in
-      let there : Ready server (rows_after at.rows round.posted) = ready_at v t server at.rows at.words round.numbers round.posted k sends.posts_them apart in
+      let there : Ready server (rows_after at.rows round.posted) =
+      ready_at v t server at.rows at.words round.numbers round.posted k plain sends.posts_them apart in
       let ready : Ready server is.ready = subst (λ (z : Rows). Ready server z) (sym sends.ready_is) there in
       let have_ready : FitsUuids is.ready =
       subst FitsUuids (sym sends.ready_is)
@@ -137,14 +149,15 @@ module _ (laws : RoundLaws) (keeps : Keeps) (says : SaysSome) (secret : Bytes) (
     pub rest : List Fate
     pub fates_are : fates ≡ met ++ rest
     pub stands : Stands secret name world ideal (rows_served server met) at.rows
+    pub plain : IsPlain world ideal
     pub have : FitsUuids at.rows
     pub over : AreServed (rows_served server met) later rest
     pub arrive : Each Arrives rest
 
   pub rounds_reach : (rounds : List Round) (at after : Standing) (later : List Act) (v : World) (t : Ideal) (server : Rows) (fates : List Fate)
-      → Stands secret name v t server at.rows → FitsUuids at.rows → AreRounds at rounds after → AreServed server (flat_map acts_of rounds ++ later) fates
-      → Each Arrives fates → Reaches server after later fates
-  rounds_reach [] at after later v t server fates k have same over arrive =
+      → Stands secret name v t server at.rows → IsPlain v t → FitsUuids at.rows → AreRounds at rounds after
+      → AreServed server (flat_map acts_of rounds ++ later) fates → Each Arrives fates → Reaches server after later fates
+  rounds_reach [] at after later v t server fates k plain have same over arrive =
       let rows_are : at.rows ≡ after.rows = ap (λ (z : Standing). z.rows) (sym same) in
       record {
         world = v;
@@ -153,11 +166,12 @@ module _ (laws : RoundLaws) (keeps : Keeps) (says : SaysSome) (secret : Bytes) (
         rest = fates;
         fates_are = refl;
         stands = subst (λ (z : Rows). Stands secret name v t server z) rows_are k;
+        plain = plain;
         have = subst FitsUuids rows_are have;
         over = over;
         arrive = arrive;
       }
-  rounds_reach (round ∷ rounds) at after later v t server fates k have (between, is, rest) over arrive =
+  rounds_reach (round ∷ rounds) at after later v t server fates k plain have (between, is, rest) over arrive =
       let parts : (acts_of round ++ flat_map acts_of rounds) ++ later ≡ acts_of round ++ (flat_map acts_of rounds ++ later) =
       append_assoc (acts_of round) (flat_map acts_of rounds) later in
       let a = over_round server round (flat_map acts_of rounds ++ later) fates (subst (λ (xs : List Act). AreServed server xs fates) parts over) in
@@ -173,7 +187,9 @@ module _ (laws : RoundLaws) (keeps : Keeps) (says : SaysSome) (secret : Bytes) (
       let there = stands_then keeps says secret differ name v t (round_steps name round a.now a.changes) (rows_after server a.changes) between.rows k.holds one in
       let arrive_on : Each Arrives a.later = (subst (λ (fs : List Fate). Each Arrives fs) a.fates_are arrive).1 in
       let x = rounds_reach rounds between after later one.next (end_from t one.moves) (rows_after server a.changes) a.later there
-      (uuids_round v t server at round between k have is) rest a.over arrive_on in
+      (plain_then v t (rows_after server a.changes) between.rows (round_steps name round a.now a.changes) (record { holds = k.holds; plain = plain })
+      (round_plain name at round between a.now a.changes is) one)
+      (uuids_round v t server at round between k plain have is) rest a.over arrive_on in
       record {
         world = x.world;
         ideal = x.ideal;
@@ -181,6 +197,7 @@ module _ (laws : RoundLaws) (keeps : Keeps) (says : SaysSome) (secret : Bytes) (
         rest = x.rest;
         fates_are = a.fates_are ∙ ap (λ (fs : List Fate). served a.now a.changes round.given true ∷ fs) x.fates_are;
         stands = x.stands;
+        plain = x.plain;
         have = x.have;
         over = x.over;
         arrive = x.arrive;

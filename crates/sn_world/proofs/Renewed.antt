@@ -16,13 +16,13 @@ use Rattle.sn_shows.proofs.Facts.{holder_of}
 use Rattle.sn_shows.specs.Devices.{ShowsHolder}
 use Rattle.sn_shows.specs.Laws.{AccountsApart, HasAccount, TokensShow}
 use Rattle.sn_shows.specs.Servers.{stamps_in}
-use Rattle.sn_world.proofs.DeviceRows.{local_past, one_owner, posted_same, sync_tokens_kept, unasked_owner, unstale_same}
+use Rattle.sn_world.proofs.DeviceRows.{local_past, one_owner, posted_same, sync_tokens_kept}
 use Rattle.sn_world.proofs.Frames.{DeviceFrame, device_kept, live_kept}
 use Rattle.sn_world.proofs.Pulls.{alike_put, pulls_kept, stays_same}
 use Rattle.sn_world.proofs.ShowsLemmas.{holder_from}
 use Rattle.sn_world.proofs.Tokens.{apart_of}
 use Rattle.sn_world.specs.Committing.{MayRenew}
-use Rattle.sn_world.specs.Holds.{DeviceToken, Holds}
+use Rattle.sn_world.specs.Holds.{DeviceToken, Holds, StaleOf}
 use Rattle.sn_world.specs.Laws.{KeptBy}
 use Rattle.sn_client.specs.States.{IsSound, OwnerColumns}
 use Rattle.sn_client.specs.Steps.{Renews}
@@ -30,7 +30,8 @@ use Rattle.sn_world.specs.World.{OnDevice, World}
 
 module _ (apart : AccountsApart) (law : TokensShow) (secret : Bytes) (w next : World) (s : Ideal) (h : Holds secret w s) (name token : Bytes)
     (changes : List Change) (x : Renews (w.devices name) token changes) (may : MayRenew secret s name token)
-    (sound : IsSound (rows_after (w.devices name) (x.change ∷ []))) (on : OnDevice w next name changes) where
+    (sound : IsSound (rows_after (w.devices name) (x.change ∷ []))) (older : StaleOf (rows_after (w.devices name) (x.change ∷ [])) s name)
+    (on : OnDevice w next name changes) where
   abbrev rows : Rows
   rows = rows_after (w.devices name) (x.change ∷ [])
 
@@ -83,8 +84,7 @@ module _ (apart : AccountsApart) (law : TokensShow) (secret : Bytes) (w next : W
               stays = stays_same (w.devices name) rows (local_past (w.devices name) x.change (value.Owner new) x.renewed.puts_it);
               token = alike_put (w.devices name) rows x.owner new x.owned here (ap (λ (c : OwnerColumns). c.sync_token) x.renewed.columns_are);
             }) (h.bases_pulled name) (h.pulled name);
-        unstale = unstale_same (w.devices name) rows (local_past (w.devices name) x.change (value.Owner new) x.renewed.puts_it) (h.unstale name);
-        unasked = unasked_owner (w.devices name) x.change x.renewed.puts_it.key_is (h.unasked name);
+        older_stale = older;
         numbers = h.numbers;
         own_token = token_after;
         sync_tokens = sync_tokens_kept (w.devices name) rows (greatest 0 (stamps_in s.accounts)) x.owner new x.owned here
@@ -92,7 +92,7 @@ module _ (apart : AccountsApart) (law : TokensShow) (secret : Bytes) (w next : W
         tokens = λ t k. k;
         live = λ t n tok session i k.
             live_kept (w.devices name) rows (posted_same (w.devices name) rows (local_past (w.devices name) x.change (value.Owner new) x.renewed.puts_it))
-            (w.server (key.Item i.uuid)) n i k;
+            (w.server (key.Item i.uuid)) s.accounts n i k;
       }
 
   pub renewed : KeptBy secret next s []

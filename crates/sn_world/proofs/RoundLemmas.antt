@@ -1,11 +1,11 @@
 -- A round of a device's sync is steps of the world.
-use Rattle.std.proofs.Common.{◌≡◌, ℕ, List, [], ◌∷◌, ◌++◌, Option, None, true, false, refl, sym, ap, ◌∙◌, subst, inl}
+use Rattle.std.proofs.Common.{◌≡◌, ℕ, List, [], ◌∷◌, ◌++◌, Option, None, true, refl, sym, ap, ◌∙◌, subst, inl}
 use Rattle.rand_chacha.specs.ChaCha.{ChaCha}
 use Rattle.sn_account.specs.Rule.{Rule}
 use Rattle.sn_account.specs.Tells.{AreApart, uuids}
 use Rattle.sn_client.specs.Runs.{IsRound, Round, Sends, Standing, items_of}
 use Rattle.sn_client.specs.Sending.{PostsAll}
-use Rattle.sn_client.specs.States.{HasLocal, IsSound}
+use Rattle.sn_client.specs.States.{IsSound}
 use Rattle.sn_client.specs.Steps.{Step, applies, posts}
 use Rattle.sn_laws.specs.Lookups.{Bytes}
 use Rattle.sn_laws.specs.Runs.{end_from}
@@ -13,8 +13,6 @@ use Rattle.sn_laws.specs.declared.ideal.Ideal.{Ideal}
 use Rattle.sn_laws.specs.declared.moves.Move.{Move}
 use Rattle.sn_rows.specs.Table.{Rows, rows_after}
 use Rattle.sn_rows.specs.declared.change.Change.{Change}
-use Rattle.sn_rows.specs.declared.device_rows.LocalItem.{LocalItem}
-use Rattle.sn_rows.specs.declared.key.Key.TheVariants as key
 use Rattle.sn_shows.specs.Laws.{AccountsApart}
 use Rattle.sn_string.specs.declared.params.KeySet.{KeySet}
 use Rattle.sn_sync.specs.Fits.{FitsRequest}
@@ -22,16 +20,14 @@ use Rattle.sn_sync.specs.declared.answer.Answer.{Answer}
 use Rattle.sn_sync.specs.declared.answer.Answer.TheVariants as answer
 use Rattle.sn_sync.specs.declared.request.Request.{Request}
 use Rattle.sn_sync.specs.declared.request.Request.TheVariants as request
-use Rattle.sn_world.proofs.AnswerSaid.{answer_said}
 use Rattle.sn_world.proofs.DeviceRows.{with_device, with_other, with_own}
-use Rattle.sn_world.proofs.Said.{posts_say}
 use Rattle.sn_world.specs.Committing.{AreDifferent, Commits}
 use Rattle.sn_world.specs.Happens.{Trace, commits, makes, serves}
 use Rattle.sn_world.specs.Holds.{Holds, TokensDiffer}
-use Rattle.sn_world.specs.Laws.{KeepsCommitting, KeepsMaking, KeepsServing, SendsArePosted, ServedTells}
+use Rattle.sn_world.specs.Laws.{KeepsCommitting, KeepsMaking, KeepsServing, SaysSome, SendsArePosted, ServedTells}
 use Rattle.sn_world.specs.Making.{Makes, MakesOf, SendsTokens}
 use Rattle.sn_world.specs.Rounds.{GoesRound, RoundsGo, made_by, posting_steps}
-use Rattle.sn_world.specs.Serving.{Serves, moves_for}
+use Rattle.sn_world.specs.Serving.{SaysServed, Serves}
 use Rattle.sn_world.specs.World.{Made, OnDevice, World}
 
 pub record RoundLaws : Type 0 where
@@ -41,6 +37,7 @@ pub record RoundLaws : Type 0 where
   pub serve : KeepsServing
   pub tells : ServedTells
   pub sends : SendsArePosted
+  pub says : SaysSome
 
 pub changed_device : (w : World) (name : Bytes) (changes : List Change) → OnDevice w (with_device w name (rows_after (w.devices name) changes)) name changes
 changed_device w name changes = record {
@@ -82,12 +79,17 @@ module _ (laws : RoundLaws) (secret : Bytes) (differ : TokensDiffer secret) (nam
       let h_made : Holds secret (made r) s = laws.make secret w (made r) s (m r) differ h makes_so in
       let serves_so : Serves (made r) (served r) (m r) now changes given =
       record { made = inl refl; fits = fits; rule = rule; on = record { server = refl; devices = refl; made = refl } } in
-      let first : List Move = moves_for w.server name None r changes in
+      let said_so : (moves : List Move) × SaysServed w.server (w.devices name) (m r) changes moves =
+      laws.says secret (made r) (served r) s (serves (m r) now changes given true) h_made serves_so in
+      let first : List Move = said_so.0 in
       let told =
       laws.tells secret (made r) (served r) s (m r) token items now changes first conflicts cursor retrieved saved next_token differ h_made
-      (record { limit = limit; sync_token = sync_token; cursor_token = cursor_token; is = refl }) makes_it.from tokens apart serves_so refl in
-      let h_served : Holds secret (served r) (end_from s first) = (laws.serve secret (made r) (served r) s (m r) now changes given first differ h_made serves_so refl).1 in
-      let says = answer_said laws.apart secret (served r) (end_from s first) h_served name words left r given applied step told in
+      (record { limit = limit; sync_token = sync_token; cursor_token = cursor_token; is = refl }) makes_it.from tokens apart serves_so said_so.1 in
+      let h_served : Holds secret (served r) (end_from s first) =
+      (laws.serve secret (made r) (served r) s (m r) now changes given first differ h_made serves_so said_so.1).1 in
+      let commits_so : Commits (served r) (last r) name (applies r given) applied =
+      record { words = words; left = left; step = step; on = changed_device (served r) name applied } in
+      let says = laws.says secret (served r) (last r) (end_from s first) (commits name (applies r given) applied true) h_served (commits_so, told) in
       record {
         moves = first ++ (says.0 ++ []);
         next = last r;
@@ -104,12 +106,12 @@ module _ (laws : RoundLaws) (secret : Bytes) (differ : TokensDiffer secret) (nam
             first,
             says.0 ++ [],
             serves_so,
-            refl,
+            said_so.1,
             (
               last r,
               says.0,
               [],
-              (record { words = words; left = left; step = step; on = changed_device (served r) name applied }, told),
+              (commits_so, told),
               says.1,
               (refl, refl),
               refl,
@@ -138,12 +140,7 @@ pub sent_of : SendsArePosted → (secret : Bytes) (w : World) (s : Ideal) (name 
     → (numbers : List ℕ) (posted : List Change) (r : Request) (ready : Rows) → Sends rows numbers posted r ready
     → AreDifferent numbers × ((begins : Option KeySet) → MakesOf ready begins r) × AreApart (uuids (items_of r)) × SendsTokens ready r
 sent_of are_posted secret w s name rows h rows_are numbers posted r ready sends =
-    are_posted rows numbers posted r ready (subst (λ (r : Rows). IsSound r) rows_are (h.sound name)) none_stale sends
-  where
-    none_stale : (number : ℕ) (local : LocalItem) → HasLocal rows number local → ¬ (local.stale ≡ true)
-    none_stale number local there stale =
-        let fresh : local.stale ≡ false = h.unstale name number local (ap (λ (r : Rows). r (key.Local number)) rows_are ∙ there) in
-        cc
+    are_posted rows numbers posted r ready (subst (λ (r : Rows). IsSound r) rows_are (h.sound name)) sends
 
 module _ (laws : RoundLaws) (secret : Bytes) (w : World) (s : Ideal) (name : Bytes) (at : Standing) (round : Round) (after : Standing) (now : ℕ)
     (changes : List Change) (differ : TokensDiffer secret) (h : Holds secret w s) (fits : FitsRequest round.request) (rows_are : w.devices name ≡ at.rows)
@@ -184,9 +181,9 @@ module _ (laws : RoundLaws) (secret : Bytes) (w : World) (s : Ideal) (name : Byt
       let posts_them : PostsAll (w.devices name) (n ∷ ns) round.posted =
       subst (λ (r : Rows). PostsAll r (n ∷ ns) round.posted) (sym rows_are) (subst (λ (ks : List ℕ). PostsAll at.rows ks round.posted) is x.sends.posts_them) in
       let apart : AreDifferent (n ∷ ns) = subst AreDifferent is sends.0 in
-      let said = posts_say (w.devices name) name (n ∷ ns) round.posted posts_them in
       let commits_so : Commits w v name (posts (n ∷ ns)) round.posted =
       record { words = at.words; left = at.words; step = (posts_them, refl); on = changed_device w name round.posted } in
+      let said = laws.says secret w v s (commits name (posts (n ∷ ns)) round.posted true) h (commits_so, apart) in
       let kept = laws.commit secret w v s name (posts (n ∷ ns)) round.posted said.0 differ h commits_so apart said.1 in
       let device : v.devices name ≡ x.ready =
       with_own w name (rows_after (w.devices name) round.posted) ∙ ap (λ (r : Rows). rows_after r round.posted) rows_are ∙ sym ready_is in

@@ -1,5 +1,5 @@
 -- Each step says some moves.
-use Rattle.std.proofs.Common.{◌≡◌, ℕ, List, [], ◌∷◌, Some, true, false, refl, sym, subst, inl, inr, ⊎_elim}
+use Rattle.std.proofs.Common.{◌≡◌, ℕ, List, [], ◌∷◌, Option, Some, true, false, refl, sym, subst, inl, inr, ⊎_elim}
 use Rattle.std.specs.List.{AllZip}
 use Rattle.rand_chacha.specs.ChaCha.{ChaCha}
 use Rattle.sn_laws.specs.Lookups.{Bytes, account_named}
@@ -13,17 +13,22 @@ use Rattle.sn_rows.specs.declared.key.Key.TheVariants as key
 use Rattle.sn_rows.specs.declared.change.Change.{Change}
 use Rattle.sn_shows.specs.Laws.{AccountsApart}
 use Rattle.sn_string.specs.declared.params.KeySet.{KeySet}
+use Rattle.sn_sync.specs.declared.request.Request.{Request}
+use Rattle.sn_sync.specs.declared.request.Request.TheVariants as request
 use Rattle.sn_world.proofs.AnswerSaid.{answer_said}
 use Rattle.sn_world.proofs.Begun.{at_named}
-use Rattle.sn_world.proofs.Tokens.{apart_of}
-use Rattle.sn_world.specs.Committing.{IsPostOf, MayBegin, MayCommit, SaysCommit, SaysDeletion, SaysJoin}
+use Rattle.sn_world.proofs.Deciding.{changes_say_some}
+use Rattle.sn_world.proofs.Reposted.{reposted_of}
+use Rattle.sn_world.proofs.Tokens.{apart_of, device_account}
+use Rattle.sn_world.specs.Committing.{IsPostOf, MayAdopt, MayBegin, MayCommit, SaysAdoption, SaysCommit, SaysDeletion, SaysJoin}
 use Rattle.sn_world.specs.Happens.{commits, makes, serves, starts}
 use Rattle.sn_world.specs.Holds.{Holds}
 use Rattle.sn_world.specs.Laws.{SaysSome}
 use Rattle.sn_client.specs.Sending.{PostsAll, PutsColumns}
-use Rattle.sn_client.specs.States.{columns}
-use Rattle.sn_client.specs.Steps.{Deletes, IsUnknown, Step, What, adopts, applies, asks, begins, deletes, drafted, edits, forgets, posts, puts, renews}
-use Rattle.sn_world.specs.World.{World}
+use Rattle.sn_client.specs.States.{IsSound, columns}
+use Rattle.sn_client.specs.Steps.{Adopts, Deletes, IsUnknown, Step, What, adopts, applies, asks, begins, deletes, drafted, edits, forgets, posts, puts, renews}
+use Rattle.sn_world.specs.Serving.{SaysRoute, SaysServed}
+use Rattle.sn_world.specs.World.{Made, World}
 
 pub posts_say : (rows : Rows) (name : Bytes) (numbers : List ℕ) (changes : List Change) → PostsAll rows numbers changes
     → (moves : List Move) × AllZip (IsPostOf rows name) numbers moves
@@ -48,6 +53,26 @@ deletion_said rows name uuid changes x =
     (λ (kept : ¬ (IsUnknown x.local) × PutsColumns x.change x.number (drafted (Some row.Deleted) (columns x.local))).
     (Edit name uuid x.local.kind x.local.base content.Deleted ∷ [], (x.number, x.local, x.stands, inr (kept.0, refl)))) x.change_is
 
+-- what was sent is sent again of just the items of which it may still be accepted
+adoption_said : AccountsApart → (secret : Bytes) (w : World) (s : Ideal) → Holds secret w s → (name : Bytes) (words left : ChaCha) (set : KeySet) (token : Bytes)
+    (changes : List Change) → Adopts (w.devices name) words set token changes left → MayAdopt secret s name set token
+    → (moves : List Move) × SaysAdoption (w.devices name) s name moves
+adoption_said apart secret w s h name words left set token changes x may =
+    let has = device_account apart secret w s h name may.number may.account may.device may.at may.named may.own in
+    let again = reposted_of s may.account x.items in (
+      _,
+      record {
+        device = may.device;
+        account = may.account;
+        has = has;
+        items = x.items;
+        items_are = x.items_are;
+        uuids = again.0;
+        reposted = again.1;
+        moves_are = refl;
+      },
+    )
+
 commit_said : AccountsApart → (secret : Bytes) (w : World) (s : Ideal) → Holds secret w s → (name : Bytes) (what : What) (words left : ChaCha) (changes : List Change)
     → Step (w.devices name) words what changes left → MayCommit secret w.server (w.devices name) s name what
     → (moves : List Move) × SaysCommit (w.devices name) s name what changes moves
@@ -59,14 +84,30 @@ commit_said apart secret w s h name (deletes uuid) words left changes step may =
 commit_said apart secret w s h name (posts numbers) words left changes step may = posts_say (w.devices name) name numbers changes step.0
 commit_said apart secret w s h name (applies request given) words left changes step may =
     answer_said apart secret w s h name words left request given changes step may
-commit_said apart secret w s h name (asks set) words left changes step may = absurd may
-commit_said apart secret w s h name (adopts set token) words left changes step may = absurd may
-commit_said apart secret w s h name forgets words left changes step may = absurd may
+commit_said apart secret w s h name (asks set) words left changes step may = ([], refl)
+commit_said apart secret w s h name (adopts set token) words left changes step may =
+    adoption_said apart secret w s h name words left set token changes step may
+commit_said apart secret w s h name forgets words left changes step may = ([], refl)
+
+-- ---- requests that are served
+
+route_said : (server device : Rows) (name : Bytes) (first : Option KeySet) (r : Request) (changes : List Change) → IsSound device
+    → (moves : List Move) × SaysRoute server device name first r changes moves
+route_said server device name first (request.Register params pw) changes sound = (_, refl)
+route_said server device name first (request.Params identifier) changes sound = (_, refl)
+route_said server device name first (request.SignIn identifier pw) changes sound = (_, refl)
+route_said server device name first (request.ChangePw token current pw cost nonce) changes sound = (_, refl)
+route_said server device name first (request.Sync token items limit sync_token cursor_token) changes sound = changes_say_some server device name changes sound
+
+served_said : (server device : Rows) (m : Made) (changes : List Change) → IsSound device → (moves : List Move) × SaysServed server device m changes moves
+served_said server device m changes sound = route_said server device m.device m.begins m.request changes sound
+
+-- ---- each step
 
 pub says_some : AccountsApart → SaysSome
 says_some apart secret w next s (starts changes stands) h does = ([], refl)
 says_some apart secret w next s (makes m) h does = ([], refl)
-says_some apart secret w next s (serves m now changes given true) h does = (_, refl)
+says_some apart secret w next s (serves m now changes given true) h does = served_said w.server (w.devices m.device) m changes (h.sound m.device)
 says_some apart secret w next s (serves m now changes given false) h does = ([], refl)
 says_some apart secret w next s (commits name what changes true) h (x, may) = commit_said apart secret w s h name what x.words x.left changes x.step may
 says_some apart secret w next s (commits name what changes false) h does = ([], refl)

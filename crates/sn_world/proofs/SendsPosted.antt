@@ -1,5 +1,5 @@
 -- What a round of a device's sync posts and sends.
-use Rattle.std.proofs.Common.{◌≡◌, ◌≢◌, ◌<◌, ℕ, List, [], ◌∷◌, ◌++◌, map, Option, Some, None, true, Less, Equal, Greater, refl, sym, ap, ◌∙◌, subst, inl, inr, arith}
+use Rattle.std.proofs.Common.{◌≡◌, ◌≢◌, ◌<◌, ℕ, List, [], ◌∷◌, ◌++◌, map, Option, Some, None, true, Less, Equal, Greater, refl, sym, ap, ◌∙◌, subst, inl, inr, ⊎_elim, arith}
 use Rattle.std.proofs.Math.Nat.{eq-or-lt_of_le}
 use Rattle.std.proofs.lemmas.Bool.{cases_lt}
 use Rattle.std.proofs.lemmas.List.Elements.{All-contains, All-from_recursion, Contains-append_left}
@@ -29,7 +29,7 @@ use Rattle.sn_world.proofs.Lists.{each_contained, each_map, of_each}
 use Rattle.sn_world.proofs.Posted.{all_past}
 use Rattle.sn_world.specs.Committing.{AreDifferent}
 use Rattle.sn_world.specs.Laws.{SendsArePosted}
-use Rattle.sn_world.specs.Making.{IsPostedOf, MakesOf, SendsPosted, SendsTokens}
+use Rattle.sn_world.specs.Making.{IsSentBy, IsSentOf, MakesOf, SendsPosted, SendsTokens}
 use Rattle.sn_rows.specs.declared.device_rows.OwnerRow.{OwnerRow}
 
 -- ---- numbers that rise
@@ -121,12 +121,21 @@ some_is : (found : Option RowBody) → IsSome found → found ≢ None
 some_is None some e = absurd (cc)
 some_is (Some b) some e = cc
 
--- a row that waits, with nothing to be sealed again
+-- a row that waits
 abbrev WaitsAt : Rows → Numbered → Type 0
-WaitsAt rows w = HasLocal rows w.0 w.1 × IsSome w.1.latest
+WaitsAt rows w = HasLocal rows w.0 w.1 × IsWaiting w.1
 
-was_sent : (local : LocalItem) → IsSome local.latest → ¬ (IsUnsent local) → local.posted ≢ None
-was_sent local some sent none = sent (some, none)
+-- with something posted it is sent as that; without a draft it is to be sealed again
+was_sent : (local : LocalItem) (i : Item) → IsWaiting local → ¬ (IsUnsent local) → IsSentAs local i → IsSentBy local i
+was_sent local i waits sent x = by local.latest local.posted refl refl
+  where
+    stale_is : local.latest ≡ None → local.stale ≡ true
+    stale_is none = ⊎_elim (λ some. absurd (some_is local.latest some none)) (λ stale. stale) waits
+
+    by : (latest posted : Option RowBody) → local.latest ≡ latest → local.posted ≡ posted → IsSentBy local i
+    by latest (Some b) e k = inl (x, λ none. (let some : local.posted ≡ Some b = k in cc))
+    by (Some b) None e k = absurd (sent (subst (λ (o : Option RowBody). IsSome o) (sym e) refl, k))
+    by None None e k = inr (x, stale_is e, e, k)
 
 -- a draft is sent as it is posted
 sent_now : (local new : LocalItem) (i : Item) → local.posted ≡ None → IsSome local.latest → new.uuid ≡ local.uuid → new.kind ≡ local.kind → new.base ≡ local.base
@@ -160,7 +169,7 @@ past_all rows change number x (w ∷ ws) apart h = (
 )
 
 sent_rows : (rows : Rows) (chosen : List Numbered) (numbers : List ℕ) (changes : List Change) (items : List Item) → Distinct chosen → Each (WaitsAt rows) chosen
-    → AreUnsent chosen numbers → PostsAll rows numbers changes → AreSentAs chosen items → Each (IsPostedOf (rows_after rows changes)) items
+    → AreUnsent chosen numbers → PostsAll rows numbers changes → AreSentAs chosen items → Each (IsSentOf (rows_after rows changes)) items
 sent_rows rows [] numbers changes [] distinct waits unsent all sent = tt
 sent_rows rows [] numbers changes (i ∷ is) distinct waits unsent all sent = absurd sent
 sent_rows rows (w ∷ ws) numbers changes [] distinct waits unsent all sent = absurd sent
@@ -170,7 +179,7 @@ sent_rows rows (w ∷ ws) numbers changes (i ∷ is) distinct waits (inr (was, r
         w.0,
         w.1,
         not_posted rows w.0 numbers changes (unsent_apart w.0 ws numbers distinct.0 rest) all differ ∙ waits.0.0,
-        (sent.0, was_sent w.1 waits.0.1 was),
+        was_sent w.1 i waits.0.1 was sent.0,
       ),
       sent_rows rows ws numbers changes is distinct.1 waits.1 rest all sent.1,
     )
@@ -189,8 +198,8 @@ sent_rows rows (w ∷ ws) numbers (c ∷ cs) (i ∷ is) distinct waits (inl (uns
         w.0,
         new,
         not_posted (rows_after rows (c ∷ [])) w.0 later cs apart behind differ ∙ put_here rows c (key.Local w.0) (value.Local new) first.puts.puts,
-        sent_now w.1 new i unsent.1 unsent.0 (ap (λ (k : Columns). k.uuid) column) (ap (λ (k : Columns). k.kind) column) (ap (λ (k : Columns). k.base) column)
-            (ap (λ (k : Columns). k.posted) column) sent.0,
+        inl (sent_now w.1 new i unsent.1 unsent.0 (ap (λ (k : Columns). k.uuid) column) (ap (λ (k : Columns). k.kind) column)
+            (ap (λ (k : Columns). k.base) column) (ap (λ (k : Columns). k.posted) column) sent.0),
       ),
       sent_rows (rows_after rows (c ∷ [])) ws later cs is distinct.1 (past_all rows c w.0 first ws distinct.0 waits.1) rest behind sent.1,
     )
@@ -223,23 +232,16 @@ items_apart rows sound (w ∷ ws) (i ∷ items) distinct waits sent = (
 
 -- ---- a round
 
-waiting_latest : (local : LocalItem) → ¬ (local.stale ≡ true) → IsWaiting local → IsSome local.latest
-waiting_latest local fresh (inl some) = some
-waiting_latest local fresh (inr stale) = absurd (fresh stale)
-
 pub sends_are_posted : SendsArePosted
-sends_are_posted rows numbers posted r ready sound none_stale x =
+sends_are_posted rows numbers posted r ready sound x =
     let waiting = x.chosen_are.all in
     let distinct : Distinct x.chosen = front_distinct x.chosen x.later (distinct_so (x.chosen ++ x.later) (sorted_from_strictly_increasing _ waiting.rising)) in
     let waits : Each (WaitsAt rows) x.chosen =
-    each_contained (WaitsAt rows) x.chosen
-    (λ w has.
-    let at = (waiting.whole w.0 w.1).0 (Contains-append_left x.chosen x.later w has) in
-    (at.0, waiting_latest w.1 (none_stale w.0 w.1 at.0) at.1)) in
+    each_contained (WaitsAt rows) x.chosen (λ w has. (waiting.whole w.0 w.1).0 (Contains-append_left x.chosen x.later w has)) in
     let differ : AreDifferent numbers = different x.chosen numbers distinct x.unsent in
     let request = x.request_is in
-    let items_posted : Each (IsPostedOf ready) request.items =
-    subst (λ (rows_then : Rows). Each (IsPostedOf rows_then) request.items) (sym x.ready_is)
+    let items_sent : Each (IsSentOf ready) request.items =
+    subst (λ (rows_then : Rows). Each (IsSentOf rows_then) request.items) (sym x.ready_is)
     (sent_rows rows x.chosen numbers posted request.items distinct waits x.unsent x.posts_them request.items_are) in (
       differ,
       λ begins.
@@ -248,7 +250,7 @@ sends_are_posted rows numbers posted r ready sound none_stale x =
             owner = x.owner;
             has = ap (λ (f : Rows). f key.Owner) x.ready_is ∙ owner_stays rows numbers posted x.posts_them differ ∙ x.owned;
             token_is = refl;
-            from = items_posted;
+            from = items_sent;
           }),
       subst (λ (q : Request). AreApart (uuids (items_of q))) (sym request.request_is)
           (items_apart rows sound x.chosen request.items distinct waits request.items_are),

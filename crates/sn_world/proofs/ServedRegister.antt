@@ -38,6 +38,8 @@ use Rattle.sn_sync.specs.declared.answer.Answer.{Answer}
 use Rattle.sn_sync.specs.declared.answer.Answer.TheVariants as answer
 use Rattle.sn_sync.specs.declared.request.Request.{Request}
 use Rattle.sn_sync.specs.declared.request.Request.TheVariants as request
+use Rattle.sn_sync.specs.declared.item.Item.{Item}
+use Rattle.sn_world.proofs.Becoming.{rewrap_by}
 use Rattle.sn_world.proofs.Frames.{ServerFrame, same_world, server_kept}
 use Rattle.sn_world.proofs.Lasts.{each_at_number}
 use Rattle.sn_world.proofs.ServedSync.{CountsOf, counts_of, one_store, unchanged}
@@ -157,9 +159,18 @@ module _ (one_token : HasOneToken) (store_law : StoreShows) (register_law : Regi
           let same : tok.number ≡ k = same_owner secret token tok.number k tok.generation z.account.generation (omega arith) (omega arith) tok.is spelled in
           absurd (omega arith)
 
+  -- an account that was there is as it was
+  live_before : (found : Option Value) (rows : Rows) (k : ℕ) (i : Item) → LiveItem found rows s.accounts k i → LiveItem found rows later.accounts k i
+  live_before found rows k i (inl others) = inl others
+  live_before found rows k i (inr (inl same)) = inr (inl same)
+  live_before found rows k i (inr (inr (inl passed))) = inr (inr (inl passed))
+  live_before found rows k i (inr (inr (inr (inl posted)))) = inr (inr (inr (inl posted)))
+  live_before found rows k i (inr (inr (inr (inr again)))) =
+      inr (inr (inr (inr (rewrap_by s.accounts later.accounts k i again again.account (account_before s.accounts new k again.account again.at) refl refl))))
+
   frame : ServerFrame secret w server s later
   frame = record {
-    reached = reached_more s (Register identifier set) tt h.reached legal;
+    reached = reached_more s (Register identifier set) h.reached legal;
     few = record {
       accounts_few = let is : length later.accounts ≡ length s.accounts + 1 = count_is in let more : n ≡ length s.accounts + 1 = number_is in
           let within : store.accounts < most_accounts = room in omega arith;
@@ -193,7 +204,7 @@ module _ (one_token : HasOneToken) (store_law : StoreShows) (register_law : Regi
     devices = refl;
     shown = λ rows name k. keeps_law rows s name identifier set legal k;
     numbers = numbers;
-    accounts = λ k a at. (a, account_before s.accounts new k a at, refl);
+    accounts = λ k a at. let same : length a.sets ≡ length a.sets = refl in (a, account_before s.accounts new k a at, refl, omega arith);
     last = let same : greatest 0 (stamps_in s.accounts) ≡ greatest 0 (stamps_in later.accounts) = last_same in omega arith;
     session = session_before;
     lasts = λ k b uuid v at found within.
@@ -201,7 +212,9 @@ module _ (one_token : HasOneToken) (store_law : StoreShows) (register_law : Regi
         (λ (added : (k ≡ length s.accounts + 1) × (new ≡ b)).
         let none : None ≡ Some v = ap (λ (c : Account). last_of uuid c.versions) added.1 ∙ found in absurd (cc))
         (account_cases s.accounts new k b at);
-    live = λ rows k i below live. subst (λ (found : Option Value). LiveItem found rows k i) (sym (item_row i.uuid)) live;
+    older_stale = λ rows name shows stale d a has. stale d a (account_same rows name d a shows has);
+    live = λ name token k tok z rows i below live.
+        subst (λ (found : Option Value). LiveItem found rows later.accounts k i) (sym (item_row i.uuid)) (live_before (w.server (key.Item i.uuid)) rows k i live);
   }
 
   pub registered : KeptBy secret next s (Register identifier set ∷ [])

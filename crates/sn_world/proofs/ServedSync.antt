@@ -1,6 +1,7 @@
 -- The serving of a sync keeps the invariant.
 use Rattle.std.proofs.Common.{◌≡◌, ◌≢◌, ◌≤◌, ℕ, List, [], ◌∷◌, ◌++◌, length, Option, Some, false, refl, sym, ap, ◌∙◌, subst, inl, inr, ⊎_elim, arith}
 use mathlib.Core.Path.{fun_ext}
+use Rattle.std.proofs.lemmas.List.{append-nil}
 use Rattle.sn_account.specs.Lookups.{HasStore}
 use Rattle.sn_account.specs.Sessions.{IsSession, session_token}
 use Rattle.sn_account.specs.Sound.{IsSound as IsSoundServer}
@@ -17,24 +18,24 @@ use Rattle.sn_rows.specs.Table.{Puts, Rows, rows_after, same_key}
 use Rattle.sn_rows.specs.declared.change.Change.{Change}
 use Rattle.sn_rows.specs.declared.key.Key.{Key}
 use Rattle.sn_rows.specs.declared.key.Key.TheVariants as key
-use Rattle.sn_rows.specs.declared.server_rows.AccountRow.{AccountRow}
 use Rattle.sn_rows.specs.declared.server_rows.StoreRow.{StoreRow}
 use Rattle.sn_rows.specs.declared.value.Value.{Value}
 use Rattle.sn_rows.specs.declared.value.Value.TheVariants as value
 use Rattle.sn_shows.specs.Laws.{HasAccount}
-use Rattle.sn_shows.specs.Servers.{ShowsIdentity, ShowsStore, account_at, stamps_in}
+use Rattle.sn_shows.specs.Servers.{ShowsStore, account_at, stamps_in}
+use Rattle.sn_string.specs.declared.params.KeySet.{KeySet}
 use Rattle.sn_string.specs.declared.params.Params.{Params}
 use Rattle.sn_sync.specs.declared.answer.Answer.{Answer}
 use Rattle.sn_sync.specs.declared.item.Item.{Item}
 use Rattle.sn_world.proofs.Frames.{ServerFrame, same_world, server_kept}
 use Rattle.sn_world.proofs.Items.{Ran, takes_all}
-use Rattle.sn_world.proofs.Saying.{batch_said}
+use Rattle.sn_world.proofs.SaidChanges.{both_say, one_said, one_says, put_says}
 use Rattle.sn_world.proofs.Steps.{Below}
-use Rattle.sn_world.proofs.Tokens.{alive_last, device_account, one_account, token_session}
+use Rattle.sn_world.proofs.Tokens.{alive_last, device_account, token_session}
 use Rattle.sn_world.specs.Holds.{HasToken, Holds, HoldsSync, TokensDiffer}
 use Rattle.sn_world.specs.Laws.{KeptBy}
 use Rattle.sn_world.specs.Live.{KnownBelow, LiveItem}
-use Rattle.sn_world.specs.Serving.{accepts_in, generation_of}
+use Rattle.sn_world.specs.Serving.{SaysChanges}
 use Rattle.sn_world.specs.World.{OnServer, World}
 
 pub one_store : (x y : StoreRow) (found : Option Value) → found ≡ Some (value.Store x) → found ≡ Some (value.Store y) → x ≡ y
@@ -57,17 +58,20 @@ unchanged secret w next s changes h on none =
     (tt, same_world secret next s w.server w.devices w.made (on.server ∙ ap (rows_after w.server) none) on.devices on.made h)
 
 -- no change is no move
-pub none_said : (server : Rows) (name : Bytes) (changes : List Change) → changes ≡ [] → accepts_in server name changes ≡ []
-none_said server name changes none = ap (accepts_in server name) none
+pub none_said : (server device : Rows) (name : Bytes) (changes : List Change) (moves : List Move) → changes ≡ []
+    → SaysChanges server device name changes moves → moves ≡ []
+none_said server device name changes moves none says = subst (λ (cs : List Change). SaysChanges server device name cs moves) none says
 
 module _ (low : Below) (secret : Bytes) (w next : World) (s : Ideal) (differ : TokensDiffer secret) (h : Holds secret w s) (name token : Bytes) (items : List Item)
-    (changes : List Change) (x : HoldsSync secret w.server (w.devices name) s name token items) (on : OnServer w next changes)
-    (sound : IsSoundServer (rows_after w.server changes)) where
+    (changes : List Change) (moves : List Move) (x : HoldsSync secret w.server (w.devices name) s name token items) (on : OnServer w next changes)
+    (sound : IsSoundServer (rows_after w.server changes)) (says : SaysChanges w.server (w.devices name) name changes moves) where
   abbrev Kept : Type 0
-  Kept = KeptBy secret next s (accepts_in w.server name changes)
+  Kept = KeptBy secret next s moves
 
   idle : changes ≡ [] → Kept
-  idle none = subst (λ (moves : List Move). KeptBy secret next s moves) (sym (none_said w.server name changes none)) (unchanged secret w next s changes h on none)
+  idle none =
+      subst (λ (ms : List Move). KeptBy secret next s ms) (sym (none_said w.server (w.devices name) name changes moves none says))
+      (unchanged secret w next s changes h on none)
 
   module _ (store : StoreRow) (stands : HasStore w.server store) (n now : ℕ) (session : IsSession w.server token n) (present : Params) (limit : ℕ)
       (sync_at cursor_at : Option ℕ) (given : Answer) (y : Synced w.server store n present items limit sync_at cursor_at now changes given) where
@@ -89,11 +93,6 @@ module _ (low : Below) (secret : Bytes) (w next : World) (s : Ideal) (differ : T
     has : HasAccount s name d a
     has = device_account low.apart secret w s h name n a d at tok.named tok.own
 
-    generation_is : session.account.generation ≡ length a.sets
-    generation_is =
-        let its : ShowsIdentity w.server n a = (h.server.all.each n a at).identity in
-        ap (λ (z : AccountRow). z.generation) (one_account session.account its.row (w.server (key.Account n)) session.there its.stands) ∙ its.generation
-
     alive : greatest 0 d.held ≡ length a.sets
     alive = alive_last low.apart secret w s h differ name token tok n session
 
@@ -112,8 +111,9 @@ module _ (low : Below) (secret : Bytes) (w next : World) (s : Ideal) (differ : T
           at = at;
           has = has;
           rows = h.devices name;
+          sound = h.sound name;
           alive = alive;
-          numbers = h.numbers name d a has;
+          numbers = h.numbers name;
         })
         known (x.live n session) y.taken
 
@@ -151,7 +151,10 @@ module _ (low : Below) (secret : Bytes) (w next : World) (s : Ideal) (differ : T
         devices = ran.devices;
         shown = ran.keeps;
         numbers = ran.numbers;
-        accounts = λ k b there. let c = ran.numbered k b there in (c.0, c.1, c.2);
+        accounts = λ k b there.
+            let c = ran.numbered k b there in
+            let same : length c.0.sets ≡ length b.sets = ap (λ (sets : List KeySet). length sets) c.3 in
+            (c.0, c.1, c.2, omega arith);
         last = let up : store.last ≤ y.end.last = ran.later in let from : store.last ≡ greatest 0 (stamps_in s.accounts) = counts.last in
             let to : y.end.last ≡ greatest 0 (stamps_in later.accounts) = ran.serving.last in omega arith;
         session = λ other t k tok_is z. record {
@@ -162,19 +165,26 @@ module _ (low : Below) (secret : Bytes) (w next : World) (s : Ideal) (differ : T
           is = z.is ∙ ap (λ (c : Bytes). session_token c k z.account.generation) (ap (λ (c : StoreRow). c.secret) (store_is z.store z.stands) ∙ secret_is);
         };
         lasts = ran.lasts;
-        live = λ rows k j below live.
-            subst (λ (found : Option Value). LiveItem found rows k j) (sym (elsewhere (key.Item j.uuid) refl))
+        older_stale = λ rows other shows stale. ran.stale rows other stale;
+        live = λ other t k tok_is z rows j below live.
+            subst (λ (found : Option Value). LiveItem found rows later.accounts k j) (sym (elsewhere (key.Item j.uuid) refl))
             (ran.live j rows k (subst (λ (c : ℕ). KnownBelow c j) (sym counts.last) below) live);
       }
 
-      said : accepts_in w.server name changes ≡ ran.moves
+      -- the store's own row behind them is no move
+      said : moves ≡ ran.moves
       said =
-          ap (accepts_in w.server name) (all ∙ ap (λ (c : List Change). c ++ end ∷ []) ran.changes)
-          ∙ batch_said w.server name n (length a.sets) ran.made ran.moves end row (ap generation_of session.there ∙ generation_is) ran.says puts
+          one_said w.server (w.devices name) name changes moves ran.moves says
+          (subst (λ (cs : List Change). SaysChanges w.server (w.devices name) name cs ran.moves)
+          (sym (all ∙ ap (λ (c : List Change). c ++ end ∷ []) ran.changes))
+          (subst (λ (ms : List Move). SaysChanges w.server (w.devices name) name (ran.made ++ end ∷ []) ms) (append-nil ran.moves)
+          (both_say w.server (w.devices name) name ran.made (end ∷ []) ran.moves [] ran.says
+          (one_says (rows_after w.server ran.made) (w.devices name) name end []
+          (put_says (rows_after w.server ran.made) (w.devices name) name end key.Store (value.Store row) [] puts refl)))))
 
       kept : Kept
       kept =
-          subst (λ (moves : List Move). KeptBy secret next s moves) (sym said)
+          subst (λ (ms : List Move). KeptBy secret next s ms) (sym said)
           (ran.legal, same_world secret next later server w.devices w.made server_is on.devices on.made (server_kept low.one_token secret w server s later h frame))
 
     synced : Kept

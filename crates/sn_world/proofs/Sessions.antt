@@ -4,7 +4,7 @@ use Rattle.std.specs.Prelude.{if◌then◌else◌}
 use Rattle.std.specs.Str.{bytes_eq}
 use Rattle.rand_chacha.specs.ChaCha.{ChaCha}
 use Rattle.sn_client.specs.Runs.{Act, Call, Halt, answered, asked, broken, commits as committed, content, delete, edit, list, passwd, put, refused, register, rows_done, sign_in, sync}
-use Rattle.sn_laws.proofs.Facts.{clash, same_text, text_same}
+use Rattle.sn_laws.proofs.Facts.{clash, end_from-append, same_text, text_same}
 use Rattle.sn_laws.specs.Each.{Each}
 use Rattle.sn_laws.specs.Lookups.{Bytes, empty}
 use Rattle.sn_laws.specs.Runs.{end_from}
@@ -17,12 +17,15 @@ use Rattle.sn_world.proofs.AskLemmas.{made_of}
 use Rattle.sn_world.proofs.CallFronts.{First, first_of, rows_left}
 use Rattle.sn_world.proofs.CallLemmas.{trace_append}
 use Rattle.sn_world.proofs.Lists.{each_both}
-use Rattle.sn_world.proofs.Traced.{trace_from}
+use Rattle.sn_world.proofs.PlainKept.{trace_plain}
+use Rattle.sn_world.proofs.PlainLines.{line_plain}
+use Rattle.sn_world.proofs.PlainSets.{legal_joined}
 use Rattle.sn_world.specs.Calls.{AreServed, CallsGo, Fate, GoesCall, Leads, LeadsTo, RegistersGo, SignInsGo, SyncsGo, call_steps, crashed, fate_steps, rows_behind, rows_served, served, undelivered}
 use Rattle.sn_world.specs.Happens.{Happens, Trace, commits, makes, serves, starts}
 use Rattle.sn_world.specs.Holds.{Holds, TokensDiffer}
-use Rattle.sn_world.specs.Laws.{HoldsFirst, Keeps, KeptBy}
-use Rattle.sn_world.specs.Serving.{moves_for}
+use Rattle.sn_world.specs.Laws.{SaysSome}
+use Rattle.sn_world.specs.Plain.{HoldsPlain, IsPlainStep, KeepsPlain, KeptPlain, PlainFirst}
+use Rattle.sn_world.specs.Serving.{Serves}
 use Rattle.sn_world.specs.Sessions.{AgainLeads, IsAgain, IsCalled, IsStopped, LeadsLine, Line, LinesGo, LinesKeep, MayCome, again, calls, device_behind_all, line_steps, made_behind, opens, rows_ended, server_behind_all, stops, with_end}
 use Rattle.sn_world.specs.World.{Made, World, at_first}
 
@@ -111,23 +114,23 @@ pub record CallLaws : Type 0 where
   pub sign_ins : SignInsGo
 
 goes_call : CallLaws → (secret : Bytes) (w : World) (s : Ideal) (name : Bytes) (least : ℕ) (call : Call) (words : ChaCha) (acts : List Act) (fates : List Fate)
-    (halt : Halt) → TokensDiffer secret → Holds secret w s → IsCalled w s name least call words acts fates halt → GoesCall secret w s name call acts fates halt
+    (halt : Halt) → TokensDiffer secret → HoldsPlain secret w s → IsCalled w s name least call words acts fates halt → GoesCall secret w s name call acts fates halt
 goes_call laws secret w s name least (register identifier password cost) words acts fates halt differ h x =
-    laws.registers secret w s name least identifier password cost words acts fates halt differ h x.runs x.over
+    laws.registers secret w s name least identifier password cost words acts fates halt differ h.holds x.runs x.over
 goes_call laws secret w s name least (sign_in identifier password) words acts fates halt differ h x =
-    laws.sign_ins secret w s name least identifier password words acts fates halt differ h x.may x.runs x.over
+    laws.sign_ins secret w s name least identifier password words acts fates halt differ h.holds x.may x.runs x.over
 goes_call laws secret w s name least (put kind text) words acts fates halt differ h x =
-    laws.quiet secret w s name least (put kind text) words acts fates halt differ h tt x.runs x.over
+    laws.quiet secret w s name least (put kind text) words acts fates halt differ h.holds tt x.runs x.over
 goes_call laws secret w s name least (edit uuid text) words acts fates halt differ h x =
-    laws.quiet secret w s name least (edit uuid text) words acts fates halt differ h tt x.runs x.over
+    laws.quiet secret w s name least (edit uuid text) words acts fates halt differ h.holds tt x.runs x.over
 goes_call laws secret w s name least (delete uuid) words acts fates halt differ h x =
-    laws.quiet secret w s name least (delete uuid) words acts fates halt differ h tt x.runs x.over
+    laws.quiet secret w s name least (delete uuid) words acts fates halt differ h.holds tt x.runs x.over
 goes_call laws secret w s name least list words acts fates halt differ h x =
-    laws.quiet secret w s name least list words acts fates halt differ h tt x.runs x.over
+    laws.quiet secret w s name least list words acts fates halt differ h.holds tt x.runs x.over
 goes_call laws secret w s name least (content uuid) words acts fates halt differ h x =
-    laws.quiet secret w s name least (content uuid) words acts fates halt differ h tt x.runs x.over
+    laws.quiet secret w s name least (content uuid) words acts fates halt differ h.holds tt x.runs x.over
 goes_call laws secret w s name least sync words acts fates halt differ h x =
-    laws.syncs secret w s name least words acts fates halt differ h x.runs x.over
+    laws.syncs secret w s name least words acts fates halt differ h.holds (h.plain.unasked name) x.runs x.over
 goes_call laws secret w s name least (passwd password cost) words acts fates halt differ h x = absurd x.may
 
 ends_so : (secret : Bytes) (w : World) (s : Ideal) (name : Bytes) (steps : List Happens) (server device : Rows) (halt : Halt) (stands : Bool)
@@ -138,7 +141,7 @@ ends_so secret w s name steps server device (broken what changes) true x = x.0
 ends_so secret w s name steps server device (broken what changes) false x = x.1
 
 called_leads : CallLaws → (secret : Bytes) (w : World) (s : Ideal) (name : Bytes) (least : ℕ) (call : Call) (words : ChaCha) (acts : List Act) (fates : List Fate)
-    (halt : Halt) (stands : Bool) → TokensDiffer secret → Holds secret w s → IsCalled w s name least call words acts fates halt
+    (halt : Halt) (stands : Bool) → TokensDiffer secret → HoldsPlain secret w s → IsCalled w s name least call words acts fates halt
     → LeadsLine secret w s (calls name least call words acts fates halt stands)
 called_leads laws secret w s name least call words acts fates halt stands differ h called =
     let goes = goes_call laws secret w s name least call words acts fates halt differ h called in
@@ -181,7 +184,7 @@ first_goes secret w s name a b server device (broken what changes) x =
     (subst (λ (steps : List Happens). Trace secret w s steps x.0.moves x.0.next) (append_assoc a b (commits name what changes true ∷ [])) x.0.goes)
 
 stopped_leads : CallLaws → (secret : Bytes) (w : World) (s : Ideal) (name : Bytes) (least : ℕ) (call : Call) (words : ChaCha) (front : List Act) (met : List Fate)
-    → TokensDiffer secret → Holds secret w s → IsStopped w s name least call words front met → LeadsLine secret w s (stops name least call words front met)
+    → TokensDiffer secret → HoldsPlain secret w s → IsStopped w s name least call words front met → LeadsLine secret w s (stops name least call words front met)
 stopped_leads laws secret w s name least call words front met differ h p =
     let goes = goes_call laws secret w s name least call words (front ++ p.later) (met ++ p.others) p.halt differ h p.called in
     let steps : List Happens = call_steps name goes.begins front met in
@@ -207,64 +210,60 @@ stopped_leads laws secret w s name least call words front met differ h p =
 abbrev with_server : World → Rows → World
 with_server w server = record { server = server; devices = w.devices; made = w.made }
 
-again_leads : (secret : Bytes) (w : World) (s : Ideal) (name : Bytes) (r : Request) (fate : Fate) → IsAgain w name r fate → LeadsLine secret w s (again name r fate)
-again_leads secret w s name r undelivered p = record {
-  begins = p.begins;
-  of_line = p.made;
-  moves = [];
-  next = w;
-  goes = (refl, refl);
-  server_is = refl;
-  devices_are = λ other. refl;
-  made_is = refl;
-}
-again_leads secret w s name r (served now changes given arrives) p =
+again_leads : SaysSome → (secret : Bytes) (w : World) (s : Ideal) (name : Bytes) (r : Request) (fate : Fate) → Holds secret w s
+    → (p : IsAgain w name r fate) → (x : LeadsLine secret w s (again name r fate)) × (x.begins ≡ p.begins)
+again_leads says secret w s name r undelivered h p = (
+  record {
+    begins = p.begins;
+    of_line = p.made;
+    moves = [];
+    next = w;
+    goes = (refl, refl);
+    server_is = refl;
+    devices_are = λ other. refl;
+    made_is = refl;
+  },
+  refl,
+)
+again_leads says secret w s name r (served now changes given arrives) h p =
+    let m : Made = record { device = name; request = r; begins = p.begins } in
     let next : World = with_server w (rows_after w.server changes) in
-    let first : List Move = moves_for w.server name p.begins r changes in
-    record {
-      begins = p.begins;
-      of_line = p.made;
-      moves = first ++ [];
-      next = next;
-      goes = (
-        next,
-        first,
-        [],
-        record { made = p.made; fits = p.over.0; rule = p.over.1; on = record { server = refl; devices = refl; made = refl } },
-        refl,
-        (refl, refl),
-        refl,
-      );
-      server_is = refl;
-      devices_are = λ other. refl;
-      made_is = refl;
-    }
-again_leads secret w s name r (crashed now changes given) p = record {
-  begins = p.begins;
-  of_line = p.made;
-  moves = [];
-  next = w;
-  goes = (w, [], [], refl, refl, (refl, refl), refl);
-  server_is = refl;
-  devices_are = λ other. refl;
-  made_is = refl;
-}
+    let serves_it : Serves w next m now changes given =
+    record { made = p.made; fits = p.over.0; rule = p.over.1; on = record { server = refl; devices = refl; made = refl } } in
+    let said = says secret w next s (serves m now changes given true) h serves_it in (
+      record {
+        begins = p.begins;
+        of_line = p.made;
+        moves = said.0 ++ [];
+        next = next;
+        goes = (next, said.0, [], serves_it, said.1, (refl, refl), refl);
+        server_is = refl;
+        devices_are = λ other. refl;
+        made_is = refl;
+      },
+      refl,
+    )
+again_leads says secret w s name r (crashed now changes given) h p = (
+  record {
+    begins = p.begins;
+    of_line = p.made;
+    moves = [];
+    next = w;
+    goes = (w, [], [], refl, refl, (refl, refl), refl);
+    server_is = refl;
+    devices_are = λ other. refl;
+    made_is = refl;
+  },
+  refl,
+)
 
-again_begins : (secret : Bytes) (w : World) (s : Ideal) (name : Bytes) (r : Request) (fate : Fate) (p : IsAgain w name r fate)
-    → (again_leads secret w s name r fate p).begins ≡ p.begins
-unfolding again_leads
-again_begins secret w s name r undelivered p = refl
-again_begins secret w s name r (served now changes given arrives) p = refl
-again_begins secret w s name r (crashed now changes given) p = refl
+pub leads_again : SaysSome → AgainLeads
+leads_again says secret w s m fate h made over =
+    again_leads says secret w s m.device m.request fate h (record { begins = m.begins; made = made; over = over })
 
-pub leads_again : AgainLeads
-leads_again secret w s m fate made over =
-    let p : IsAgain w m.device m.request fate = record { begins = m.begins; made = made; over = over } in
-    (again_leads secret w s m.device m.request fate p, again_begins secret w s m.device m.request fate p)
-
-line_leads : CallLaws → (secret : Bytes) (w : World) (s : Ideal) (line : Line) → TokensDiffer secret → Holds secret w s → MayCome secret w s line
+line_leads : CallLaws → SaysSome → (secret : Bytes) (w : World) (s : Ideal) (line : Line) → TokensDiffer secret → HoldsPlain secret w s → MayCome secret w s line
     → LeadsLine secret w s line
-line_leads laws secret w s (opens changes true) differ h (none, is) =
+line_leads laws says secret w s (opens changes true) differ h (none, is) =
     let next : World = with_server w (rows_after w.server changes) in
     record {
       begins = None;
@@ -276,7 +275,7 @@ line_leads laws secret w s (opens changes true) differ h (none, is) =
       devices_are = λ other. refl;
       made_is = refl;
     }
-line_leads laws secret w s (opens changes false) differ h p = record {
+line_leads laws says secret w s (opens changes false) differ h p = record {
   begins = None;
   of_line = tt;
   moves = [];
@@ -286,15 +285,15 @@ line_leads laws secret w s (opens changes false) differ h p = record {
   devices_are = λ other. refl;
   made_is = refl;
 }
-line_leads laws secret w s (calls name least call words acts fates halt stands) differ h p =
+line_leads laws says secret w s (calls name least call words acts fates halt stands) differ h p =
     called_leads laws secret w s name least call words acts fates halt stands differ h p
-line_leads laws secret w s (stops name least call words front met) differ h p = stopped_leads laws secret w s name least call words front met differ h p
-line_leads laws secret w s (again name r fate) differ h p = again_leads secret w s name r fate p
+line_leads laws says secret w s (stops name least call words front met) differ h p = stopped_leads laws secret w s name least call words front met differ h p
+line_leads laws says secret w s (again name r fate) differ h p = (again_leads says secret w s name r fate h.holds p).0
 
 -- ---- all of them
 
-pub lines_go : CallLaws → Keeps → LinesGo
-lines_go laws keeps secret w s [] differ h may = record {
+pub lines_go : CallLaws → SaysSome → KeepsPlain → LinesGo
+lines_go laws says keeps secret w s [] differ h may = record {
   steps = [];
   of_lines = refl;
   moves = [];
@@ -304,11 +303,12 @@ lines_go laws keeps secret w s [] differ h may = record {
   server_is = refl;
   devices_are = λ name. refl;
 }
-lines_go laws keeps secret w s (line ∷ lines) differ h (comes, follow) =
-    let x = line_leads laws secret w s line differ h comes in
+lines_go laws says keeps secret w s (line ∷ lines) differ h (comes, follow) =
+    let x = line_leads laws says secret w s line differ h comes in
     let own : List Happens = line_steps x.begins line in
-    let k : KeptBy secret x.next s x.moves = trace_from keeps secret differ own x.moves w x.next s h x.goes in
-    let y = lines_go laws keeps secret x.next (end_from s x.moves) lines differ k.1 (follow x) in
+    let plain : Each IsPlainStep own = line_plain secret w s line x.begins h.plain comes in
+    let k : KeptPlain secret x.next s x.moves = trace_plain keeps secret differ own x.moves w x.next s h plain x.goes in
+    let y = lines_go laws says keeps secret x.next (end_from s x.moves) lines differ k.1 (follow x) in
     let goes : Trace secret w s (own ++ y.steps) (x.moves ++ y.moves) y.next =
     trace_append secret own y.steps x.moves y.moves w x.next y.next s x.goes y.goes in
     record {
@@ -317,12 +317,15 @@ lines_go laws keeps secret w s (line ∷ lines) differ h (comes, follow) =
       moves = x.moves ++ y.moves;
       next = y.next;
       goes = goes;
-      keeps = trace_from keeps secret differ (own ++ y.steps) (x.moves ++ y.moves) w y.next s h goes;
+      keeps = (
+        legal_joined s x.moves y.moves k.0 y.keeps.0,
+        subst (λ (t : Ideal). HoldsPlain secret y.next t) (sym (end_from-append s x.moves y.moves)) y.keeps.1,
+      );
       server_is = y.server_is ∙ ap (λ (server : Rows). server_behind_all server lines) x.server_is;
       devices_are = λ name. y.devices_are name ∙ ap (λ (rows : Rows). device_behind_all name rows lines) (x.devices_are name);
     }
 
-pub lines_keep : HoldsFirst → LinesGo → LinesKeep
+pub lines_keep : PlainFirst → LinesGo → LinesKeep
 lines_keep first go secret lines differ may =
     let x = go secret at_first empty lines differ (first secret) may in
     (x, x.keeps.0, x.keeps.1)

@@ -1,6 +1,5 @@
 -- Which moves leave each account's sets; and which parameters are an account's present ones.
-use Rattle.std.proofs.Common.{◌≡◌, ℕ, List, [], ◌∷◌, ◌++◌, length, Option, Some, None, Bool, true, false, refl, sym, ap, ◌∙◌, subst}
-use Rattle.std.proofs.lemmas.List.Concat.{flat_map-cons}
+use Rattle.std.proofs.Common.{◌≡◌, ℕ, List, [], ◌∷◌, ◌++◌, length, Option, Some, None, Bool, true, false, refl, sym, ap, ◌∙◌, subst, inl, inr}
 use Rattle.std.specs.Prelude.{if◌then◌else◌}
 use Rattle.sn_account.specs.Rules.{IsPresent}
 use Rattle.sn_laws.specs.Each.{Each}
@@ -11,14 +10,15 @@ use Rattle.sn_laws.specs.declared.ideal.Account.{Account}
 use Rattle.sn_laws.specs.declared.ideal.Draft.{Draft}
 use Rattle.sn_laws.specs.declared.ideal.Ideal.{Ideal}
 use Rattle.sn_laws.specs.declared.moves.Move.{Move}
-use Rattle.sn_laws.specs.declared.moves.Move.TheVariants.{Register, Accept, Rewrap, Change as Changes}
-use Rattle.sn_rows.specs.Table.{Rows}
+use Rattle.sn_laws.specs.declared.moves.Move.TheVariants.{Accept, Rewrap}
+use Rattle.sn_rows.specs.Table.{Rows, rows_after}
 use Rattle.sn_rows.specs.declared.change.Change.{Change}
 use Rattle.sn_rows.specs.declared.change.Change.TheVariants.{Put, Remove}
 use Rattle.sn_rows.specs.declared.key.Key.{Key}
 use Rattle.sn_rows.specs.declared.key.Key.TheVariants as key
 use Rattle.sn_rows.specs.declared.server_rows.AccountRow.{AccountRow}
 use Rattle.sn_rows.specs.declared.server_rows.GenerationRow.{GenerationRow}
+use Rattle.sn_rows.specs.declared.server_rows.ItemRow.{ItemRow}
 use Rattle.sn_rows.specs.declared.value.Value.{Value}
 use Rattle.sn_rows.specs.declared.value.Value.TheVariants as value
 use Rattle.sn_shows.specs.Servers.{ShowsAccounts, ShowsGeneration, ShowsIdentity, account_at}
@@ -29,40 +29,45 @@ use Rattle.sn_string.specs.declared.params.Params.{Params}
 use Rattle.sn_world.proofs.Lists.{each_both}
 use Rattle.sn_world.proofs.ShowsLemmas.{ChangedFrom, account_changed, more}
 use Rattle.sn_world.proofs.Tokens.{one_account}
-use Rattle.sn_world.specs.Serving.{accept_of, accepts_in, move_of}
+use Rattle.sn_world.specs.Serving.{SaysChange, SaysChanges, SaysItem, SaysRow}
 
 -- ---- the moves of a batch of items
 
--- neither a registration nor a change of password is among them
-abbrev pub LeavesSets : Move → Type 0
-LeavesSets (Register identifier set) = ⊥
-LeavesSets (Changes identifier number set) = ⊥
-LeavesSets m = Unit {0}
+-- a new version, accepted or sealed again
+abbrev pub IsOfItem : Move → Type 0
+IsOfItem (Accept device uuid stamp under) = Unit {0}
+IsOfItem (Rewrap uuid stamp under) = Unit {0}
+IsOfItem m = ⊥
 
-accept_leaves : (server : Rows) (name : Bytes) (at : Key) (v : Value) → Each LeavesSets (accept_of server name at v)
-accept_leaves server name (key.Item uuid) (value.Item row) = (tt, tt)
-accept_leaves server name (key.Item uuid) (value.Store row) = tt
-accept_leaves server name (key.Item uuid) (value.Account row) = tt
-accept_leaves server name (key.Item uuid) (value.Generation row) = tt
-accept_leaves server name (key.Item uuid) (value.Owner row) = tt
-accept_leaves server name (key.Item uuid) (value.Set row) = tt
-accept_leaves server name (key.Item uuid) (value.Local row) = tt
-accept_leaves server name key.Store v = tt
-accept_leaves server name (key.Account number) v = tt
-accept_leaves server name (key.Generation number generation) v = tt
-accept_leaves server name key.Owner v = tt
-accept_leaves server name (key.Set slot) v = tt
-accept_leaves server name (key.Local number) v = tt
+item_says : (server device : Rows) (name uuid : Bytes) (row : ItemRow) (moves : List Move) → SaysItem server device name uuid row moves → Each IsOfItem moves
+item_says server device name uuid row moves (inl (sent, is)) = subst (λ (ms : List Move). Each IsOfItem ms) (sym is) (tt, tt)
+item_says server device name uuid row moves (inr (unsent, is)) = subst (λ (ms : List Move). Each IsOfItem ms) (sym is) (tt, tt)
 
-move_leaves : (server : Rows) (name : Bytes) (change : Change) → Each LeavesSets (move_of server name change)
-move_leaves server name (Put row) = accept_leaves server name row.key row.value
-move_leaves server name (Remove at) = tt
+row_says : (server device : Rows) (name : Bytes) (at : Key) (v : Value) (moves : List Move) → SaysRow server device name at v moves → Each IsOfItem moves
+row_says server device name (key.Item uuid) (value.Item row) moves says = item_says server device name uuid row moves says
+row_says server device name at v moves says = subst (λ (ms : List Move). Each IsOfItem ms) (sym says) tt
 
-pub accepts_leave : (server : Rows) (name : Bytes) (changes : List Change) → Each LeavesSets (accepts_in server name changes)
-accepts_leave server name [] = tt
-accepts_leave server name (c ∷ cs) =
-    subst (λ (ms : List Move). Each LeavesSets ms) (sym (flat_map-cons (move_of server name) c cs))
-    (each_both LeavesSets (move_of server name c) (accepts_in server name cs) (move_leaves server name c) (accepts_leave server name cs))
+change_says : (server device : Rows) (name : Bytes) (change : Change) (moves : List Move) → SaysChange server device name change moves → Each IsOfItem moves
+change_says server device name (Put row) moves says = row_says server device name row.key row.value moves says
+change_says server device name (Remove at) moves says = subst (λ (ms : List Move). Each IsOfItem ms) (sym says) tt
+
+pub changes_say : (server device : Rows) (name : Bytes) (changes : List Change) (moves : List Move) → SaysChanges server device name changes moves
+    → Each IsOfItem moves
+changes_say server device name [] moves says = subst (λ (ms : List Move). Each IsOfItem ms) (sym says) tt
+changes_say server device name (c ∷ cs) moves (first, later, says, rest, is) =
+    subst (λ (ms : List Move). Each IsOfItem ms) (sym is)
+    (each_both IsOfItem first later (change_says server device name c first says) (changes_say (rows_after server (c ∷ [])) device name cs later rest))
+
+-- ---- devices
+
+devices_step : (s : Ideal) (m : Move) → IsOfItem m → (after s m).devices ≡ s.devices
+devices_step s (Accept device uuid stamp under) is = refl
+devices_step s (Rewrap uuid stamp under) is = refl
+devices_step s m is = absurd is
+
+pub devices_before : (s : Ideal) (ms : List Move) → Each IsOfItem ms → (end_from s ms).devices ≡ s.devices
+devices_before s [] all = refl
+devices_before s (m ∷ ms) all = devices_before (after s m) ms all.1 ∙ devices_step s m all.0
 
 -- ---- sets
 
@@ -93,14 +98,12 @@ sets_rewrapped accounts None uuid stamp n b at = (b, at, refl)
 sets_rewrapped accounts (Some a) uuid stamp n b at =
     sets_changed (is_account a.identifier) (λ x. record x { versions = x.versions ++ again stamp (length a.sets) (last_of uuid a.versions) }) (λ x. refl) accounts n b at
 
-sets_step : (s : Ideal) (m : Move) → LeavesSets m → (n : ℕ) (b : Account) → account_at n (after s m).accounts ≡ Some b → HadSets s.accounts n b
+sets_step : (s : Ideal) (m : Move) → IsOfItem m → (n : ℕ) (b : Account) → account_at n (after s m).accounts ≡ Some b → HadSets s.accounts n b
 sets_step s (Accept device uuid stamp under) is n b at = sets_accepted s.accounts (account_of s device) (draft_at s device uuid) stamp n b at
 sets_step s (Rewrap uuid stamp under) is n b at = sets_rewrapped s.accounts (account_with s.accounts uuid) uuid stamp n b at
-sets_step s (Register identifier set) is n b at = absurd is
-sets_step s (Changes identifier number set) is n b at = absurd is
-sets_step s m is n b at = (b, at, refl)
+sets_step s m is n b at = absurd is
 
-sets_before : (s : Ideal) (ms : List Move) → Each LeavesSets ms → (n : ℕ) (b : Account) → account_at n (end_from s ms).accounts ≡ Some b
+pub sets_before : (s : Ideal) (ms : List Move) → Each IsOfItem ms → (n : ℕ) (b : Account) → account_at n (end_from s ms).accounts ≡ Some b
     → (a : Account) × (account_at n s.accounts ≡ Some a) × (b.sets ≡ a.sets)
 sets_before s [] all n b at = (b, at, refl)
 sets_before s (m ∷ ms) all n b at =
@@ -127,8 +130,8 @@ present_params server accounts n a present last shows at is last_is =
     same_params present last.params (is.identifier ∙ ap (λ (z : AccountRow). z.identifier) row ∙ its.identifier ∙ sym set.identifier)
     (is.cost ∙ ap (λ (g : GenerationRow). g.pw_cost) generation ∙ set.cost) (is.nonce ∙ ap (λ (g : GenerationRow). g.pw_nonce) generation ∙ set.nonce)
 
--- so they are after moves that leave the sets
-pub params_after : (server : Rows) (s : Ideal) (ms : List Move) (n : ℕ) (a : Account) (present : Params) → ShowsAccounts server s.accounts → Each LeavesSets ms
+-- so they are after moves of items
+pub params_after : (server : Rows) (s : Ideal) (ms : List Move) (n : ℕ) (a : Account) (present : Params) → ShowsAccounts server s.accounts → Each IsOfItem ms
     → account_at n (end_from s ms).accounts ≡ Some a → IsPresent server n present → (last : KeySet) → set_at (length a.sets) a.sets ≡ Some last → present ≡ last.params
 params_after server s ms n a present shows all at is last last_is =
     let was = sets_before s ms all n a at in

@@ -1,5 +1,5 @@
 -- A saved item that is applied to its row keeps the invariant.
-use Rattle.std.proofs.Common.{◌≡◌, ◌≢◌, ℕ, [], ◌∷◌, Option, Some, None, Bool, true, false, refl, sym, ap, ◌∙◌, subst}
+use Rattle.std.proofs.Common.{◌≡◌, ◌≢◌, ℕ, [], ◌∷◌, Option, Some, None, Bool, true, false, refl, sym, ap, ◌∙◌, subst, inl}
 use Rattle.std.specs.Prelude.{IsTrue}
 use Rattle.std.specs.Str.{bytes_eq}
 use Rattle.sn_account.specs.Sessions.{IsSession}
@@ -18,16 +18,16 @@ use Rattle.sn_rows.specs.declared.device_rows.LocalItem.{LocalItem}
 use Rattle.sn_rows.specs.declared.key.Key.TheVariants as key
 use Rattle.sn_rows.specs.declared.value.Value.TheVariants as value
 use Rattle.sn_shows.specs.Devices.{ShowsDevice}
-use Rattle.sn_shows.specs.Laws.{AccountsApart, SettleKeeps}
+use Rattle.sn_shows.specs.Laws.{AccountsApart, HasAccount, SettleKeeps}
 use Rattle.sn_sync.specs.declared.item.Item.{Item}
-use Rattle.sn_world.proofs.Based.{takes_fresh}
 use Rattle.sn_laws.specs.Lookups.{greatest}
 use Rattle.sn_client.specs.States.{Columns}
 use Rattle.sn_shows.specs.Servers.{account_at, stamps_in}
-use Rattle.sn_world.proofs.DeviceRows.{one_local, owner_past, sync_tokens_same, token_same, unasked_local, unstale_put}
+use Rattle.sn_world.proofs.DeviceRows.{one_local, owner_past, sync_tokens_same, token_same}
 use Rattle.sn_world.proofs.Frames.{DeviceFrame, HasPulled, device_kept}
 use Rattle.sn_world.proofs.Pulls.{StaysAt, stays_on, stays_put}
 use Rattle.sn_world.proofs.ShowsLemmas.{draft_is, find_past_without, find_without, not_of_device, not_of_item}
+use Rattle.sn_world.proofs.StaleRows.{stale_takes}
 use Rattle.sn_world.proofs.Steps.{reached_more}
 use Rattle.sn_world.proofs.Tokens.{apart_of, named_identifier, token_session}
 use Rattle.sn_world.specs.Holds.{HasToken, Holds, TokensDiffer}
@@ -83,12 +83,12 @@ module _ (apart : AccountsApart) (own_law : SettlesOwn) (live_law : AppliesLive)
       apart_of apart s h.reached x.n tok.number x.account tok.account x.meets.meets.at tok.at names ∙ number
 
   live : (token : Bytes) (k : ℕ) → HasToken secret s.accounts (device_named s name) token → IsSession w.server token k → (j : Item)
-      → LiveItem (w.server (key.Item j.uuid)) (w.devices name) k j → LiveItem (w.server (key.Item j.uuid)) rows k j
+      → LiveItem (w.server (key.Item j.uuid)) (w.devices name) s.accounts k j → LiveItem (w.server (key.Item j.uuid)) rows s.accounts k j
   live token k tok session j was =
       let same : x.n ≡ k = number_is token k tok session in
-      subst (λ (o : ℕ). LiveItem (w.server (key.Item j.uuid)) rows o j) same
-      (live_law w.server (w.devices name) x.n x.number local x.sent i j change x.meets.meets.stands.0 x.sends x.meets.meets.stored x.saved x.takes.puts.puts.key_is
-      (subst (λ (o : ℕ). LiveItem (w.server (key.Item j.uuid)) (w.devices name) o j) (sym same) was))
+      subst (λ (o : ℕ). LiveItem (w.server (key.Item j.uuid)) rows s.accounts o j) same
+      (live_law w.server (w.devices name) s.accounts x.n x.number local x.sent i j change x.meets.meets.stands.0 (inl x.sends) x.meets.meets.stored x.saved
+      x.takes.puts.puts.key_is (subst (λ (o : ℕ). LiveItem (w.server (key.Item j.uuid)) (w.devices name) s.accounts o j) (sym same) was))
 
   owner_same : rows key.Owner ≡ w.devices name key.Owner
   owner_same = owner_past (w.devices name) change x.number (value.Local x.takes.puts.local) x.takes.puts.puts
@@ -126,14 +126,17 @@ module _ (apart : AccountsApart) (own_law : SettlesOwn) (live_law : AppliesLive)
   frame : DeviceFrame secret w rows s later name
   frame = record {
     pulls = pulls;
-    reached = reached_more s (Settle name i.uuid) tt h.reached own.0;
+    reached = reached_more s (Settle name i.uuid) h.reached own.0;
     accounts = refl;
     others = λ other off. refl;
     shows = own.1;
     shows_others = λ at other off k. keeps at s name other i.uuid off k;
     sound = x.sound;
-    unstale = unstale_put (w.devices name) change x.number x.takes.puts.local x.takes.puts.puts (takes_fresh change x.number i None x.takes) (h.unstale name);
-    unasked = unasked_local (w.devices name) change x.number x.takes.puts.puts.key_is (h.unasked name);
+    older_stale = λ e b has.
+        let was : HasAccount s name e b = record { device = has.device; account = has.account } in
+        stale_takes (w.devices name) s name e b x.meets.meets.owner x.meets.meets.sets h.reached
+        (h.devices name) was x.meets.meets.holds change x.number i None x.takes
+        (h.older_stale name e b was);
     numbers = λ other e b has item draft at p is.
         let its = h.numbers other e b (record { device = has.device; account = has.account }) item draft (draft_before s name i.uuid other item draft at) p is in
         (its.0, its.1, λ last. its.2 (on_same s name i.uuid draft.uuid b draft.base last));

@@ -40,6 +40,7 @@ use Rattle.sn_sync.specs.declared.item.Item.{Item}
 use Rattle.sn_world.proofs.AtLast.{IsAtLast, LastTold, at_gone, at_live, last_told}
 use Rattle.sn_world.proofs.Based.{Based, based_on, given_gone, given_strings, gone_version, live_version, sealed_same}
 use Rattle.sn_world.proofs.DeviceSets.{account_is, row_draft}
+use Rattle.sn_world.proofs.NumberedSets.{are_held}
 use Rattle.sn_world.proofs.HeldStrings.{held_text, one_open}
 use Rattle.sn_world.proofs.Removing.{no_row}
 use Rattle.sn_world.proofs.Standing.{its_last}
@@ -114,13 +115,16 @@ module _ (server device : Rows) (s : Ideal) (name : Bytes) (n number : ℕ) (a :
             (content_is x.latest drafted.0.latest i.body refl drafted.3 same);
       })
 
-  module _ (change : Change) (p : TakesLast change number i None) where
+  module _ (change : Change) (p : TakesLast x.sets change number i None) where
     abbrev new : LocalItem
     new = p.puts.local
 
-    based : Based a g change number i None p version.0
+    based : Based a g x.sets change number i None p version.0
     unfolding version
-    based = based_on one_stamp server s.accounts n a g i x.accounts x.at x.stored change number None p
+    based =
+        based_on one_stamp server s.accounts n a d.held x.sets
+        (are_held device s name d a x.owner x.sets holder x.holds x.one_set) i x.accounts x.at x.stored change
+        number None p
 
     -- the row that is put has the version as its base
     puts_settled : PutsSettled change number a g local.uuid p.stands_on.stamp

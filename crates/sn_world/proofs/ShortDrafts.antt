@@ -14,7 +14,7 @@ use Rattle.sn_laws.specs.declared.ideal.Ideal.{Ideal}
 use Rattle.sn_laws.specs.declared.ideal.Posted.{Posted}
 use Rattle.sn_laws.specs.declared.moves.Move.{Move}
 use Rattle.sn_laws.specs.declared.moves.Move.TheVariants.{Edit}
-use Rattle.sn_notes.proofs.CopyLemmas.{copy_bound, kept_long}
+use Rattle.sn_notes.proofs.Facts.{copy_bound, kept_long}
 use Rattle.sn_notes.specs.Copies.{copy_of}
 use Rattle.sn_string.specs.Bounds.{longest_content}
 use Rattle.sn_world.proofs.ShortTexts.{longest_draft}

@@ -1,12 +1,13 @@
--- What a sign-in is answered with is what a device may begin with, or renew its session token with.
-use Rattle.std.proofs.Common.{◌≡◌, ℕ, List, length, Option, Some, refl, sym, ap, ◌∙◌, subst, inl, inr}
+-- What a sign-in is answered with is what a device may begin with, renew its session token with, or adopt a set with.
+use Rattle.std.proofs.Common.{◌≡◌, ◌≢◌, ◌<◌, ◌≤◌, ℕ, List, length, Option, Some, refl, sym, ap, ◌∙◌, subst, inl, inr}
+use Rattle.std.proofs.Math.Nat.{eq-or-lt_of_le}
 use Rattle.std.specs.Prelude.{IsSome}
-use Rattle.sn_account.specs.Lookups.{IsNamed}
 use Rattle.sn_account.specs.Rule.{Rule}
 use Rattle.sn_account.specs.Rules.{Admits, IsPresent, SignsIn}
 use Rattle.sn_account.specs.Sessions.{account_uuid, session_token}
-use Rattle.sn_client.specs.States.{HasSets}
+use Rattle.sn_client.specs.States.{HasOwner}
 use Rattle.sn_keys.specs.Keys.{check_value}
+use Rattle.sn_laws.proofs.Facts.{one_there}
 use Rattle.sn_laws.specs.Lookups.{Bytes, device_named, greatest}
 use Rattle.sn_laws.specs.declared.ideal.Account.{Account}
 use Rattle.sn_laws.specs.declared.ideal.Device.{Device}
@@ -17,7 +18,6 @@ use Rattle.sn_rows.specs.declared.key.Key.TheVariants as key
 use Rattle.sn_rows.specs.declared.server_rows.AccountRow.{AccountRow}
 use Rattle.sn_rows.specs.declared.value.Value.{Value}
 use Rattle.sn_rows.specs.declared.value.Value.TheVariants as value
-use Rattle.sn_sets.specs.declared.sets.Sets.{Sets}
 use Rattle.sn_shows.proofs.Facts.{holder_of, one_number}
 use Rattle.sn_shows.specs.Devices.{ShowsHolder}
 use Rattle.sn_shows.specs.Laws.{AccountsApart, HasAccount}
@@ -28,14 +28,20 @@ use Rattle.sn_string.specs.declared.params.Params.{Params}
 use Rattle.sn_sync.specs.declared.answer.Answer.TheVariants as answer
 use Rattle.sn_sync.specs.declared.request.Request.TheVariants as request
 use Rattle.sn_world.proofs.AccountSets.{nonces_apart}
-use Rattle.sn_world.proofs.DeviceSets.{present_at}
-use Rattle.sn_world.proofs.OneSets.{holds_last}
+use Rattle.sn_world.proofs.DeviceSets.{identifier_of, present_at}
 use Rattle.sn_world.proofs.SetsKept.{present_params}
-use Rattle.sn_world.proofs.Tokens.{device_account, one_account, there_is}
-use Rattle.sn_world.specs.Committing.{MayRenew}
+use Rattle.sn_world.proofs.ShowsLemmas.{holder_from}
+use Rattle.sn_world.proofs.Tokens.{device_account, held_within, named_identifier, one_account, there_is}
 use Rattle.sn_world.specs.Holds.{Holds}
-use Rattle.sn_world.specs.Laws.{SignedInBegins, SignedInRenews}
+use Rattle.sn_world.specs.Laws.{SignedInAdopts, SignedInBegins, SignedInRenews}
 use Rattle.sn_world.specs.World.{World}
+
+below_of : (a b : ℕ) → a ≤ b → a ≢ b → a < b
+below_of a b within apart =
+    elim (eq-or-lt_of_le within) [
+      | inl same ↦ absurd (apart same)
+      | inr less ↦ less
+    ]
 
 -- the account that is answered, with its last set
 pub record SignedIn (secret : Bytes) (w : World) (s : Ideal) (identifier pw token uuid : Bytes) : Type 0 where
@@ -103,38 +109,82 @@ signed_in_begins secret w s identifier now changes token name uuid set h rule to
       token_is = x.token_is;
     }
 
--- a device of the account that holds its last set as its greatest may renew its token
-renews_last : (secret : Bytes) (w : World) (s : Ideal) (identifier pw token uuid name : Bytes) (d : Device) (x : SignedIn secret w s identifier pw token uuid)
-    → device_named s name ≡ Some d → d.account ≡ identifier → greatest 0 d.held ≡ length x.account.sets → MayRenew secret s name token
-renews_last secret w s identifier pw token uuid name d x named own last = record {
-  number = x.number;
-  account = x.account;
-  at = x.at;
-  device = d;
-  named = named;
-  own = x.identifier_is ∙ sym own;
-  token_is = x.token_is ∙ ap (λ (g : ℕ). session_token secret x.number g) (sym last);
-}
+-- ---- a device that has the account
 
--- so may one whose present set has the parameters that are present, however many sets the account has
-pub present_renews : AccountsApart → (secret : Bytes) (w : World) (s : Ideal) (identifier pw : Bytes) (now : ℕ) (changes : List Change)
-    (token account uuid name : Bytes) (d : Device) (owner : OwnerRow) (sets : Sets) → Holds secret w s
-    → Rule w.server (request.SignIn identifier pw) now changes (answer.Account token account uuid) → device_named s name ≡ Some d → d.account ≡ identifier
-    → HasSets (w.devices name) owner sets → ((n : ℕ) → IsNamed w.server identifier n → IsPresent w.server n sets.present.params) → MayRenew secret s name token
-present_renews apart secret w s identifier pw now changes token account uuid name d owner sets h rule named own holds told =
+-- the device of rows with this account's row, and the account that is answered as its own
+pub record IsOwned (w : World) (s : Ideal) (name : Bytes) (account : Account) : Type 0 where
+  pub device : Device
+  pub named : device_named s name ≡ Some device
+  pub own : account.identifier ≡ device.account
+  pub has : HasAccount s name device account
+  pub holder : ShowsHolder (w.devices name) s name device account
+
+pub owned_by : AccountsApart → (secret : Bytes) (w : World) (s : Ideal) (identifier pw token uuid name : Bytes) (owner : OwnerRow) → Holds secret w s
+    → (x : SignedIn secret w s identifier pw token uuid) → HasOwner (w.devices name) owner → owner.identifier ≡ identifier
+    → IsOwned w s name x.account
+owned_by apart secret w s identifier pw token uuid name owner h x owned is =
+    let d = holder_from (w.devices name) s name key.Owner (value.Owner owner) (h.devices name) owned in
+    let first : ShowsHolder (w.devices name) s name d.0 d.1 = holder_of (w.devices name) s name d.0 d.1 (h.devices name) d.2 in
+    let of_account : owner.identifier ≡ d.1.identifier = identifier_of (w.devices name) s name d.0 d.1 owner first owned in
+    let own : x.account.identifier ≡ d.0.account =
+    x.identifier_is ∙ sym is ∙ of_account ∙ named_identifier s d.0.account d.1 d.2.account in
+    let has : HasAccount s name d.0 x.account = device_account apart secret w s h name x.number x.account d.0 x.at d.2.device own in
+    record {
+      device = d.0;
+      named = d.2.device;
+      own = own;
+      has = has;
+      holder = holder_of (w.devices name) s name d.0 x.account (h.devices name) has;
+    }
+
+-- where its present set has the parameters that are present, that is the account's last one
+pub signed_in_renews : AccountsApart → SignedInRenews
+signed_in_renews apart secret w s identifier pw now changes token account uuid name owner sets h rule holds is told =
     let x = signed_in secret w s identifier pw now changes token account uuid h rule in
-    let has : HasAccount s name d x.account = device_account apart secret w s h name x.number x.account d x.at named (x.identifier_is ∙ sym own) in
-    let holder : ShowsHolder (w.devices name) s name d x.account = holder_of (w.devices name) s name d x.account (h.devices name) has in
-    let held : set_at (greatest 0 d.held) x.account.sets ≡ Some sets.present = present_at (w.devices name) s name d x.account owner sets holder holds in
+    let o = owned_by apart secret w s identifier pw token uuid name owner h x holds.owned is in
+    let held : set_at (greatest 0 o.device.held) x.account.sets ≡ Some sets.present =
+    present_at (w.devices name) s name o.device x.account owner sets o.holder holds in
     let present : IsPresent w.server x.number sets.present.params = told x.number (x.row, x.there, x.named) in
     let params : sets.present.params ≡ x.last.params =
     present_params w.server s.accounts x.number x.account sets.present.params x.last h.server.all x.at present x.last_is in
-    renews_last secret w s identifier pw token uuid name d x named own
-    (one_number x.account.sets (greatest 0 d.held) (length x.account.sets) sets.present x.last (nonces_apart s h.reached x.number x.account x.at) held x.last_is
-    (ap (λ (p : Params). p.pw_nonce) params))
+    let last : greatest 0 o.device.held ≡ length x.account.sets =
+    one_number x.account.sets (greatest 0 o.device.held) (length x.account.sets) sets.present x.last (nonces_apart s h.reached x.number x.account x.at) held
+    x.last_is (ap (λ (p : Params). p.pw_nonce) params) in
+    record {
+      number = x.number;
+      account = x.account;
+      at = x.at;
+      device = o.device;
+      named = o.named;
+      own = o.own;
+      token_is = x.token_is ∙ ap (λ (g : ℕ). session_token secret x.number g) (sym last);
+    }
 
-pub signed_in_renews : AccountsApart → SignedInRenews
-signed_in_renews apart secret w s identifier pw now changes token account uuid name d h rule named own =
-    let x = signed_in secret w s identifier pw now changes token account uuid h rule in
-    let has : HasAccount s name d x.account = device_account apart secret w s h name x.number x.account d x.at named (x.identifier_is ∙ sym own) in
-    renews_last secret w s identifier pw token uuid name d x named own (holds_last s h.reached (w.devices name) name d x.account has (h.devices name))
+-- where it has others, it may adopt the last one
+pub signed_in_adopts : AccountsApart → SignedInAdopts
+signed_in_adopts apart secret w s identifier now changes token account uuid name owner sets set h rule holds is other told only =
+    let x = signed_in secret w s identifier set.pw now changes token account uuid h rule in
+    let o = owned_by apart secret w s identifier set.pw token uuid name owner h x holds.owned is in
+    let held : set_at (greatest 0 o.device.held) x.account.sets ≡ Some sets.present =
+    present_at (w.devices name) s name o.device x.account owner sets o.holder holds in
+    let present : IsPresent w.server x.number set.params = told x.number (x.row, x.there, x.named) in
+    let params : x.last.params ≡ set.params =
+    sym (present_params w.server s.accounts x.number x.account set.params x.last h.server.all x.at present x.last_is) in
+    let last : set_at (length x.account.sets) x.account.sets ≡ Some set = x.last_is ∙ ap Some (only x.number x.account x.last x.at x.last_is params x.check) in
+    let within : greatest 0 o.device.held ≤ length x.account.sets = held_within apart secret w s h name o.device x.account o.has in
+    let apart_from : greatest 0 o.device.held ≢ length x.account.sets =
+    λ same.
+    let there : set_at (length x.account.sets) x.account.sets ≡ Some sets.present =
+    subst (λ (g : ℕ). set_at g x.account.sets ≡ Some sets.present) same held in
+    other (ap (λ (z : KeySet). z.params) (one_there set sets.present (set_at (length x.account.sets) x.account.sets) last there)) in
+    record {
+      number = x.number;
+      account = x.account;
+      at = x.at;
+      device = o.device;
+      named = o.named;
+      own = o.own;
+      last = last;
+      above = below_of (greatest 0 o.device.held) (length x.account.sets) within apart_from;
+      token_is = x.token_is;
+    }

@@ -4,7 +4,7 @@ use Rattle.sn_account.specs.Lookups.{HasStore}
 use Rattle.sn_laws.specs.Lookups.{Bytes, greatest}
 use Rattle.sn_laws.specs.declared.ideal.Account.{Account}
 use Rattle.sn_laws.specs.declared.ideal.Ideal.{Ideal}
-use Rattle.sn_account.proofs.FirstLemmas.{first_sound}
+use Rattle.sn_account.proofs.Facts.{first_sound}
 use Rattle.sn_account.specs.States.{first_rows}
 use Rattle.sn_rows.specs.declared.key.Key.{Key}
 use Rattle.sn_rows.specs.Facts.{put_apart, put_gives, put_here}
@@ -98,8 +98,9 @@ module _ (one_token : HasOneToken) (law : StoreShows) (secret : Bytes) (w next :
     last = let same : greatest 0 (stamps_in s.accounts) ≡ greatest 0 (stamps_in s.accounts) = refl in omega arith;
     session = λ name token n tok session. absurd (nobody tok.number s.accounts tok.account empty tok.at);
     lasts = λ n a uuid v at found within. (a, at, refl, found);
-    live = λ rows n i below live.
-        subst (λ (found : Option Value). LiveItem found rows n i)
+    older_stale = λ rows name k stale. stale;
+    live = λ name token n tok session rows i below live.
+        subst (λ (found : Option Value). LiveItem found rows s.accounts n i)
         (sym (put_apart w.server x.is.change key.Store (key.Item i.uuid) (value.Store x.is.store) x.is.puts refl)) live;
   }
 

@@ -30,6 +30,7 @@ use Rattle.sn_world.specs.Happens.{Happens, commits}
 use Rattle.sn_world.specs.Holds.{Holds, TokensDiffer}
 use Rattle.sn_world.specs.Laws.{Keeps, SaysSome}
 use Rattle.sn_world.specs.Making.{MakesOf, SendsTokens}
+use Rattle.sn_world.specs.Plain.{AsksNoSet}
 use Rattle.sn_world.specs.Rounds.{round_steps}
 use Rattle.sn_world.specs.World.{World}
 
@@ -118,7 +119,7 @@ module _ (laws : RoundLaws) (keeps : Keeps) (says : SaysSome) (secret : Bytes) (
   module _ (v : World) (t : Ideal) (server ready : Rows) (words : ChaCha) (r : Request) (reply : Reply) (fate : Fate) (k : Stands secret name v t server ready)
       (of : MakesOf ready None r) (apart : AreApart (uuids (items_of r))) (tokens : SendsTokens ready r) (over : IsServed server r reply fate) where
     asked_leads : Leads secret v t name (call_steps name None (asked r reply ∷ []) (fate ∷ [])) (rows_behind server fate) ready
-    asked_leads = ask_leads secret name None v t server ready r reply fate k of over
+    asked_leads = ask_leads keeps says secret differ name None v t server ready k r of reply fate over
 
     abbrev Behind : Halt → Type 0
     Behind halt = Goes secret name None v t server ready (asked r reply ∷ []) (fate ∷ []) halt
@@ -265,15 +266,15 @@ module _ (laws : RoundLaws) (keeps : Keeps) (says : SaysSome) (secret : Bytes) (
         subst (λ (xs : List Act). Goes secret name None w s w.server (w.devices name) xs fates halt) (sym x.acts_are)
         (all w s w.server fates (record { holds = h; server_is = refl; device_is = refl }) (subst (λ (xs : List Act). AreServed w.server xs fates) x.acts_are over))
 
-    sync_goes : (least : ℕ) → Run least sync (w.devices name) words acts halt → here
-    sync_goes least (inl wants) = refused_here keeps says secret differ name w s h words acts fates halt over refusal.Memory wants
-    sync_goes least (inr (inl (none, refuses))) = refused_here keeps says secret differ name w s h words acts fates halt over refusal.NoAccount refuses
-    sync_goes least (inr (inr (owner, sets, holds, syncs))) =
-        exchanges_go (synced_alone (w.devices name) words owner sets acts halt (unasked secret w s name h owner sets holds) syncs)
+    sync_goes : (least : ℕ) → AsksNoSet (w.devices name) → Run least sync (w.devices name) words acts halt → here
+    sync_goes least none (inl wants) = refused_here keeps says secret differ name w s h words acts fates halt over refusal.Memory wants
+    sync_goes least none (inr (inl (nobody, refuses))) = refused_here keeps says secret differ name w s h words acts fates halt over refusal.NoAccount refuses
+    sync_goes least none (inr (inr (owner, sets, holds, syncs))) =
+        exchanges_go (synced_alone (w.devices name) words owner sets acts halt (unasked (w.devices name) owner sets none holds) syncs)
 
 pub syncs_go : RoundLaws → Keeps → SaysSome → SyncsGo
-syncs_go laws keeps says secret w s name least words acts fates halt differ h runs over = record {
+syncs_go laws keeps says secret w s name least words acts fates halt differ h none runs over = record {
   begins = None;
   of_call = refl;
-  leads = sync_goes laws keeps says secret differ name w s h words acts fates halt over least runs;
+  leads = sync_goes laws keeps says secret differ name w s h words acts fates halt over least none runs;
 }

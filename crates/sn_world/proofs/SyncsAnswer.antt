@@ -37,6 +37,8 @@ use Rattle.sn_world.proofs.AnswerPasses.{fails_not}
 use Rattle.sn_world.proofs.Batches.{posted_fit}
 use Rattle.sn_world.proofs.FittingRows.{steps_fit_uuids}
 use Rattle.sn_world.proofs.Heard.{few_items, few_sent, heard_fits, heard_passes, heard_short, honest}
+use Rattle.sn_world.proofs.PlainEnds.{IsPlainDevice, plain_device}
+use Rattle.sn_world.proofs.PlainKept.{trace_plain}
 use Rattle.sn_world.proofs.PresentSets.{unasked}
 use Rattle.sn_world.proofs.Reaching.{Reaches, Ready, over_posting, ready_at, requests_of, rounds_reach, sound_at}
 use Rattle.sn_world.proofs.RoundLemmas.{RoundLaws, sent_of}
@@ -45,9 +47,10 @@ use Rattle.sn_world.specs.Calls.{AreServed, Fate, crashed, rows_served, served, 
 use Rattle.sn_world.specs.Committing.{AreDifferent}
 use Rattle.sn_world.specs.Delivered.{CallsFit, FirstFits, TracesFit}
 use Rattle.sn_world.specs.Fitting.{FitsUuids}
-use Rattle.sn_world.specs.Holds.{Holds, TokensDiffer}
-use Rattle.sn_world.specs.Laws.{HoldsFirst, Keeps, SaysSome, TraceKeeps}
+use Rattle.sn_world.specs.Holds.{TokensDiffer}
+use Rattle.sn_world.specs.Laws.{Keeps, SaysSome}
 use Rattle.sn_world.specs.Making.{MakesOf, SendsTokens}
+use Rattle.sn_world.specs.Plain.{HoldsPlain, KeepsPlain, PlainFirst, PlainRows}
 use Rattle.sn_world.specs.World.{World, at_first}
 
 -- ---- what is sent
@@ -98,8 +101,8 @@ one_said given g is = cc
 
 -- ---- how it ends
 
-module _ (laws : RoundLaws) (keeps : Keeps) (says : SaysSome) (rise : VersionsRise) (one_stamp : HasOneStamp) (secret : Bytes) (differ : TokensDiffer secret)
-    (name : Bytes) (first rows : Rows) (words : ChaCha) (acts : List Act) (fates : List Fate) where
+module _ (laws : RoundLaws) (keeps : Keeps) (says : SaysSome) (plainly : KeepsPlain) (plain_rows : PlainRows) (rise : VersionsRise) (one_stamp : HasOneStamp)
+    (secret : Bytes) (differ : TokensDiffer secret) (name : Bytes) (first rows : Rows) (words : ChaCha) (acts : List Act) (fates : List Fate) where
   abbrev Ends : Halt → Type 0
   Ends halt = SyncEnds first rows words acts fates halt
 
@@ -112,7 +115,7 @@ module _ (laws : RoundLaws) (keeps : Keeps) (says : SaysSome) (rise : VersionsRi
   stops what changes halt fits (inr (inl (large, is))) = absurd (large fits)
   stops what changes halt fits (inr (inr is)) = wants halt is
 
-  module _ (b : Behind rows words acts) (x : Reaches laws keeps says secret differ name first b.at b.later fates) where
+  module _ (b : Behind rows words acts) (x : Reaches laws keeps says plainly secret differ name first b.at b.later fates) where
     abbrev server : Rows
     server = rows_served first x.met
 
@@ -125,16 +128,20 @@ module _ (laws : RoundLaws) (keeps : Keeps) (says : SaysSome) (rise : VersionsRi
       so : AreDifferent numbers × ((begins : Option KeySet) → MakesOf ready begins r) × AreApart (uuids items) × SendsTokens ready r
       so = sent_of laws.sends secret x.world x.ideal name b.at.rows x.stands.holds x.stands.device_is numbers posted r ready sends
 
-      there : Ready laws keeps says secret differ name server ready
+      there : Ready laws keeps says plainly secret differ name server ready
       there =
-          subst (λ (z : Rows). Ready laws keeps says secret differ name server z) (sym sends.ready_is)
-          (ready_at laws keeps says secret differ name x.world x.ideal server b.at.rows b.at.words numbers posted x.stands sends.posts_them so.0)
+          subst (λ (z : Rows). Ready laws keeps says plainly secret differ name server z) (sym sends.ready_is)
+          (ready_at laws keeps says plainly secret differ name x.world x.ideal server b.at.rows b.at.words numbers posted x.stands x.plain
+          sends.posts_them so.0)
+
+      plain : IsPlainDevice there.world there.ideal name
+      plain = plain_device plain_rows secret there.world there.ideal name (record { holds = there.stands.holds; plain = there.plain })
 
       have : FitsUuids ready
       have =
           subst FitsUuids (sym sends.ready_is)
           (steps_fit_uuids b.at.rows b.at.words b.at.words (posts numbers) posted
-          (sound_at laws keeps says secret differ name x.world x.ideal server b.at.rows x.stands) x.have (sends.posts_them, refl))
+          (sound_at laws keeps says plainly secret differ name x.world x.ideal server b.at.rows x.stands) x.have (sends.posts_them, refl))
 
       owned_ready : HasOwner ready owner
       owned_ready = ap (λ (z : Rows). z key.Owner) sends.ready_is ∙ posted_owner b.at.rows numbers posted (b.at.rows key.Owner) sends.posts_them ∙ owned
@@ -188,18 +195,18 @@ module _ (laws : RoundLaws) (keeps : Keeps) (says : SaysSome) (rise : VersionsRi
           module _ (rule : Rule server r l.now l.changes given) (y : IsSynced server owner.token items most_retrieved l.now l.changes given) where
             passes : Passes items saved conflicts retrieved cursor
             passes =
-                heard_passes laws rise one_stamp secret differ name there.world there.ideal server ready there.stands owner owned_ready items (so.1 None) few_here
-                so.2 so.3 l.now l.changes l.fits conflicts cursor retrieved saved token rule y
+                heard_passes laws rise one_stamp secret differ name there.world there.ideal server ready there.stands plain owner owned_ready items
+                (so.1 None) few_here so.2 so.3 l.now l.changes l.fits conflicts cursor retrieved saved token rule y
 
             not_long : (word : Bytes) → HasLongToken cursor token word → ⊥
             not_long word long =
-                heard_short laws rise one_stamp secret differ name there.world there.ideal server ready there.stands owner owned_ready items (so.1 None) few_here
-                so.2 so.3 l.now l.changes l.fits conflicts cursor retrieved saved token rule y word long
+                heard_short laws rise one_stamp secret differ name there.world there.ideal server ready there.stands plain owner owned_ready items
+                (so.1 None) few_here so.2 so.3 l.now l.changes l.fits conflicts cursor retrieved saved token rule y word long
 
             fits : (left : ChaCha) (applied : List Change) → Applies ready b.at.words items conflicts cursor retrieved saved token applied left → IsBatch applied
             fits left applied step =
-                heard_fits laws rise one_stamp secret differ name there.world there.ideal server ready there.stands owner owned_ready items (so.1 None) few_here
-                so.2 so.3 l.now l.changes l.fits conflicts cursor retrieved saved token rule y b.at.words left applied have step
+                heard_fits laws rise one_stamp secret differ name there.world there.ideal server ready there.stands plain owner owned_ready items
+                (so.1 None) few_here so.2 so.3 l.now l.changes l.fits conflicts cursor retrieved saved token rule y b.at.words left applied have step
 
             unapplied_so : reply ≡ said given → (why : ClientError) → IsUnapplied ready b.at.words items given why → halt ≡ refused why → Ends halt
             unapplied_so is why (inl (word, long, why_is)) halt_is = absurd (not_long word long)
@@ -251,7 +258,7 @@ module _ (laws : RoundLaws) (keeps : Keeps) (says : SaysSome) (rise : VersionsRi
             (subst (λ (g : Answer). Rule server r l.now l.changes g) is l.rule)
             (subst (λ (g : Answer). IsSynced server owner.token items most_retrieved l.now l.changes g) is y) (l.said_is ∙ ap said is)
             (subst (λ (g : Answer). EndsBehind ready b.at.words r (said g) halt) is here))
-            (honest laws rise one_stamp secret differ name there.world there.ideal server ready there.stands owner owned_ready items (so.1 None) few_here
+            (honest laws rise one_stamp secret differ name there.world there.ideal server ready there.stands plain owner owned_ready items (so.1 None) few_here
             l.now l.changes l.given l.rule)
 
       exchange_ends : EndsExchange b.at.words numbers posted r ready b.later halt → Ends halt
@@ -288,29 +295,34 @@ module _ (laws : RoundLaws) (keeps : Keeps) (says : SaysSome) (rise : VersionsRi
 
 -- ---- the call
 
-served_answers : RoundLaws → Keeps → SaysSome → VersionsRise → HasOneStamp → (secret : Bytes) (w : World) (s : Ideal) (name : Bytes) (owner : OwnerRow)
-    (least : ℕ) (words : ChaCha) (acts : List Act) (fates : List Fate) (halt : Halt) → TokensDiffer secret → Holds secret w s → HasOwner (w.devices name) owner
+served_answers : RoundLaws → Keeps → SaysSome → KeepsPlain → PlainRows → VersionsRise → HasOneStamp → (secret : Bytes) (w : World) (s : Ideal)
+    (name : Bytes) (owner : OwnerRow) (least : ℕ) (words : ChaCha) (acts : List Act) (fates : List Fate) (halt : Halt) → TokensDiffer secret
+    → HoldsPlain secret w s → HasOwner (w.devices name) owner
     → FitsUuids (w.devices name) → Run least sync (w.devices name) words acts halt → AreServed w.server acts fates → Each Arrives fates
     → SyncEnds w.server (w.devices name) words acts fates halt
-served_answers laws keeps says rise one_stamp secret w s name owner least words acts fates halt differ h owned have (inl none) over arrive =
-    wants laws keeps says rise one_stamp secret differ name w.server (w.devices name) words acts fates halt none.1
-served_answers laws keeps says rise one_stamp secret w s name owner least words acts fates halt differ h owned have (inr (inl (nobody, refuses))) over arrive =
+served_answers laws keeps says plainly plain_rows rise one_stamp secret w s name owner least words acts fates halt differ h owned have (inl none) over arrive =
+    wants laws keeps says plainly plain_rows rise one_stamp secret differ name w.server (w.devices name) words acts fates halt none.1
+served_answers laws keeps says plainly plain_rows rise one_stamp secret w s name owner least words acts fates halt differ h owned have (inr (inl (nobody, refuses)))
+    over arrive =
     absurd (cc)
-served_answers laws keeps says rise one_stamp secret w s name owner least words acts fates halt differ h owned have (inr (inr (one, sets, holds, syncs))) over arrive =
+served_answers laws keeps says plainly plain_rows rise one_stamp secret w s name owner least words acts fates halt differ h owned have
+    (inr (inr (one, sets, holds, syncs))) over arrive =
     let e : ExchangesAlone (w.devices name) words acts halt =
-    synced_alone (w.devices name) words one sets acts halt (unasked secret w s name h one sets holds) syncs in
+    synced_alone (w.devices name) words one sets acts halt (unasked (w.devices name) one sets (h.plain.unasked name) holds) syncs in
     let start : Standing = record { rows = w.devices name; words = words; last = None } in
     let b : Behind (w.devices name) words acts = record { rounds = e.rounds; at = e.at; went = e.went; later = e.later; acts_are = e.acts_are } in
-    let x = rounds_reach laws keeps says secret differ name e.rounds start e.at e.later w s w.server fates
-    (record { holds = h; server_is = refl; device_is = refl }) have e.went (subst (λ (xs : List Act). AreServed w.server xs fates) e.acts_are over) arrive in
-    alone_ends laws keeps says rise one_stamp secret differ name w.server (w.devices name) words acts fates b x halt e.ends
+    let x = rounds_reach laws keeps says plainly secret differ name e.rounds start e.at e.later w s w.server fates
+    (record { holds = h.holds; server_is = refl; device_is = refl }) h.plain have e.went
+    (subst (λ (xs : List Act). AreServed w.server xs fates) e.acts_are over) arrive in
+    alone_ends laws keeps says plainly plain_rows rise one_stamp secret differ name w.server (w.devices name) words acts fates b x halt e.ends
 
-pub syncs_answer : CallsFit → RoundLaws → Keeps → SaysSome → VersionsRise → HasOneStamp → SyncsAnswer
-syncs_answer fit laws keeps says rise one_stamp secret w s name owner least words acts fates halt differ h owned uuids run over arrive =
-    served_answers laws keeps says rise one_stamp secret w s name owner least words acts fates halt differ h owned uuids run
-    (fit secret w s name least sync words acts fates halt h uuids tt tt run over) arrive
+pub syncs_answer : CallsFit → RoundLaws → Keeps → SaysSome → KeepsPlain → PlainRows → VersionsRise → HasOneStamp → SyncsAnswer
+syncs_answer fit laws keeps says plainly plain_rows rise one_stamp secret w s name owner least words acts fates halt differ h owned uuids run over arrive =
+    served_answers laws keeps says plainly plain_rows rise one_stamp secret w s name owner least words acts fates halt differ h owned uuids run
+    (fit secret w s name least sync words acts fates halt h.holds (h.plain.unasked name) uuids tt tt run over) arrive
 
-pub traced_syncs_answer : HoldsFirst → TraceKeeps → FirstFits → TracesFit → SyncsAnswer → TracedSyncsAnswer
-traced_syncs_answer first trace fresh traces syncs secret steps moves w name owner least words acts fates halt differ t owned run over arrive =
-    syncs secret w (end moves) name owner least words acts fates halt differ (trace secret steps moves w differ t).1 owned
-    (traces secret at_first w empty steps moves differ (first secret) fresh.devices t name) run over arrive
+pub traced_syncs_answer : PlainFirst → KeepsPlain → FirstFits → TracesFit → SyncsAnswer → TracedSyncsAnswer
+traced_syncs_answer first keeps fresh traces syncs secret steps moves w name owner least words acts fates halt differ t plain owned run over arrive =
+    syncs secret w (end moves) name owner least words acts fates halt differ
+    (trace_plain keeps secret differ steps moves at_first w empty (first secret) plain t).1 owned
+    (traces secret at_first w empty steps moves differ (first secret).holds fresh.devices t name) run over arrive

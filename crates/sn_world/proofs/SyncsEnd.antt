@@ -268,13 +268,13 @@ module _ (whole : AppliedWhole) (synced : SyncedRows) (keeps : Keeps) (secret : 
       (subst (λ (r : Rows). NoneWaits r) (sym rows_are) last.none_waits) all
 
 pub syncs_end : AppliedWhole → SyncedRows → Keeps → SyncsGo → SyncsEnd
-syncs_end whole synced keeps go secret w s name least words left acts fates given differ h runs over =
-    let g = go secret w s name least words acts fates (answered given left) differ h runs over in
+syncs_end whole synced keeps go secret w s name least words left acts fates given differ h none runs over =
+    let g = go secret w s name least words acts fates (answered given left) differ h none runs over in
     let leads : Leads secret w s name (call_steps name None acts fates) (rows_served w.server fates) (rows_done (w.devices name) acts) =
     subst (λ (begins : Option KeySet). Leads secret w s name (call_steps name begins acts fates) (rows_served w.server fates) (rows_done (w.devices name) acts))
     g.of_call g.leads in
     record {
       leads = leads;
       synced = synced_there whole synced keeps secret differ w s h name words left acts fates given over
-          (exchanges_of least (w.devices name) words left acts given (unasked secret w s name h) runs) leads;
+          (exchanges_of least (w.devices name) words left acts given (λ owner sets has. unasked (w.devices name) owner sets none has) runs) leads;
     }

@@ -27,13 +27,13 @@ use Rattle.sn_world.proofs.TakenMet.{TakingLaws}
 use Rattle.sn_world.proofs.TakenOne.{takes_server}
 use Rattle.sn_world.proofs.TakenRenamed.{takes_foreign}
 use Rattle.sn_world.specs.Applying.{SaysAllTold, SaysForeign, SaysMeets, SaysServer, SaysTold}
-use Rattle.sn_world.specs.Making.{SendsPosted}
+use Rattle.sn_world.specs.Making.{IsSentBy}
 
 -- ---- what is known of each entry
 
 -- what is saved is what the row of its item sent
 abbrev pub LinkedAt : Rows → Item → Type 0
-LinkedAt rows i = (number : ℕ) (local : LocalItem) → HasItem rows i.uuid number local → (sent : Item) × SendsPosted local sent × IsSavedOf sent i
+LinkedAt rows i = (number : ℕ) (local : LocalItem) → HasItem rows i.uuid number local → (sent : Item) × IsSentBy local sent × IsSavedOf sent i
 
 -- it is the server's, as it is told
 abbrev pub Good : Rows → ℕ → List Item → Rows → Told → Type 0
@@ -133,7 +133,7 @@ takes_of name sets saved p q (is_conflict (conflict.Content i)) moves says = abs
 takes_of name sets saved p q (is_retrieved i) moves (inl (has, same, none)) = inl (has, same)
 takes_of name sets saved p q (is_retrieved i) moves (inr (apart, says)) = inr (apart, server_of name sets p q i false moves says)
 
-module _ (laws : TakingLaws) (server : Rows) (name : Bytes) (n : ℕ) (a : Account) (d : Device) (owner : OwnerRow) (sets : Sets) (no_older : sets.older ≡ None)
+module _ (laws : TakingLaws) (server : Rows) (name : Bytes) (n : ℕ) (a : Account) (d : Device) (owner : OwnerRow) (sets : Sets)
     (saved : List Item) where
   abbrev AlongHere : Progress → Ideal → Type 0
   AlongHere p s = Along server name n a d owner sets p s
@@ -147,7 +147,7 @@ module _ (laws : TakingLaws) (server : Rows) (name : Bytes) (n : ℕ) (a : Accou
   version : (p q : Progress) (s : Ideal) (i : Item) (flag : Bool) (moves : List Move) → AlongHere p s → IsStored server n i → (flag ≡ true → LinkedAt p.rows i)
       → AreStanding q.next q.rows → SaysServer name sets p i flag q moves → TookHere p q s moves × (flag ≡ true → Past p.rows q.rows i.uuid)
   version p q s i flag moves h stored linked standing says =
-      takes_server laws server name n a d owner sets no_older p s h i stored q flag moves linked standing says
+      takes_server laws server name n a d owner sets p s h i stored q flag moves linked standing says
 
   nothing : (p q : Progress) (s : Ideal) (moves : List Move) → AlongHere p s → q ≡ p → moves ≡ [] → TookHere p q s moves
   nothing p q s moves h same none = subst (λ (ms : List Move). TookHere p q s ms) (sym none) (took_nothing server name n a d owner sets p q s h same)
@@ -159,7 +159,7 @@ module _ (laws : TakingLaws) (server : Rows) (name : Bytes) (n : ℕ) (a : Accou
       (both.0, both.1 refl)
   one_told (is_conflict (conflict.Sync i)) p q s moves h good says standing = ((version p q s i false moves h good.0 (λ e. absurd (cc)) standing says).0, tt)
   one_told (is_conflict (conflict.Uuid i)) p q s moves h good says standing =
-      (takes_foreign laws server name n a d owner sets no_older p q s h i.uuid moves good.0 standing says, tt)
+      (takes_foreign laws server name n a d owner sets p q s h i.uuid moves good.0 standing says, tt)
   one_told (is_conflict (conflict.Content i)) p q s moves h good says standing = absurd says
   one_told (is_retrieved i) p q s moves h good (inl (has, same, none)) standing = (nothing p q s moves h same none, tt)
   one_told (is_retrieved i) p q s moves h (inl stored, checked) (inr (apart, says)) standing =

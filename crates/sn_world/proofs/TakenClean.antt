@@ -21,17 +21,17 @@ use Rattle.sn_sync.specs.Laws.{HasOneStamp}
 use Rattle.sn_sync.specs.declared.item.Body.{Body}
 use Rattle.sn_sync.specs.declared.item.Body.TheVariants as body
 use Rattle.sn_sync.specs.declared.item.Item.{Item}
-use Rattle.sn_world.proofs.Based.{Based, based_on, takes_fresh}
-use Rattle.sn_world.proofs.DeviceRows.{one_local, posted_put, unstale_put, unstale_removed}
+use Rattle.sn_world.proofs.Based.{Based, based_on}
+use Rattle.sn_world.proofs.DeviceRows.{one_local, posted_put}
 use Rattle.sn_world.proofs.DeviceSets.{free_undrafted}
 use Rattle.sn_world.proofs.Frames.{live_kept}
 use Rattle.sn_world.proofs.ShowsLemmas.{IsPut, put_holder, shows_of}
 use Rattle.sn_world.proofs.Standing.{its_last}
 use Rattle.sn_world.proofs.TakenFrames.{Along, Past, Took, number_free, past_put, past_removed, posted_removed, took_clean, took_nothing, undrafted, unsent}
-use Rattle.sn_world.proofs.TakenMet.{own_uuid, past_so, takes_last}
+use Rattle.sn_world.proofs.TakenMet.{held, own_uuid, past_so, takes_last}
 use Rattle.sn_world.specs.Settling.{TakesLast}
 
-module _ (one_stamp : HasOneStamp) (server : Rows) (name : Bytes) (n : ℕ) (a : Account) (d : Device) (owner : OwnerRow) (sets : Sets) (no_older : sets.older ≡ None)
+module _ (one_stamp : HasOneStamp) (server : Rows) (name : Bytes) (n : ℕ) (a : Account) (d : Device) (owner : OwnerRow) (sets : Sets)
     (p : Progress) (s : Ideal) (h : Along server name n a d owner sets p s) (i : Item) (stored : IsStored server n i) where
   abbrev TookSo : Progress → Type 0
   TookSo q = Took server name n a d owner sets p q s []
@@ -44,9 +44,10 @@ module _ (one_stamp : HasOneStamp) (server : Rows) (name : Bytes) (n : ℕ) (a :
 
   -- ---- a row without a draft
 
-  module _ (change : Change) (number : ℕ) (t : TakesLast change number i None) (none : draft_at s name i.uuid ≡ None) where
-    based : Based a g change number i None t (its_last server s.accounts n a i.uuid stored.0 h.accounts h.at stored.1 stored.2).0
-    based = based_on one_stamp server s.accounts n a g i h.accounts h.at stored change number None t
+  module _ (change : Change) (number : ℕ) (t : TakesLast sets change number i None) (none : draft_at s name i.uuid ≡ None) where
+    based : Based a g sets change number i None t (its_last server s.accounts n a i.uuid stored.0 h.accounts h.at stored.1 stored.2).0
+    based =
+        based_on one_stamp server s.accounts n a d.held sets (held server name n a d owner sets p s h) i h.accounts h.at stored change number None t
 
     abbrev new : LocalItem
     new = t.puts.local
@@ -98,23 +99,23 @@ module _ (one_stamp : HasOneStamp) (server : Rows) (name : Bytes) (n : ℕ) (a :
   takes_clean number local q stands none standing body.Deleted is (change, gone, same) =
       took_past q (rows_after p.rows (change ∷ [])) (ap (λ (r : Progress). r.rows) same)
       (took_clean server name n a d owner sets p q s change number h gone.key_is (ap (λ (r : Progress). r.rows) same) (ap (λ (r : Progress). r.changes) same) standing
-      (unstale_removed p.rows change number gone h.unstale)
       (removed_clean p.rows s name number local d a change h.shows h.has stands.0 gone
       (ap (draft_at s name) stands.1 ∙ draft_of number local stands none))
       (λ j k. live_kept p.rows (rows_after p.rows (change ∷ []))
-      (posted_removed p.rows change number local stands.0 (unsent (columns local) (h.standing.items number local stands.0) none) gone) (server (key.Item j.uuid)) n j k))
+      (posted_removed p.rows change number local stands.0 (unsent (columns local) (h.standing.items number local stands.0) none) gone)
+      (server (key.Item j.uuid)) s.accounts n j k))
       (past_removed p.rows change number i.uuid gone)
   takes_clean number local q stands none standing (body.Strings content enc) is (c, left, change, stands_on, puts, same) =
       took_past q (rows_after p.rows (change ∷ [])) (ap (λ (r : Progress). r.rows) same)
       (took_clean server name n a d owner sets p q s change number h puts.puts.key_is (ap (λ (r : Progress). r.rows) same) (ap (λ (r : Progress). r.changes) same) standing
-      (unstale_put p.rows change number puts.local puts.puts (takes_fresh change number i None (takes_last sets no_older p.words i content enc is None c left change number stands_on puts)) h.unstale)
-      (again_shows change number (takes_last sets no_older p.words i content enc is None c left change number stands_on puts) (draft_of number local stands none) local stands)
+      (again_shows change number (takes_last sets p.words i content enc is None c left change number stands_on puts)
+      (draft_of number local stands none) local stands)
       (λ j k. live_kept p.rows (rows_after p.rows (change ∷ []))
       (posted_put p.rows change number puts.local puts.puts
       (λ was there some.
       let same_row : was ≡ local = one_local was local (p.rows (key.Local number)) there stands.0 in
       absurd (some (ap (λ (l : LocalItem). l.posted) same_row ∙ unsent (columns local) (h.standing.items number local stands.0) none))))
-      (server (key.Item j.uuid)) n j k))
+      (server (key.Item j.uuid)) s.accounts n j k))
       (past_put p.rows change number puts.local i.uuid puts.puts (own_uuid sets p.words i content enc None c left change number stands_on puts))
 
   -- ---- an item without a row
@@ -125,11 +126,11 @@ module _ (one_stamp : HasOneStamp) (server : Rows) (name : Bytes) (n : ℕ) (a :
   makes_row q free standing (body.Strings content enc) is (room, c, left, change, stands_on, puts, same) =
       took_past q (rows_after p.rows (change ∷ [])) (ap (λ (r : Progress). r.rows) same)
       (took_clean server name n a d owner sets p q s change p.next h puts.puts.key_is (ap (λ (r : Progress). r.rows) same) (ap (λ (r : Progress). r.changes) same) standing
-      (unstale_put p.rows change p.next puts.local puts.puts (takes_fresh change p.next i None (takes_last sets no_older p.words i content enc is None c left change p.next stands_on puts)) h.unstale)
-      (new_shows change p.next (takes_last sets no_older p.words i content enc is None c left change p.next stands_on puts)
+      (new_shows change p.next (takes_last sets p.words i content enc is None c left change p.next stands_on puts)
       (free_undrafted p.rows s name d a i.uuid holder free) nothing free)
       (λ j k. live_kept p.rows (rows_after p.rows (change ∷ []))
-      (posted_put p.rows change p.next puts.local puts.puts (λ was there some. let none : p.rows (key.Local p.next) ≡ None = nothing in absurd (cc))) (server (key.Item j.uuid)) n j k))
+      (posted_put p.rows change p.next puts.local puts.puts (λ was there some. let none : p.rows (key.Local p.next) ≡ None = nothing in absurd (cc)))
+      (server (key.Item j.uuid)) s.accounts n j k))
       (past_put p.rows change p.next puts.local i.uuid puts.puts (own_uuid sets p.words i content enc None c left change p.next stands_on puts))
     where
       nothing : p.rows (key.Local p.next) ≡ None

@@ -24,21 +24,19 @@ use Rattle.sn_shows.specs.Devices.{ShowsDevice}
 use Rattle.sn_sync.specs.declared.item.Body.{Body}
 use Rattle.sn_sync.specs.declared.item.Body.TheVariants as body
 use Rattle.sn_sync.specs.declared.item.Item.{Item}
-use Rattle.sn_world.proofs.Based.{takes_fresh}
-use Rattle.sn_world.proofs.DeviceRows.{unstale_put, unstale_removed}
 use Rattle.sn_world.proofs.DraftMoves.{numbers_kept}
 use Rattle.sn_world.proofs.Settled.{draft_before}
 use Rattle.sn_world.proofs.Settling.{shown}
 use Rattle.sn_world.proofs.Steps.{reached_more}
 use Rattle.sn_world.proofs.TakenFrames.{Along, Past, Took, past_put, past_removed, took_one}
 use Rattle.sn_world.proofs.TakenMet.{TakingLaws, met_of, own_uuid, past_so, takes_last}
-use Rattle.sn_world.specs.Holds.{ChangesNoSet, NoneStale, NumbersOf}
+use Rattle.sn_world.specs.Holds.{NumbersOf}
 use Rattle.sn_world.specs.Live.{LiveItem}
 
 -- the move is one that ends the draft of this item
 module _ (laws : TakingLaws) (server : Rows) (name : Bytes) (n : ℕ) (a : Account) (d : Device) (owner : OwnerRow) (sets : Sets) (p : Progress) (s : Ideal)
     (h : Along server name n a d owner sets p s) (uuid : Bytes) (number : ℕ) (local : LocalItem) (stands : HasItem p.rows uuid number local) (move : Move)
-    (effect : after s move ≡ after s (Settle name uuid)) (same_sets : ChangesNoSet move) (legal : IsTrue (allows s move)) where
+    (effect : after s move ≡ after s (Settle name uuid)) (legal : IsTrue (allows s move)) where
   abbrev TookSo : Progress → Type 0
   TookSo q = Took server name n a d owner sets p q s (move ∷ [])
 
@@ -46,12 +44,13 @@ module _ (laws : TakingLaws) (server : Rows) (name : Bytes) (n : ℕ) (a : Accou
   later = after s (Settle name uuid)
 
   abbrev StaysLive : Change → Type 0
-  StaysLive change = (j : Item) → LiveItem (server (key.Item j.uuid)) p.rows n j → LiveItem (server (key.Item j.uuid)) (rows_after p.rows (change ∷ [])) n j
+  StaysLive change = (j : Item) → LiveItem (server (key.Item j.uuid)) p.rows s.accounts n j → LiveItem (server (key.Item j.uuid))
+      (rows_after p.rows (change ∷ [])) s.accounts n j
 
   pub ended : (q : Progress) (change : Change) → key_of change ≡ key.Local number → q.rows ≡ rows_after p.rows (change ∷ []) → q.changes ≡ p.changes ++ change ∷ []
-      → AreStanding q.next q.rows → NoneStale (rows_after p.rows (change ∷ [])) → ShowsDevice (rows_after p.rows (change ∷ [])) later name → StaysLive change → TookSo q
-  ended q change of rows changes standing fresh shows live =
-      took_one server name n a d owner sets p q s (move ∷ []) change number h of rows changes standing fresh (legal, tt) (reached_more s move same_sets h.reached legal)
+      → AreStanding q.next q.rows → ShowsDevice (rows_after p.rows (change ∷ [])) later name → StaysLive change → TookSo q
+  ended q change of rows changes standing shows live =
+      took_one server name n a d owner sets p q s (move ∷ []) change number h of rows changes standing (legal, tt) (reached_more s move h.reached legal)
       (ap (λ (t : Ideal). t.accounts) effect) (ap (λ (t : Ideal). t.devices) effect)
       (subst (λ (t : Ideal). ShowsDevice (rows_after p.rows (change ∷ [])) t name) (sym effect) shows)
       (λ at other off k. subst (λ (t : Ideal). ShowsDevice at t other) (sym effect) (laws.keeps at s name other uuid off k))
@@ -62,30 +61,30 @@ module _ (laws : TakingLaws) (server : Rows) (name : Bytes) (n : ℕ) (a : Accou
   pub ends_gone : (q : Progress) (change : Change) → Removes change (key.Local number) → q.rows ≡ rows_after p.rows (change ∷ []) → q.changes ≡ p.changes ++ change ∷ []
       → AreStanding q.next q.rows → StaysLive change → TookSo q × Past p.rows q.rows uuid
   ends_gone q change gone rows changes standing live = (
-    ended q change gone.key_is rows changes standing (unstale_removed p.rows change number gone h.unstale)
+    ended q change gone.key_is rows changes standing
         (subst (λ (u : Bytes). ShowsDevice (rows_after p.rows (change ∷ [])) (after s (Settle name u)) name) stands.1
         (removed_shows p.rows s name number local d a change h.shows h.has stands.0 gone)) live,
     past_so p.rows (rows_after p.rows (change ∷ [])) q.rows uuid rows (past_removed p.rows change number uuid gone),
   )
 
 -- of an item whose row meets the server's version
-module _ (laws : TakingLaws) (server : Rows) (name : Bytes) (n : ℕ) (a : Account) (d : Device) (owner : OwnerRow) (sets : Sets) (no_older : sets.older ≡ None)
+module _ (laws : TakingLaws) (server : Rows) (name : Bytes) (n : ℕ) (a : Account) (d : Device) (owner : OwnerRow) (sets : Sets)
     (p : Progress) (s : Ideal) (h : Along server name n a d owner sets p s) (i : Item) (stored : IsStored server n i) (number : ℕ) (local : LocalItem)
     (stands : HasItem p.rows i.uuid number local) (latest : RowBody) (latest_is : local.latest ≡ Some latest) (move : Move)
-    (effect : after s move ≡ after s (Settle name i.uuid)) (same_sets : ChangesNoSet move) (legal : IsTrue (allows s move)) where
+    (effect : after s move ≡ after s (Settle name i.uuid)) (legal : IsTrue (allows s move)) where
   -- the row takes it
   pub takes_ended : (q : Progress) → AreStanding q.next q.rows
-      → ((change : Change) → key_of change ≡ key.Local number → (j : Item) → LiveItem (server (key.Item j.uuid)) p.rows n j
-      → LiveItem (server (key.Item j.uuid)) (rows_after p.rows (change ∷ [])) n j)
+      → ((change : Change) → key_of change ≡ key.Local number → (j : Item) → LiveItem (server (key.Item j.uuid)) p.rows s.accounts n j
+      → LiveItem (server (key.Item j.uuid)) (rows_after p.rows (change ∷ [])) s.accounts n j)
       → (b : Body) → i.body ≡ b → TakesBody sets p number i b None None q → Took server name n a d owner sets p q s (move ∷ []) × Past p.rows q.rows i.uuid
   takes_ended q standing live body.Deleted is (change, gone, so) =
-      ends_gone laws server name n a d owner sets p s h i.uuid number local stands move effect same_sets legal q change gone
+      ends_gone laws server name n a d owner sets p s h i.uuid number local stands move effect legal q change gone
       (ap (λ (r : Progress). r.rows) so) (ap (λ (r : Progress). r.changes) so) standing (live change gone.key_is)
   takes_ended q standing live (body.Strings content enc) is (c, left, change, stands_on, puts, so) =
-      let takes = takes_last sets no_older p.words i content enc is None c left change number stands_on puts in
+      let takes = takes_last sets p.words i content enc is None c left change number stands_on puts in
       let rows : q.rows ≡ rows_after p.rows (change ∷ []) = ap (λ (r : Progress). r.rows) so in (
-        ended laws server name n a d owner sets p s h i.uuid number local stands move effect same_sets legal q change puts.puts.key_is rows
-            (ap (λ (r : Progress). r.changes) so) standing (unstale_put p.rows change number puts.local puts.puts (takes_fresh change number i None takes) h.unstale)
+        ended laws server name n a d owner sets p s h i.uuid number local stands move effect legal q change puts.puts.key_is rows
+            (ap (λ (r : Progress). r.changes) so) standing
             (shown server p.rows s name n number a d local i laws.one_stamp laws.one_text
             (met_of server name n a d owner sets p s h i stored number local stands latest latest_is) change takes laws.settled) (live change puts.puts.key_is),
         past_so p.rows (rows_after p.rows (change ∷ [])) q.rows i.uuid rows

@@ -32,8 +32,7 @@ use Rattle.sn_shows.specs.Sets.{OpensUnder}
 use Rattle.sn_sync.specs.declared.item.Body.{Body}
 use Rattle.sn_sync.specs.declared.item.Body.TheVariants as body
 use Rattle.sn_sync.specs.declared.item.Item.{Item}
-use Rattle.sn_world.proofs.Based.{takes_fresh}
-use Rattle.sn_world.proofs.DeviceRows.{number_of_key, past_key, posted_put, puts_new, unstale_put, unstale_removed}
+use Rattle.sn_world.proofs.DeviceRows.{number_of_key, past_key, posted_put, puts_new}
 use Rattle.sn_world.proofs.DeviceSets.{free_undrafted, present_at}
 use Rattle.sn_world.proofs.DraftMet.{fork_legal, text_of}
 use Rattle.sn_world.proofs.DraftMoves.{moved, moved_keeps, moved_numbers}
@@ -44,8 +43,7 @@ use Rattle.sn_world.proofs.ShowsLemmas.{draft_is, draft_passes, find_moved}
 use Rattle.sn_world.proofs.Steps.{reached_more}
 use Rattle.sn_world.proofs.TakenFrames.{Along, Past, Took, changes_commute, number_free, past_put, past_removed, sets_after, took_changes}
 use Rattle.sn_world.proofs.TakenLive.{live_past}
-use Rattle.sn_world.proofs.TakenMet.{TakingLaws, last_under, met_of, own_uuid, takes_last}
-use Rattle.sn_world.specs.Holds.{NoneStale}
+use Rattle.sn_world.proofs.TakenMet.{TakingLaws, each_held, held, met_of, own_uuid, takes_last}
 use Rattle.sn_world.specs.Live.{LiveItem}
 use Rattle.sn_world.specs.Settling.{MeetsStored}
 
@@ -53,7 +51,7 @@ abbrev text_in : Content → Bytes
 text_in (Plain text) = text
 text_in Deleted = []
 
-module _ (laws : TakingLaws) (server : Rows) (name : Bytes) (n : ℕ) (a : Account) (d : Device) (owner : OwnerRow) (sets : Sets) (no_older : sets.older ≡ None)
+module _ (laws : TakingLaws) (server : Rows) (name : Bytes) (n : ℕ) (a : Account) (d : Device) (owner : OwnerRow) (sets : Sets)
     (p : Progress) (s : Ideal) (h : Along server name n a d owner sets p s) (i : Item) (stored : IsStored server n i) (number : ℕ) (local : LocalItem)
     (stands : HasItem p.rows i.uuid number local) (x : MeetsText sets local i false) (r : Progress) (copies : Copies sets p local r) where
   abbrev g : ℕ
@@ -85,7 +83,8 @@ module _ (laws : TakingLaws) (server : Rows) (name : Bytes) (n : ℕ) (a : Accou
 
   legal : IsTrue (allows s (Fork name i.uuid other))
   legal =
-      fork_legal server p.rows s name n number a d local i laws.one_stamp laws.one_text met (last_under server name n a d owner sets p s h i.uuid) x.strings other refl
+      fork_legal server p.rows s name n number a d local i laws.one_stamp laws.one_text met (held server name n a d owner sets p s h)
+      (each_held server name n a d owner sets p s h) x.strings other refl
       x.other.meets.news x.other.differs x.other.differed free
 
   -- ---- the copy is the draft's
@@ -146,22 +145,19 @@ module _ (laws : TakingLaws) (server : Rows) (name : Bytes) (n : ℕ) (a : Accou
       (λ y t. draft_passes name other (forked other y) (draft_is name i.uuid y t).0 refl) s.drafts own.0 free own.1) in
       ap (λ (y : Draft). y.posted) is
 
-  fresh : NoneStale kept
-  fresh = unstale_put p.rows copies.change p.next copies.puts.local copies.puts.puts (ap (λ (k : Columns). k.stale) copies.puts.columns_are) h.unstale
-
-  live : (change : Change) → key_of change ≡ key.Local number → (j : Item) → LiveItem (server (key.Item j.uuid)) p.rows n j
-      → LiveItem (server (key.Item j.uuid)) (rows_after kept (change ∷ [])) n j
+  live : (change : Change) → key_of change ≡ key.Local number → (j : Item) → LiveItem (server (key.Item j.uuid)) p.rows s.accounts n j
+      → LiveItem (server (key.Item j.uuid)) (rows_after kept (change ∷ [])) s.accounts n j
   live change of j was =
-      live_past laws.one_stamp server kept n i stored number local
+      live_past laws.one_stamp server kept s.accounts n i stored number local
       (past_key p.rows copies.change (key.Local p.next) (key.Local number) copies.puts.puts.key_is (λ e. apart (sym (number_of_key e))) ∙ stands.0, stands.1)
       x.other.meets.news change of j
       (live_kept p.rows kept (posted_put p.rows copies.change p.next copies.puts.local copies.puts.puts
-      (λ it there some. let none : p.rows (key.Local p.next) ≡ None = nothing in absurd (cc))) (server (key.Item j.uuid)) n j was)
+      (λ it there some. let none : p.rows (key.Local p.next) ≡ None = nothing in absurd (cc))) (server (key.Item j.uuid)) s.accounts n j was)
 
   forks_so : (q : Progress) (change : Change) → key_of change ≡ key.Local number → q.rows ≡ rows_after r.rows (change ∷ []) → q.changes ≡ r.changes ++ change ∷ []
-      → AreStanding q.next q.rows → NoneStale (rows_after kept (change ∷ [])) → ShowsDevice (rows_after p.rows (change ∷ [])) (after s (Settle name i.uuid)) name
+      → AreStanding q.next q.rows → ShowsDevice (rows_after p.rows (change ∷ [])) (after s (Settle name i.uuid)) name
       → Past p.rows (rows_after p.rows (change ∷ [])) i.uuid → Took server name n a d owner sets p q s (Fork name i.uuid other ∷ [])
-  forks_so q change of rows changes standing unstale taken past =
+  forks_so q change of rows changes standing taken past =
       let first : r.rows ≡ kept = ap (λ (z : Progress). z.rows) copies.gives in
       let front : r.changes ≡ p.changes ++ copies.change ∷ [] = ap (λ (z : Progress). z.changes) copies.gives in
       took_changes server name n a d owner sets p q s (Fork name i.uuid other ∷ []) (copies.change ∷ change ∷ []) h
@@ -169,19 +165,18 @@ module _ (laws : TakingLaws) (server : Rows) (name : Bytes) (n : ℕ) (a : Accou
       (changes ∙ ap (λ (z : List Change). z ++ change ∷ []) front ∙ append_assoc p.changes (copies.change ∷ []) (change ∷ [])) standing
       (sets_after server name n a d owner sets kept change number of
       (sets_after server name n a d owner sets p.rows copies.change p.next copies.puts.puts.key_is h.holds))
-      unstale (legal, tt) (reached_more s (Fork name i.uuid other) tt h.reached legal) refl refl (shows change of taken past)
+      (legal, tt) (reached_more s (Fork name i.uuid other) h.reached legal) refl refl (shows change of taken past)
       (λ at o off k. moved_keeps s name i.uuid other (forked other) (λ y. refl) its_other unsent at o off k)
       (moved_numbers s name i.uuid other (forked other) (λ y. refl) its_other unsent h.numbers) (live change of)
 
   pub takes_fork : (q : Progress) → AreStanding q.next q.rows → (b : Body) → i.body ≡ b → TakesBody sets r number i b None None q
       → Took server name n a d owner sets p q s (Fork name i.uuid other ∷ [])
   takes_fork q standing body.Deleted is (change, gone, so) =
-      forks_so q change gone.key_is (ap (λ (z : Progress). z.rows) so) (ap (λ (z : Progress). z.changes) so) standing (unstale_removed kept change number gone fresh)
+      forks_so q change gone.key_is (ap (λ (z : Progress). z.rows) so) (ap (λ (z : Progress). z.changes) so) standing
       (subst (λ (u : Bytes). ShowsDevice (rows_after p.rows (change ∷ [])) (after s (Settle name u)) name) stands.1
       (removed_shows p.rows s name number local d a change h.shows h.has stands.0 gone)) (past_removed p.rows change number i.uuid gone)
   takes_fork q standing (body.Strings content enc) is (c, left, change, stands_on, puts, so) =
-      let takes = takes_last sets no_older r.words i content enc is None c left change number stands_on puts in
+      let takes = takes_last sets r.words i content enc is None c left change number stands_on puts in
       forks_so q change puts.puts.key_is (ap (λ (z : Progress). z.rows) so) (ap (λ (z : Progress). z.changes) so) standing
-      (unstale_put kept change number puts.local puts.puts (takes_fresh change number i None takes) fresh)
       (shown server p.rows s name n number a d local i laws.one_stamp laws.one_text met change takes laws.settled)
       (past_put p.rows change number puts.local i.uuid puts.puts (own_uuid sets r.words i content enc None c left change number stands_on puts))

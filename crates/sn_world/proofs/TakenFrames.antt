@@ -25,7 +25,7 @@ use Rattle.sn_shows.specs.Devices.{ShowsDevice}
 use Rattle.sn_shows.specs.Laws.{HasAccount}
 use Rattle.sn_shows.specs.Servers.{ShowsAccounts, account_at}
 use Rattle.sn_sync.specs.declared.item.Item.{Item}
-use Rattle.sn_world.specs.Holds.{NoneStale, NumbersOf, Reached}
+use Rattle.sn_world.specs.Holds.{NumbersOf, Reached}
 use Rattle.std.specs.Prelude.{find}
 use Rattle.sn_client.specs.States.{IsInSlot, IsSoundItem}
 use Rattle.sn_laws.proofs.Facts.{end_from-append}
@@ -55,7 +55,6 @@ pub record Along (server : Rows) (name : Bytes) (n : ℕ) (a : Account) (d : Dev
   pub holds : HasSets p.rows owner sets
   pub standing : AreStanding p.next p.rows
   pub kinds : (k : Key) → IsOfKind k (p.rows k)
-  pub unstale : NoneStale p.rows
   pub numbers : (other : Bytes) → NumbersOf s other
 
 -- what some versions made of it: moves that are legal, and all that is left
@@ -69,7 +68,7 @@ pub record Took (server : Rows) (name : Bytes) (n : ℕ) (a : Account) (d : Devi
   pub made : List Change
   pub changes : q.changes ≡ p.changes ++ made
   pub rows : q.rows ≡ rows_after p.rows made
-  pub live : (j : Item) → LiveItem (server (key.Item j.uuid)) p.rows n j → LiveItem (server (key.Item j.uuid)) q.rows n j
+  pub live : (j : Item) → LiveItem (server (key.Item j.uuid)) p.rows s.accounts n j → LiveItem (server (key.Item j.uuid)) q.rows s.accounts n j
 
 -- changes of two rows may be made in either order
 pub changes_commute : (rows : Rows) (c d : Change) → key_of c ≢ key_of d
@@ -127,7 +126,9 @@ module _ (server : Rows) (name : Bytes) (n : ℕ) (a : Account) (d : Device) (ow
         made = x.made ++ y.made;
         changes = y.changes ∙ ap (λ (c : List Change). c ++ y.made) x.changes ∙ append_assoc p.changes x.made y.made;
         rows = y.rows ∙ ap (λ (o : Rows). rows_after o y.made) x.rows ∙ fun_ext (λ k. sym (row_after-append (p.rows k) k x.made y.made));
-        live = λ j k. y.live j (x.live j k);
+        live = λ j k.
+            subst (λ (xs : List Account). LiveItem (server (key.Item j.uuid)) r.rows xs n j) x.accounts
+            (y.live j (subst (λ (xs : List Account). LiveItem (server (key.Item j.uuid)) q.rows xs n j) (sym x.accounts) (x.live j k)));
       }
 
   -- ---- one change of an item's row
@@ -148,13 +149,13 @@ module _ (server : Rows) (name : Bytes) (n : ℕ) (a : Account) (d : Device) (ow
   -- the changes, with the moves that they say
   pub took_changes : (p q : Progress) (s : Ideal) (moves : List Move) (made : List Change) → AlongHere p s
       → q.rows ≡ rows_after p.rows made → q.changes ≡ p.changes ++ made → AreStanding q.next q.rows → HasSets (rows_after p.rows made) owner sets
-      → NoneStale (rows_after p.rows made) → LegalFrom s moves → Reached (end_from s moves) → (end_from s moves).accounts ≡ s.accounts
+      → LegalFrom s moves → Reached (end_from s moves) → (end_from s moves).accounts ≡ s.accounts
       → (end_from s moves).devices ≡ s.devices → ShowsDevice (rows_after p.rows made) (end_from s moves) name
       → ((at : Rows) (other : Bytes) → other ≢ name → ShowsDevice at s other → ShowsDevice at (end_from s moves) other)
       → ((other : Bytes) → NumbersOf (end_from s moves) other)
-      → ((j : Item) → LiveItem (server (key.Item j.uuid)) p.rows n j → LiveItem (server (key.Item j.uuid)) (rows_after p.rows made) n j)
+      → ((j : Item) → LiveItem (server (key.Item j.uuid)) p.rows s.accounts n j → LiveItem (server (key.Item j.uuid)) (rows_after p.rows made) s.accounts n j)
       → TookHere p q s moves
-  took_changes p q s moves made h rows changes standing holds fresh legal reached accounts devices shows others numbers live = record {
+  took_changes p q s moves made h rows changes standing holds legal reached accounts devices shows others numbers live = record {
     legal = legal;
     along = record {
       reached = reached;
@@ -167,7 +168,6 @@ module _ (server : Rows) (name : Bytes) (n : ℕ) (a : Account) (d : Device) (ow
       shows = subst (λ (r : Rows). ShowsDevice r (end_from s moves) name) (sym rows) shows;
       holds = subst (λ (r : Rows). HasSets r owner sets) (sym rows) holds;
       standing = standing;
-      unstale = subst (λ (r : Rows). NoneStale r) (sym rows) fresh;
       kinds = λ k. subst (λ (r : Rows). IsOfKind k (r k)) (sym rows) (kind_after (p.rows k) k made (h.kinds k));
       numbers = numbers;
     };
@@ -177,29 +177,32 @@ module _ (server : Rows) (name : Bytes) (n : ℕ) (a : Account) (d : Device) (ow
     made = made;
     changes = changes;
     rows = rows;
-    live = λ j k. subst (λ (r : Rows). LiveItem (server (key.Item j.uuid)) r n j) (sym rows) (live j k);
+    live = λ j k. subst (λ (r : Rows). LiveItem (server (key.Item j.uuid)) r s.accounts n j) (sym rows) (live j k);
   }
 
   -- the change
   pub took_one : (p q : Progress) (s : Ideal) (moves : List Move) (change : Change) (number : ℕ) → AlongHere p s → key_of change ≡ key.Local number
       → q.rows ≡ rows_after p.rows (change ∷ []) → q.changes ≡ p.changes ++ change ∷ [] → AreStanding q.next q.rows
-      → NoneStale (rows_after p.rows (change ∷ [])) → LegalFrom s moves → Reached (end_from s moves) → (end_from s moves).accounts ≡ s.accounts
+      → LegalFrom s moves → Reached (end_from s moves) → (end_from s moves).accounts ≡ s.accounts
       → (end_from s moves).devices ≡ s.devices → ShowsDevice (rows_after p.rows (change ∷ [])) (end_from s moves) name
       → ((at : Rows) (other : Bytes) → other ≢ name → ShowsDevice at s other → ShowsDevice at (end_from s moves) other)
       → ((other : Bytes) → NumbersOf (end_from s moves) other)
-      → ((j : Item) → LiveItem (server (key.Item j.uuid)) p.rows n j → LiveItem (server (key.Item j.uuid)) (rows_after p.rows (change ∷ [])) n j)
+      → ((j : Item) → LiveItem (server (key.Item j.uuid)) p.rows s.accounts n j
+      → LiveItem (server (key.Item j.uuid)) (rows_after p.rows (change ∷ [])) s.accounts n j)
       → TookHere p q s moves
-  took_one p q s moves change number h of rows changes standing fresh legal reached accounts devices shows others numbers live =
-      took_changes p q s moves (change ∷ []) h rows changes standing (sets_after p.rows change number of h.holds) fresh legal reached accounts devices shows others numbers live
+  took_one p q s moves change number h of rows changes standing legal reached accounts devices shows others numbers live =
+      took_changes p q s moves (change ∷ []) h rows changes standing
+      (sets_after p.rows change number of h.holds) legal reached accounts devices shows others numbers live
 
   -- where the drafts are as they were
   pub took_clean : (p q : Progress) (s : Ideal) (change : Change) (number : ℕ) → AlongHere p s → key_of change ≡ key.Local number
       → q.rows ≡ rows_after p.rows (change ∷ []) → q.changes ≡ p.changes ++ change ∷ [] → AreStanding q.next q.rows
-      → NoneStale (rows_after p.rows (change ∷ [])) → ShowsDevice (rows_after p.rows (change ∷ [])) s name
-      → ((j : Item) → LiveItem (server (key.Item j.uuid)) p.rows n j → LiveItem (server (key.Item j.uuid)) (rows_after p.rows (change ∷ [])) n j)
+      → ShowsDevice (rows_after p.rows (change ∷ [])) s name
+      → ((j : Item) → LiveItem (server (key.Item j.uuid)) p.rows s.accounts n j
+      → LiveItem (server (key.Item j.uuid)) (rows_after p.rows (change ∷ [])) s.accounts n j)
       → TookHere p q s []
-  took_clean p q s change number h of rows changes standing fresh shows live =
-      took_one p q s [] change number h of rows changes standing fresh tt h.reached refl refl shows (λ at other off k. k) h.numbers live
+  took_clean p q s change number h of rows changes standing shows live =
+      took_one p q s [] change number h of rows changes standing tt h.reached refl refl shows (λ at other off k. k) h.numbers live
 
 -- ---- a row of which nothing was posted
 

@@ -1,5 +1,5 @@
 -- What was sent of a device's row that meets the server's version of its item: whether that was saved, and what is live of the device afterwards.
-use Rattle.std.proofs.Common.{◌≡◌, ◌≢◌, ℕ, [], ◌∷◌, Option, Some, None, false, refl, sym, ap, ◌∙◌, subst, inl, inr, ⊎_elim, arith}
+use Rattle.std.proofs.Common.{◌≡◌, ◌≢◌, ℕ, List, [], ◌∷◌, Option, Some, None, false, refl, sym, ap, ◌∙◌, subst, inl, inr, ⊎_elim, arith}
 use Rattle.sn_account.specs.Incoming.{Names}
 use Rattle.sn_account.specs.Tells.{IsSavedOf, IsStored}
 use Rattle.sn_client.specs.Sending.{SaysBase, first_some, message_body}
@@ -7,6 +7,7 @@ use Rattle.sn_client.specs.States.{HasItem}
 use Rattle.sn_conflict.specs.Meetings.{HasContentOf, IsKnown, PostedHasContent}
 use Rattle.sn_laws.proofs.Facts.{one_there}
 use Rattle.sn_laws.specs.Lookups.{Bytes}
+use Rattle.sn_laws.specs.declared.ideal.Account.{Account}
 use Rattle.sn_rows.specs.Table.{Rows, key_of, rows_after}
 use Rattle.sn_rows.specs.declared.body.RowBody.{RowBody}
 use Rattle.sn_rows.specs.declared.body.RowBody.TheVariants as row
@@ -24,7 +25,7 @@ use Rattle.sn_world.proofs.Making.{sends_it}
 use Rattle.sn_world.specs.Live.{LiveItem}
 use Rattle.sn_world.specs.Making.{SendsPosted}
 
--- what is saved has the content of what was sent
+-- what is saved has the content of what was posted
 pub saved_content : (sets : Sets) (local : LocalItem) (sent i : Item) → SendsPosted local sent → IsSavedOf sent i → PostedHasContent sets local i
 saved_content sets local sent i sends of = (
   sends.0.version,
@@ -37,13 +38,15 @@ saved_content sets local sent i sends of = (
     by (row.Sealed strings) is = (sym sends.0.kind_is ∙ sym (of.kind (λ gone. cc)), inl refl)
 
 -- what was live of the device is live where the row is changed of which a version is known to be above the one that it stands on
-pub live_past : HasOneStamp → (server rows : Rows) (n : ℕ) (i : Item) → IsStored server n i → (number : ℕ) (local : LocalItem) → HasItem rows i.uuid number local
-    → ¬ (IsKnown local i false) → (change : Change) → key_of change ≡ key.Local number → (j : Item) → LiveItem (server (key.Item j.uuid)) rows n j
-    → LiveItem (server (key.Item j.uuid)) (rows_after rows (change ∷ [])) n j
-live_past one_stamp server rows n i stored number local stands news change of j (inl x) = inl x
-live_past one_stamp server rows n i stored number local stands news change of j (inr (inl x)) = inr (inl x)
-live_past one_stamp server rows n i stored number local stands news change of j (inr (inr (inl x))) = inr (inr (inl x))
-live_past one_stamp server rows n i stored number local stands news change of j (inr (inr (inr x))) =
+pub live_past : HasOneStamp → (server rows : Rows) (accounts : List Account) (n : ℕ) (i : Item) → IsStored server n i → (number : ℕ) (local : LocalItem)
+    → HasItem rows i.uuid number local
+    → ¬ (IsKnown local i false) → (change : Change) → key_of change ≡ key.Local number → (j : Item) → LiveItem (server (key.Item j.uuid)) rows accounts n j
+    → LiveItem (server (key.Item j.uuid)) (rows_after rows (change ∷ [])) accounts n j
+live_past one_stamp server rows accounts n i stored number local stands news change of j (inl x) = inl x
+live_past one_stamp server rows accounts n i stored number local stands news change of j (inr (inl x)) = inr (inl x)
+live_past one_stamp server rows accounts n i stored number local stands news change of j (inr (inr (inl x))) = inr (inr (inl x))
+live_past one_stamp server rows accounts n i stored number local stands news change of j (inr (inr (inr (inr x)))) = inr (inr (inr (inr x)))
+live_past one_stamp server rows accounts n i stored number local stands news change of j (inr (inr (inr (inl x)))) =
     ⊎_elim
     (λ (same : x.number ≡ number).
     let row : x.local ≡ local = one_local x.local local (rows (key.Local number)) (ap (λ (k : ℕ). rows (key.Local k)) (sym same) ∙ x.stands) stands.0 in
@@ -55,7 +58,7 @@ live_past one_stamp server rows n i stored number local stands news change of j 
       λ names. unnamed names x.local.base refl x.base row,
     ))))
     (λ (differs : x.number ≢ number).
-    inr (inr (inr (posted_elsewhere rows change number j of x differs))))
+    inr (inr (inr (inl (posted_elsewhere rows change number j of x differs)))))
     (apart_numbers x.number number)
   where
     unnamed : Names j stored.0 → (base : Option ℕ) → x.local.base ≡ base → SaysBase x.local.base j.updated_at → x.local ≡ local → ⊥

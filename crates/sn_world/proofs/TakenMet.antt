@@ -9,13 +9,11 @@ use Rattle.sn_client.specs.Taking.{Progress, StandsOn}
 use Rattle.sn_items.specs.ItemLaws.{OneContent}
 use Rattle.sn_laws.proofs.Facts.{one_there}
 use Rattle.sn_laws.specs.Laws.{VersionsRise}
-use Rattle.sn_laws.specs.Lookups.{Bytes, greatest, last_of}
+use Rattle.sn_laws.specs.Lookups.{Bytes, greatest}
 use Rattle.sn_laws.specs.Reached.{DeletionsStay}
-use Rattle.sn_laws.specs.Relation.{IsUnder}
 use Rattle.sn_laws.specs.declared.ideal.Account.{Account}
 use Rattle.sn_laws.specs.declared.ideal.Device.{Device}
 use Rattle.sn_laws.specs.declared.ideal.Ideal.{Ideal}
-use Rattle.sn_laws.specs.declared.ideal.Version.{Version}
 use Rattle.sn_rows.specs.Table.{Rows}
 use Rattle.sn_rows.specs.declared.body.RowBody.{RowBody}
 use Rattle.sn_rows.specs.declared.change.Change.{Change}
@@ -31,7 +29,8 @@ use Rattle.sn_sync.specs.declared.item.Body.TheVariants as body
 use Rattle.sn_sync.specs.declared.item.Item.{Item}
 use Rattle.sn_world.proofs.AccountSets.{one_set}
 use Rattle.sn_world.proofs.DeviceSets.{present_at}
-use Rattle.sn_world.proofs.OneSets.{holds_last, one_number}
+use Rattle.sn_world.proofs.HeldSets.{held_sets}
+use Rattle.sn_world.proofs.NumberedSets.{AreHeld, HoldsEach, are_held, holds_each}
 use Rattle.sn_world.proofs.TakenFrames.{Along, Past}
 use Rattle.sn_world.specs.Settling.{AppliesLive, MeetsStored, TakesLast}
 
@@ -49,17 +48,15 @@ pub record TakingLaws : Type 0 where
   pub standing : StayStanding
 
 -- the row stands on the version, with this draft or without one
-abbrev pub takes_last : (sets : Sets) → sets.older ≡ None → (words : ChaCha) (i : Item) (content enc : Bytes) → i.body ≡ body.Strings content enc → (latest : Option RowBody)
+abbrev pub takes_last : (sets : Sets) (words : ChaCha) (i : Item) (content enc : Bytes) → i.body ≡ body.Strings content enc → (latest : Option RowBody)
     (c : Columns) (left : ChaCha) (change : Change) (number : ℕ) → StandsOn sets words i content enc latest None c left → PutsColumns change number c
-    → TakesLast change number i latest
-takes_last sets no_older words i content enc is latest c left change number stands_on puts = record {
+    → TakesLast sets change number i latest
+takes_last sets words i content enc is latest c left change number stands_on puts = record {
   content = content;
   enc = enc;
   body_is = is;
   words = words;
   left = left;
-  sets = sets;
-  no_older = no_older;
   columns_then = c;
   stands_on = stands_on;
   puts = puts;
@@ -82,11 +79,12 @@ module _ (server : Rows) (name : Bytes) (n : ℕ) (a : Account) (d : Device) (ow
   pub present_set : (set : KeySet) → set_at (greatest 0 d.held) a.sets ≡ Some set → set ≡ sets.present
   present_set set is = one_there set sets.present (set_at (greatest 0 d.held) a.sets) is present
 
-  -- the last version of an item is under that set: the account has no other yet
-  pub last_under : (uuid : Bytes) (v : Version) → last_of uuid a.versions ≡ Some v → (k : ℕ) (set : KeySet) → IsUnder k v.body → set_at k a.sets ≡ Some set
-      → k ≡ greatest 0 d.held
-  last_under uuid v last k set under is =
-      one_number s h.reached n a h.at k set is ∙ sym (holds_last s h.reached p.rows name d a h.has h.shows)
+  -- the sets are the account's, of the numbers that the device holds
+  pub held : AreHeld a d.held sets
+  held = are_held p.rows s name d a owner sets (holder_of p.rows s name d a h.shows h.has) h.holds (one_set s h.reached n a h.at)
+
+  pub each_held : HoldsEach a d.held sets
+  each_held = holds_each p.rows s name d a owner sets (holder_of p.rows s name d a h.shows h.has) h.holds (held_sets s h.reached name d a h.has)
 
   abbrev pub met_of : (i : Item) → IsStored server n i → (number : ℕ) (local : LocalItem) → HasItem p.rows i.uuid number local → (latest : RowBody) → local.latest ≡ Some latest
       → MeetsStored server p.rows s name n number a d local i

@@ -33,8 +33,7 @@ use Rattle.sn_sync.specs.Versions.{NamesStamp}
 use Rattle.sn_sync.specs.declared.item.Body.{Body}
 use Rattle.sn_sync.specs.declared.item.Body.TheVariants as body
 use Rattle.sn_sync.specs.declared.item.Item.{Item}
-use Rattle.sn_world.proofs.Based.{Based, based_on, takes_fresh}
-use Rattle.sn_world.proofs.DeviceRows.{unstale_put}
+use Rattle.sn_world.proofs.Based.{Based, based_on}
 use Rattle.sn_world.proofs.DraftMet.{not_deleted, posted_legal}
 use Rattle.sn_world.proofs.DraftMoves.{moved, moved_keeps, moved_numbers}
 use Rattle.sn_world.proofs.Settling.{drafted}
@@ -42,8 +41,7 @@ use Rattle.sn_world.proofs.ShowsLemmas.{draft_is, find_changed}
 use Rattle.sn_world.proofs.Standing.{its_last}
 use Rattle.sn_world.proofs.Steps.{reached_more}
 use Rattle.sn_world.proofs.TakenFrames.{Along, Past, Took, past_put, took_one}
-use Rattle.sn_world.proofs.TakenMet.{TakingLaws, met_of, own_uuid, past_so, takes_last}
-use Rattle.sn_world.specs.Holds.{NoneStale}
+use Rattle.sn_world.proofs.TakenMet.{TakingLaws, held, met_of, own_uuid, past_so, takes_last}
 use Rattle.sn_world.specs.Live.{LiveItem}
 use Rattle.sn_world.specs.Settling.{MeetsStored, TakesLast}
 
@@ -56,7 +54,7 @@ kind_of : (sets : Sets) (local : LocalItem) (i : Item) (b : RowBody) (content en
 kind_of sets local i row.Deleted content enc h = absurd h
 kind_of sets local i (row.Sealed strings) content enc h = h.0
 
-module _ (laws : TakingLaws) (server : Rows) (name : Bytes) (n : ℕ) (a : Account) (d : Device) (owner : OwnerRow) (sets : Sets) (no_older : sets.older ≡ None)
+module _ (laws : TakingLaws) (server : Rows) (name : Bytes) (n : ℕ) (a : Account) (d : Device) (owner : OwnerRow) (sets : Sets)
     (p : Progress) (s : Ideal) (h : Along server name n a d owner sets p s) (i : Item) (stored : IsStored server n i) (number : ℕ) (local : LocalItem)
     (stands : HasItem p.rows i.uuid number local) (flag : Bool) (x : MeetsPosted sets local i flag) (stamp : ℕ) (named : NamesStamp i stamp) where
   abbrev TookSo : Progress → Type 0
@@ -88,11 +86,14 @@ module _ (laws : TakingLaws) (server : Rows) (name : Bytes) (n : ℕ) (a : Accou
   -- the row that is put
   module _ (content enc : Bytes) (is : i.body ≡ body.Strings content enc) (c : Columns) (left : ChaCha) (change : Change)
       (stands_on : StandsOn sets p.words i content enc local.latest None c left) (puts : PutsColumns change number c) where
-    abbrev takes : TakesLast change number i local.latest
-    takes = takes_last sets no_older p.words i content enc is local.latest c left change number stands_on puts
+    abbrev takes : TakesLast sets change number i local.latest
+    takes = takes_last sets p.words i content enc is local.latest c left change number stands_on puts
 
-    based : Based a (greatest 0 d.held) change number i local.latest takes (its_last server s.accounts n a i.uuid stored.0 h.accounts h.at stored.1 stored.2).0
-    based = based_on laws.one_stamp server s.accounts n a (greatest 0 d.held) i h.accounts h.at stored change number local.latest takes
+    based : Based a (greatest 0 d.held) sets change number i local.latest takes
+        (its_last server s.accounts n a i.uuid stored.0 h.accounts h.at stored.1 stored.2).0
+    based =
+        based_on laws.one_stamp server s.accounts n a d.held sets
+        (held server name n a d owner sets p s h) i h.accounts h.at stored change number local.latest takes
 
     same_stamp : stands_on.stamp ≡ stamp
     same_stamp = one_named laws.one_stamp i stands_on.stamp stamp stands_on.stamped named
@@ -120,19 +121,16 @@ module _ (laws : TakingLaws) (server : Rows) (name : Bytes) (n : ℕ) (a : Accou
         subst (λ (u : Bytes). ShowsDevice (rows_after p.rows (change ∷ [])) (after s (SettlePosted name u stamp)) name) stands.1
         (answered_shows p.rows s name number local stamp d a change h.shows h.has stands.0 drafted_so answered)
 
-    fresh : NoneStale (rows_after p.rows (change ∷ []))
-    fresh = unstale_put p.rows change number puts.local puts.puts (takes_fresh change number i local.latest takes) h.unstale
-
   pub takes_posted : (q : Progress) → AreStanding q.next q.rows
-      → ((change : Change) → key_of change ≡ key.Local number → (j : Item) → LiveItem (server (key.Item j.uuid)) p.rows n j
-      → LiveItem (server (key.Item j.uuid)) (rows_after p.rows (change ∷ [])) n j)
+      → ((change : Change) → key_of change ≡ key.Local number → (j : Item) → LiveItem (server (key.Item j.uuid)) p.rows s.accounts n j
+      → LiveItem (server (key.Item j.uuid)) (rows_after p.rows (change ∷ [])) s.accounts n j)
       → (b : Body) → i.body ≡ b → TakesBody sets p number i b local.latest None q → TookSo q × Past p.rows q.rows i.uuid
   takes_posted q standing live body.Deleted is _ =
       absurd (not_deleted server p.rows s name n number a d local i laws.one_stamp laws.one_text met laws.deletions h.reached x.differs x.same is)
   takes_posted q standing live (body.Strings content enc) is (c, left, change, stands_on, puts, so) =
       let rows : q.rows ≡ rows_after p.rows (change ∷ []) = ap (λ (r : Progress). r.rows) so in (
         took_one server name n a d owner sets p q s (SettlePosted name i.uuid stamp ∷ []) change number h puts.puts.key_is rows (ap (λ (r : Progress). r.changes) so)
-            standing (fresh content enc is c left change stands_on puts) (legal, tt) (reached_more s (SettlePosted name i.uuid stamp) tt h.reached legal) refl refl
+            standing (legal, tt) (reached_more s (SettlePosted name i.uuid stamp) h.reached legal) refl refl
             (shows content enc is c left change stands_on puts)
             (λ at other off k. moved_keeps s name i.uuid i.uuid (settled_at stamp) (λ y. refl) its_own unsent at other off k)
             (moved_numbers s name i.uuid i.uuid (settled_at stamp) (λ y. refl) its_own unsent h.numbers) (live change puts.puts.key_is),

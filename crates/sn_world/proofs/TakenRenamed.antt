@@ -41,7 +41,7 @@ use Rattle.sn_shows.specs.Devices.{ShowsBase, ShowsContent, ShowsDevice, ShowsDr
 use Rattle.sn_shows.specs.Laws.{PutsItem}
 use Rattle.sn_sync.specs.declared.item.Item.{Item}
 use Rattle.sn_world.proofs.AccountSets.{one_set}
-use Rattle.sn_world.proofs.DeviceRows.{one_local, posted_elsewhere, puts_new, unstale_put}
+use Rattle.sn_world.proofs.DeviceRows.{one_local, posted_elsewhere, puts_new}
 use Rattle.sn_world.proofs.DeviceSets.{account_is, free_undrafted, present_at, row_draft}
 use Rattle.sn_world.proofs.DraftMoves.{moved, moved_keeps, moved_numbers}
 use Rattle.sn_world.proofs.HeldStrings.{held_text}
@@ -64,7 +64,7 @@ one_of : {A : Type 0} (P : A → Type 0) (xs : List A) (y : A) → One (λ (x : 
 one_of P [] y one h = absurd one
 one_of P (x ∷ xs) y one h = ⊎_elim (λ (e : x ≡ y). inl (subst P (sym e) h)) (λ rest. inr (one_of P xs y rest h)) one
 
-module _ (laws : TakingLaws) (server : Rows) (name : Bytes) (n : ℕ) (a : Account) (d : Device) (owner : OwnerRow) (sets : Sets) (no_older : sets.older ≡ None)
+module _ (laws : TakingLaws) (server : Rows) (name : Bytes) (n : ℕ) (a : Account) (d : Device) (owner : OwnerRow) (sets : Sets)
     (p : Progress) (s : Ideal) (h : Along server name n a d owner sets p s) (number : ℕ) (local : LocalItem) (stands : HasLocal p.rows number local)
     (theirs : IsOthers server n local.uuid) where
   abbrev g : ℕ
@@ -103,19 +103,20 @@ module _ (laws : TakingLaws) (server : Rows) (name : Bytes) (n : ℕ) (a : Accou
   drafted latest is = row_draft p.rows s name d a holder number local stands latest is
 
   -- what was sent of the row changes nothing
-  live : (change : Change) → key_of change ≡ key.Local number → (j : Item) → LiveItem (server (key.Item j.uuid)) p.rows n j
-      → LiveItem (server (key.Item j.uuid)) (rows_after p.rows (change ∷ [])) n j
+  live : (change : Change) → key_of change ≡ key.Local number → (j : Item) → LiveItem (server (key.Item j.uuid)) p.rows s.accounts n j
+      → LiveItem (server (key.Item j.uuid)) (rows_after p.rows (change ∷ [])) s.accounts n j
   live change of j (inl x) = inl x
   live change of j (inr (inl x)) = inr (inl x)
   live change of j (inr (inr (inl x))) = inr (inr (inl x))
-  live change of j (inr (inr (inr x))) =
+  live change of j (inr (inr (inr (inr x)))) = inr (inr (inr (inr x)))
+  live change of j (inr (inr (inr (inl x)))) =
       ⊎_elim
       (λ (same : x.number ≡ number).
       let row : x.local ≡ local = one_local x.local local (p.rows (key.Local number)) (ap (λ (k : ℕ). p.rows (key.Local k)) (sym same) ∙ x.stands) stands in
       let uuid : local.uuid ≡ j.uuid = ap (λ (l : LocalItem). l.uuid) (sym row) ∙ x.uuid_is in
       inl (theirs.0, ap (λ (u : Bytes). server (key.Item u)) (sym uuid) ∙ theirs.1, theirs.2))
       (λ (differs : x.number ≢ number).
-      inr (inr (inr (posted_elsewhere p.rows change number j of x differs))))
+      inr (inr (inr (inl (posted_elsewhere p.rows change number j of x differs)))))
       (apart_numbers x.number number)
 
   -- ---- a deletion
@@ -193,8 +194,7 @@ module _ (laws : TakingLaws) (server : Rows) (name : Bytes) (n : ℕ) (a : Accou
         → Took server name n a d owner sets p q s (Rename name local.uuid other ∷ [])
     renames q rows changes standing =
         took_one server name n a d owner sets p q s (Rename name local.uuid other ∷ []) change number h puts.puts.key_is rows changes standing
-        (unstale_put p.rows change number puts.local puts.puts (ap (λ (k : Columns). k.stale) puts.columns_are) h.unstale) (legal, tt)
-        (reached_more s (Rename name local.uuid other) tt h.reached legal) refl refl shows
+        (legal, tt) (reached_more s (Rename name local.uuid other) h.reached legal) refl refl shows
         (λ at o off k. moved_keeps s name local.uuid other (renamed other) (λ y. refl) its_other unsent at o off k)
         (moved_numbers s name local.uuid other (renamed other) (λ y. refl) its_other unsent h.numbers) (live change puts.puts.key_is)
 
@@ -204,19 +204,19 @@ module _ (laws : TakingLaws) (server : Rows) (name : Bytes) (n : ℕ) (a : Accou
       → (how : Renames sets p number local latest q) → Took server name n a d owner sets p q s (renaming name sets p number local latest q how)
   takes_renames q standing None is same = took_nothing server name n a d owner sets p q s h same
   takes_renames q standing (Some row.Deleted) is (change, gone, so) =
-      (ends_gone laws server name n a d owner sets p s h local.uuid number local (stands, refl) (Drop name local.uuid) refl tt (drop_legal is) q change gone
+      (ends_gone laws server name n a d owner sets p s h local.uuid number local (stands, refl) (Drop name local.uuid) refl (drop_legal is) q change gone
       (ap (λ (z : Progress). z.rows) so) (ap (λ (z : Progress). z.changes) so) standing (live change gone.key_is)).0
   takes_renames q standing (Some (row.Sealed strings)) is (inl closed) = took_nothing server name n a d owner sets p q s h closed.1
   takes_renames q standing (Some (row.Sealed strings)) is (inr (text, uuid, rest, again, left, change, opens, fresh, seals, puts, so)) =
       renames strings is text uuid rest again left change opens fresh seals puts q (ap (λ (z : Progress). z.rows) so) (ap (λ (z : Progress). z.changes) so) standing
 
 -- another account's uuid, whether a row has it or not
-pub takes_foreign : (laws : TakingLaws) (server : Rows) (name : Bytes) (n : ℕ) (a : Account) (d : Device) (owner : OwnerRow) (sets : Sets) (no_older : sets.older ≡ None)
+pub takes_foreign : (laws : TakingLaws) (server : Rows) (name : Bytes) (n : ℕ) (a : Account) (d : Device) (owner : OwnerRow) (sets : Sets)
     (p q : Progress) (s : Ideal) (h : Along server name n a d owner sets p s) (uuid : Bytes) (moves : List Move) → IsOthers server n uuid → AreStanding q.next q.rows
     → SaysForeign name sets p uuid q moves → Took server name n a d owner sets p q s moves
-takes_foreign laws server name n a d owner sets no_older p q s h uuid moves theirs standing (inl (number, local, stands, how, said)) =
+takes_foreign laws server name n a d owner sets p q s h uuid moves theirs standing (inl (number, local, stands, how, said)) =
     subst (λ (ms : List Move). Took server name n a d owner sets p q s ms) (sym said)
-    (takes_renames laws server name n a d owner sets no_older p s h number local stands.0 (subst (λ (u : Bytes). IsOthers server n u) (sym stands.1) theirs)
+    (takes_renames laws server name n a d owner sets p s h number local stands.0 (subst (λ (u : Bytes). IsOthers server n u) (sym stands.1) theirs)
     q standing local.latest refl how)
-takes_foreign laws server name n a d owner sets no_older p q s h uuid moves theirs standing (inr (nobody, same, none)) =
+takes_foreign laws server name n a d owner sets p q s h uuid moves theirs standing (inr (nobody, same, none)) =
     subst (λ (ms : List Move). Took server name n a d owner sets p q s ms) (sym none) (took_nothing server name n a d owner sets p q s h same)

@@ -2,7 +2,7 @@
 use Rattle.std.proofs.Common.{◌≡◌, ◌<◌, ◌≤◌, ◌+◌, ℕ, zero, suc, List, [], ◌∷◌, length, Option, Some, None, Bool, true, false, refl, sym, ap, ◌∙◌, subst, arith}
 use Rattle.std.proofs.lemmas.Option.{slice_get_within}
 use Rattle.std.specs.Prelude.{IsSome, cond, find, slice_get}
-use Rattle.sn_account.proofs.SessionTokens.{BeginsWith-token, same_account}
+use Rattle.sn_account.proofs.Facts.{BeginsWith-token, same_account}
 use Rattle.sn_account.specs.Sessions.{IsSession, session_token}
 use Rattle.sn_account.specs.Sound.{most_accounts, most_generations}
 use Rattle.sn_laws.proofs.Facts.{found_passes, one_there, same_text}
@@ -35,7 +35,7 @@ number_of_found p (x ∷ xs) a h = at (number_of_found p xs a) (p x) h
     at rest true e = (zero, e)
     at rest false e = let k = rest e in (suc k.0, k.1)
 
-set_within : (k : ℕ) (sets : List KeySet) (set : KeySet) → set_at k sets ≡ Some set → k ≤ length sets
+pub set_within : (k : ℕ) (sets : List KeySet) (set : KeySet) → set_at k sets ≡ Some set → k ≤ length sets
 set_within zero sets set h = absurd (cc)
 set_within (suc k) sets set h = let within : k < length sets = slice_get_within sets k set h in omega arith
 

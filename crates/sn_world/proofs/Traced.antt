@@ -5,7 +5,7 @@ use Rattle.sn_laws.specs.Lookups.{Bytes, empty}
 use Rattle.sn_laws.specs.Runs.{end_from}
 use Rattle.sn_laws.specs.declared.ideal.Ideal.{Ideal}
 use Rattle.sn_laws.specs.declared.moves.Move.{Move}
-use Rattle.sn_world.proofs.Items.{legal_both}
+use Rattle.sn_world.proofs.PlainSets.{legal_joined}
 use Rattle.sn_world.specs.Happens.{Happens, Trace, commits, makes, serves, starts}
 use Rattle.sn_world.specs.Holds.{Holds, TokensDiffer}
 use Rattle.sn_world.specs.Laws.{HoldsFirst, Keeps, KeepsCommitting, KeepsMaking, KeepsServing, KeepsStarting, KeptBy, TraceKeeps}
@@ -39,7 +39,7 @@ trace_from keeps secret differ (step ∷ steps) moves w next s h (mid, first, la
     let one : KeptBy secret mid s first = keeps secret w mid s step first differ h does says in
     let others : KeptBy secret next (end_from s first) later = trace_from keeps secret differ steps later mid next (end_from s first) one.1 rest in
     subst (λ (ms : List Move). KeptBy secret next s ms) (sym is)
-    (legal_both s first later one.0 others.0, subst (λ (t : Ideal). Holds secret next t) (sym (end_from-append s first later)) others.1)
+    (legal_joined s first later one.0 others.0, subst (λ (t : Ideal). Holds secret next t) (sym (end_from-append s first later)) others.1)
 
 pub trace_keeps : HoldsFirst → Keeps → TraceKeeps
 trace_keeps first keeps secret steps moves next differ t = trace_from keeps secret differ steps moves at_first next empty (first secret) t

@@ -1,4 +1,5 @@
--- How a sync ends over a server that answers by its rule, where no request is lost, no answer is, and no crash takes a commit away.
+-- How a sync ends over a server that answers by its rule, where no request is lost, no answer is, and no crash takes a commit away, and no password was
+-- changed.
 use Rattle.std.specs.Prelude.{◌≡◌, ◌⊎◌, ◌+◌, ℕ, List, [], ◌∷◌, ◌++◌, true, Option, None, codes}
 use Rattle.std.specs.List.{flat_map}
 use Rattle.rand_chacha.specs.ChaCha.{ChaCha}
@@ -35,7 +36,8 @@ use Rattle.sn_world.specs.Calls.{Fate, crashed, rows_served, served, undelivered
 use Rattle.sn_world.specs.Delivered.{AreServedBy}
 use Rattle.sn_world.specs.Fitting.{FitsUuids}
 use Rattle.sn_world.specs.Happens.{Happens, Trace}
-use Rattle.sn_world.specs.Holds.{Holds, TokensDiffer}
+use Rattle.sn_world.specs.Holds.{TokensDiffer}
+use Rattle.sn_world.specs.Plain.{HoldsPlain, IsPlainStep}
 use Rattle.sn_world.specs.World.{World, at_first}
 
 -- ---- nothing is lost
@@ -131,16 +133,17 @@ SyncEnds server rows words acts fates halt = IsAnswered rows words acts halt ⊎
 
 -- ---- the laws
 
--- so ends each sync of a device that has an account, whatever it and others did before
+-- so ends each sync of a device that has an account, whatever it and others did before, but for a change of password: behind another device's change of it
+-- the server doesn't take the session token any more
 abbrev pub SyncsAnswer : Type 0
 SyncsAnswer = (secret : Bytes) (w : World) (s : Ideal) (name : Bytes) (owner : OwnerRow) (least : ℕ) (words : ChaCha) (acts : List Act) (fates : List Fate)
-    (halt : Halt) → TokensDiffer secret → Holds secret w s → HasOwner (w.devices name) owner → FitsUuids (w.devices name)
-    → Run least sync (w.devices name) words acts halt → AreServedBy w.server acts fates → Each Arrives fates
-    → SyncEnds w.server (w.devices name) words acts fates halt
+    (halt : Halt) → TokensDiffer secret → HoldsPlain secret w s → HasOwner (w.devices name) owner → FitsUuids (w.devices name)
+    → Run least sync (w.devices name) words acts halt → AreServedBy w.server acts fates
+    → Each Arrives fates → SyncEnds w.server (w.devices name) words acts fates halt
 
--- and so ends each sync that loses nothing, whatever happened from the beginning on
+-- and so ends each sync that loses nothing, whatever happened from the beginning on but for that
 abbrev pub TracedSyncsAnswer : Type 0
 TracedSyncsAnswer = (secret : Bytes) (steps : List Happens) (moves : List Move) (w : World) (name : Bytes) (owner : OwnerRow) (least : ℕ) (words : ChaCha)
     (acts : List Act) (fates : List Fate) (halt : Halt) → TokensDiffer secret → Trace secret at_first empty steps moves w
-    → HasOwner (w.devices name) owner → Run least sync (w.devices name) words acts halt → AreServedBy w.server acts fates → Each Arrives fates
-    → SyncEnds w.server (w.devices name) words acts fates halt
+    → Each IsPlainStep steps → HasOwner (w.devices name) owner → Run least sync (w.devices name) words acts halt → AreServedBy w.server acts fates
+    → Each Arrives fates → SyncEnds w.server (w.devices name) words acts fates halt

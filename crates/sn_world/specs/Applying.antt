@@ -6,13 +6,14 @@ use Rattle.rand_chacha.specs.ChaCha.{ChaCha}
 use Rattle.sn_account.specs.Syncs.{IsStampOf, above_of, is_first}
 use Rattle.sn_account.specs.Tells.{TellsRows}
 use Rattle.sn_client.specs.States.{HasItem, HasOwner, HasSets, IsFree, owner_columns, token_of}
-use Rattle.sn_client.specs.Steps.{PutsOwner, start, with_tokens}
+use Rattle.sn_adopted.specs.Moves.{IsRetiring}
+use Rattle.sn_client.specs.Steps.{PutsOwner, Retires, start, with_tokens}
 use Rattle.sn_client.specs.Taking.{Copies, MakesRow, Meets, Progress, Renames, TakesVersion, Told, is_conflict, is_retrieved, is_saved, told_by}
 use Rattle.sn_conflict.specs.Meetings.{MeetsAs}
 use Rattle.sn_conflict.specs.declared.meeting.Meeting.{Meeting}
 use Rattle.sn_conflict.specs.declared.meeting.Meeting.TheVariants as meeting
 use Rattle.sn_laws.specs.Each.{Each}
-use Rattle.sn_laws.specs.Lookups.{Bytes, device_named}
+use Rattle.sn_laws.specs.Lookups.{Bytes, device_named, greatest}
 use Rattle.sn_laws.specs.declared.ideal.Account.{Account}
 use Rattle.sn_laws.specs.declared.ideal.Device.{Device}
 use Rattle.sn_laws.specs.declared.ideal.Ideal.{Ideal}
@@ -37,7 +38,7 @@ use Rattle.sn_sync.specs.declared.answer.Conflict.TheVariants as conflict
 use Rattle.sn_sync.specs.declared.item.Item.{Item}
 use Rattle.sn_sync.specs.declared.request.Request.{Request}
 use Rattle.sn_sync.specs.declared.request.Request.TheVariants as request
-use Rattle.sn_world.specs.Making.{IsPostedOf}
+use Rattle.sn_world.specs.Making.{IsSentOf}
 
 -- ---- one version
 
@@ -97,31 +98,38 @@ SaysAllTold name sets saved p (t ∷ ts) q moves =
 
 -- ---- the whole answer
 
--- what it tells, and then its tokens and the next local number, in one commit
-pub record SaysApplied (rows : Rows) (name : Bytes) (conflicts : List Conflict) (cursor : Option Bytes) (retrieved saved : List Item) (token : Bytes)
+-- what it tells, then its tokens and the next local number, and then the end of the older set, where it may go, in one commit of a device that holds these
+-- sets
+pub record SaysApplied (rows : Rows) (held : List ℕ) (name : Bytes) (conflicts : List Conflict) (cursor : Option Bytes) (retrieved saved : List Item) (token : Bytes)
     (changes : List Change) (moves : List Move) : Type 0 where
   pub owner : OwnerRow
   pub sets : Sets
   pub holds : HasSets rows owner sets
-  pub no_older : sets.older ≡ None
   pub words : ChaCha
   pub end : Progress
-  pub told : SaysAllTold name sets saved (start rows owner words) (told_by saved conflicts retrieved) end moves
+  pub first : List Move
+  pub told : SaysAllTold name sets saved (start rows owner words) (told_by saved conflicts retrieved) end first
   pub counted : Change
   pub counted_is : PutsOwner counted (with_tokens end.next token cursor (owner_columns owner))
-  pub changes_are : changes ≡ end.changes ++ counted ∷ []
+  pub retired : List Change
+  pub retires : Retires end.rows cursor sets.older retired
+  pub changes_are : changes ≡ end.changes ++ counted ∷ retired
+  pub later : List Move
+  pub retiring : IsRetiring end.rows cursor sets.older name held later
+  pub moves_are : moves ≡ first ++ later
 
 -- of an answer to a sync; no other is applied
-abbrev pub SaysAnswer : Rows → Bytes → Answer → List Change → List Move → Type 0
-SaysAnswer rows name (answer.Sync conflicts cursor retrieved saved token) changes moves =
-    SaysApplied rows name conflicts cursor retrieved saved token changes moves
-SaysAnswer rows name (answer.Account token identifier uuid) changes moves = ⊥
-SaysAnswer rows name (answer.Params params) changes moves = ⊥
-SaysAnswer rows name (answer.Refused status tag more) changes moves = ⊥
+abbrev pub SaysAnswer : Rows → List ℕ → Bytes → Answer → List Change → List Move → Type 0
+SaysAnswer rows held name (answer.Sync conflicts cursor retrieved saved token) changes moves =
+    SaysApplied rows held name conflicts cursor retrieved saved token changes moves
+SaysAnswer rows held name (answer.Account token identifier uuid) changes moves = ⊥
+SaysAnswer rows held name (answer.Params params) changes moves = ⊥
+SaysAnswer rows held name (answer.Refused status tag more) changes moves = ⊥
 
 -- ---- when it may be applied
 
--- the answer tells the server's rows as they are now, to this device's account, for what its rows have posted as it was sent
+-- the answer tells the server's rows as they are now, to this device's account, whose last set is the greatest that the device holds, for what was sent of
+-- its rows
 pub record Tells (server rows : Rows) (s : Ideal) (name : Bytes) (sent : List Item) (conflicts : List Conflict) (cursor : Option Bytes)
     (retrieved saved : List Item) (token : Bytes) : Type 0 where
   pub number : ℕ
@@ -130,7 +138,8 @@ pub record Tells (server rows : Rows) (s : Ideal) (name : Bytes) (sent : List It
   pub device : Device
   pub named : device_named s name ≡ Some device
   pub own : account.identifier ≡ device.account
-  pub posted : Each (IsPostedOf rows) sent
+  pub greatest_is : greatest 0 device.held ≡ length account.sets
+  pub sent_of : Each (IsSentOf rows) sent
   -- the parameters of the account's last set
   pub present : Params
   pub params_are : (set : KeySet) → set_at (length account.sets) account.sets ≡ Some set → present ≡ set.params

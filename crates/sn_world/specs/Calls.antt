@@ -17,6 +17,7 @@ use Rattle.sn_sync.specs.declared.request.Request.{Request}
 use Rattle.sn_world.specs.Happens.{Happens, Trace, commits, makes, serves}
 use Rattle.sn_world.specs.Holds.{Holds, TokensDiffer}
 use Rattle.sn_world.specs.Laws.{IsOnlySet, KeptBy}
+use Rattle.sn_world.specs.Plain.{AsksNoSet}
 use Rattle.sn_world.specs.World.{Made, World}
 
 -- ---- what becomes of a request
@@ -151,10 +152,10 @@ CallsGo = (secret : Bytes) (w : World) (s : Ideal) (name : Bytes) (least : ℕ) 
     → TokensDiffer secret → Holds secret w s → AsksNothing call → Run least call (w.devices name) words acts halt → AreServed w.server acts fates
     → GoesCall secret w s name call acts fates halt
 
--- whatever a sync does, and whichever of its requests and answers are lost
+-- whatever a sync does on a device that asks for no set, and whichever of its requests and answers are lost
 abbrev pub SyncsGo : Type 0
 SyncsGo = (secret : Bytes) (w : World) (s : Ideal) (name : Bytes) (least : ℕ) (words : ChaCha) (acts : List Act) (fates : List Fate) (halt : Halt)
-    → TokensDiffer secret → Holds secret w s → Run least sync (w.devices name) words acts halt → AreServed w.server acts fates
+    → TokensDiffer secret → Holds secret w s → AsksNoSet (w.devices name) → Run least sync (w.devices name) words acts halt → AreServed w.server acts fates
     → GoesCall secret w s name sync acts fates halt
 
 -- whatever a registration does

@@ -1,10 +1,12 @@
 -- A commit of a device, when it may be made, and the moves that it says.
-use Rattle.std.specs.Prelude.{◌≡◌, ◌≢◌, ◌⊎◌, ℕ, List, [], ◌∷◌, length, Some, None}
+use Rattle.std.specs.Prelude.{◌≡◌, ◌≢◌, ◌⊎◌, ◌++◌, ◌<◌, ℕ, List, [], ◌∷◌, length, Some, None}
 use Rattle.std.specs.List.{AllZip}
 use Rattle.rand_chacha.specs.ChaCha.{ChaCha}
 use Rattle.sn_account.specs.Sessions.{account_uuid, session_token}
+use Rattle.sn_adopted.specs.Moves.{adopting, reposting}
 use Rattle.sn_laws.specs.Each.{Each}
-use Rattle.sn_laws.specs.Lookups.{Bytes, account_named, device_named, greatest}
+use Rattle.sn_laws.specs.Lookups.{Bytes, account_named, device_named, greatest, held_by}
+use Rattle.sn_laws.specs.Relation.{IsOnLast}
 use Rattle.sn_laws.specs.declared.ideal.Account.{Account}
 use Rattle.sn_laws.specs.declared.ideal.Content.{Content}
 use Rattle.sn_laws.specs.declared.ideal.Content.TheVariants as content
@@ -15,9 +17,12 @@ use Rattle.sn_laws.specs.declared.moves.Move.TheVariants.{Drop, Edit, Join, Post
 use Rattle.sn_rows.specs.Table.{Rows}
 use Rattle.sn_rows.specs.declared.change.Change.{Change}
 use Rattle.sn_rows.specs.declared.device_rows.LocalItem.{LocalItem}
+use Rattle.sn_shows.specs.Laws.{HasAccount}
 use Rattle.sn_shows.specs.Servers.{account_at}
 use Rattle.sn_shows.specs.Sets.{set_at}
 use Rattle.sn_string.specs.declared.params.KeySet.{KeySet}
+use Rattle.sn_client.specs.Listing.{AreItems}
+use Rattle.sn_client.specs.Sending.{Numbered}
 use Rattle.sn_client.specs.States.{HasItem, HasLocal}
 use Rattle.sn_client.specs.Steps.{IsUnknown, Step, What, adopts, applies, asks, begins, deletes, edits, forgets, posts, puts, renews}
 use Rattle.sn_world.specs.Applying.{MayApply, SaysAnswer}
@@ -51,6 +56,18 @@ pub record MayRenew (secret : Bytes) (s : Ideal) (name token : Bytes) : Type 0 w
   pub own : account.identifier ≡ device.account
   pub token_is : token ≡ session_token secret number (greatest 0 device.held)
 
+-- the set is the account's last one and above all that the device holds, and the session token is that of it
+pub record MayAdopt (secret : Bytes) (s : Ideal) (name : Bytes) (set : KeySet) (token : Bytes) : Type 0 where
+  pub number : ℕ
+  pub account : Account
+  pub at : account_at number s.accounts ≡ Some account
+  pub device : Device
+  pub named : device_named s name ≡ Some device
+  pub own : account.identifier ≡ device.account
+  pub last : set_at (length account.sets) account.sets ≡ Some set
+  pub above : greatest 0 device.held < length account.sets
+  pub token_is : token ≡ session_token secret number (length account.sets)
+
 -- none stands twice
 abbrev pub AreDifferent : List ℕ → Type 0
 AreDifferent [] = Unit {0}
@@ -65,9 +82,9 @@ MayCommit secret server rows s name (edits uuid text) = Unit {0}
 MayCommit secret server rows s name (deletes uuid) = Unit {0}
 MayCommit secret server rows s name (posts numbers) = AreDifferent numbers
 MayCommit secret server rows s name (applies request given) = MayApply server rows s name request given
-MayCommit secret server rows s name (asks set) = ⊥
-MayCommit secret server rows s name (adopts set token) = ⊥
-MayCommit secret server rows s name forgets = ⊥
+MayCommit secret server rows s name (asks set) = Unit {0}
+MayCommit secret server rows s name (adopts set token) = MayAdopt secret s name set token
+MayCommit secret server rows s name forgets = Unit {0}
 
 -- ---- the moves of a commit, by what is done and the rows before it
 
@@ -90,6 +107,28 @@ SaysDeletion rows name uuid moves = (number : ℕ) × (local : LocalItem) × Has
 abbrev pub IsPostOf : Rows → Bytes → ℕ → Move → Type 0
 IsPostOf rows name number move = (local : LocalItem) × HasLocal rows number local × (move ≡ Post name local.uuid)
 
+-- something was sent of the row's draft, which stands on its item's last version, or on none where there is none
+abbrev pub IsReposted : Ideal → Account → LocalItem → Type 0
+IsReposted s a local = (local.posted ≢ None) × IsOnLast s a local.uuid local.base
+
+-- the items of the rows of which that is so, in order
+abbrev pub AreReposted : Ideal → Account → List Numbered → List Bytes → Type 0
+AreReposted s a [] uuids = uuids ≡ []
+AreReposted s a (item ∷ items) uuids =
+    (IsReposted s a item.1 × ((later : List Bytes) × (uuids ≡ item.1.uuid ∷ later) × AreReposted s a items later))
+    ⊎ (¬ (IsReposted s a item.1) × AreReposted s a items uuids)
+
+-- the former older set ends, the account's last set is joined, and what was sent is sent again where it may still be accepted, in local order
+pub record SaysAdoption (rows : Rows) (s : Ideal) (name : Bytes) (moves : List Move) : Type 0 where
+  pub device : Device
+  pub account : Account
+  pub has : HasAccount s name device account
+  pub items : List Numbered
+  pub items_are : AreItems rows items
+  pub uuids : List Bytes
+  pub reposted : AreReposted s account items uuids
+  pub moves_are : moves ≡ adopting name account.identifier (length account.sets) device.held ++ reposting name uuids
+
 -- by what is done
 abbrev pub SaysCommit : Rows → Ideal → Bytes → What → List Change → List Move → Type 0
 SaysCommit rows s name (begins set uuid token) changes moves = SaysJoin s name set.params.identifier moves
@@ -98,7 +137,7 @@ SaysCommit rows s name (puts uuid kind text) changes moves = moves ≡ Edit name
 SaysCommit rows s name (edits uuid text) changes moves = SaysEdit rows name uuid (content.Plain text) moves
 SaysCommit rows s name (deletes uuid) changes moves = SaysDeletion rows name uuid moves
 SaysCommit rows s name (posts numbers) changes moves = AllZip (IsPostOf rows name) numbers moves
-SaysCommit rows s name (applies request given) changes moves = SaysAnswer rows name given changes moves
-SaysCommit rows s name (asks set) changes moves = ⊥
-SaysCommit rows s name (adopts set token) changes moves = ⊥
-SaysCommit rows s name forgets changes moves = ⊥
+SaysCommit rows s name (applies request given) changes moves = SaysAnswer rows (held_by (device_named s name)) name given changes moves
+SaysCommit rows s name (asks set) changes moves = moves ≡ []
+SaysCommit rows s name (adopts set token) changes moves = SaysAdoption rows s name moves
+SaysCommit rows s name forgets changes moves = moves ≡ []

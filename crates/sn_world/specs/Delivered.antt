@@ -20,6 +20,7 @@ use Rattle.sn_world.specs.First.{IsFirst}
 use Rattle.sn_world.specs.Fitting.{FitsCall, FitsUuids}
 use Rattle.sn_world.specs.Happens.{Does, Happens, Trace}
 use Rattle.sn_world.specs.Holds.{Holds, TokensDiffer}
+use Rattle.sn_world.specs.Plain.{AsksNoSet, HoldsPlain}
 use Rattle.sn_world.specs.Sessions.{LeadsLine, Line, LinesLead, MayAsk, again, calls, opens, stops}
 use Rattle.sn_world.specs.Synced.{LeadsSynced}
 use Rattle.sn_world.specs.World.{IsMade, World, at_first}
@@ -75,22 +76,25 @@ abbrev pub TracesFit : Type 0
 TracesFit = (secret : Bytes) (w next : World) (s : Ideal) (steps : List Happens) (moves : List Move)
     → TokensDiffer secret → Holds secret w s → FitsDevices w → Trace secret w s steps moves next → FitsDevices next
 
--- there each request of a call is served, where the server answers it by its rule
+-- there each request of a call is served, where the server answers it by its rule, and no set is asked for
 abbrev pub CallsFit : Type 0
 CallsFit = (secret : Bytes) (w : World) (s : Ideal) (name : Bytes) (least : ℕ) (call : Call) (words : ChaCha) (acts : List Act) (fates : List Fate) (halt : Halt)
-    → Holds secret w s → FitsUuids (w.devices name) → FitsCall call → KeepsPassword call → Run least call (w.devices name) words acts halt
+    → Holds secret w s → AsksNoSet (w.devices name) → FitsUuids (w.devices name) → FitsCall call → KeepsPassword call
+    → Run least call (w.devices name) words acts halt
     → AreServedBy w.server acts fates → AreServed w.server acts fates
 
 -- so the acts of any such call, with these fates, are steps that leave the rows which the acts and the fates leave
 abbrev pub CallsGoBy : Type 0
 CallsGoBy = (secret : Bytes) (w : World) (s : Ideal) (name : Bytes) (least : ℕ) (call : Call) (words : ChaCha) (acts : List Act) (fates : List Fate) (halt : Halt)
-    → TokensDiffer secret → Holds secret w s → FitsUuids (w.devices name) → FitsCall call → MayAsk s call → Run least call (w.devices name) words acts halt
+    → TokensDiffer secret → Holds secret w s → AsksNoSet (w.devices name) → FitsUuids (w.devices name) → FitsCall call → MayAsk s call
+    → Run least call (w.devices name) words acts halt
     → AreServedBy w.server acts fates → GoesCall secret w s name call acts fates halt
 
 -- and a sync that is answered leaves its device with just the items of its account
 abbrev pub SyncsEndBy : Type 0
 SyncsEndBy = (secret : Bytes) (w : World) (s : Ideal) (name : Bytes) (least : ℕ) (words left : ChaCha) (acts : List Act) (fates : List Fate) (given : Given)
-    → TokensDiffer secret → Holds secret w s → FitsUuids (w.devices name) → Run least sync (w.devices name) words acts (answered given left)
+    → TokensDiffer secret → Holds secret w s → AsksNoSet (w.devices name) → FitsUuids (w.devices name)
+    → Run least sync (w.devices name) words acts (answered given left)
     → AreServedBy w.server acts fates
     → LeadsSynced secret w s name (call_steps name None acts fates) (rows_served w.server fates) (rows_done (w.devices name) acts)
 
@@ -130,12 +134,12 @@ MayFollowBy secret w s [] = Unit {0}
 MayFollowBy secret w s (line ∷ lines) =
     MayComeBy secret w s line × ((x : LeadsLine secret w s line) → MayFollowBy secret x.next (end_from s x.moves) lines)
 
--- these are steps, from a world in which the invariant holds
+-- these are steps, from a world in which the invariant holds, and no password is changed
 abbrev pub LinesGoBy : Type 0
-LinesGoBy = (secret : Bytes) (w : World) (s : Ideal) (lines : List Line) → TokensDiffer secret → Holds secret w s → FitsWorld w → MayFollowBy secret w s lines
+LinesGoBy = (secret : Bytes) (w : World) (s : Ideal) (lines : List Line) → TokensDiffer secret → HoldsPlain secret w s → FitsWorld w → MayFollowBy secret w s lines
     → LinesLead secret w s lines
 
 -- and from the beginning on
 abbrev pub LinesKeepBy : Type 0
 LinesKeepBy = (secret : Bytes) (lines : List Line) → TokensDiffer secret → MayFollowBy secret at_first empty lines
-    → (x : LinesLead secret at_first empty lines) × Legal x.moves × Holds secret x.next (end x.moves)
+    → (x : LinesLead secret at_first empty lines) × Legal x.moves × HoldsPlain secret x.next (end x.moves)

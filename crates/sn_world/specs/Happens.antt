@@ -36,7 +36,7 @@ Does secret w s (commits name what changes false) next = next ≡ w
 
 -- the moves of the step
 abbrev pub Says : World → Ideal → Happens → List Move → Type 0
-Says w s (serves m now changes given true) moves = SaysServed w.server m changes moves
+Says w s (serves m now changes given true) moves = SaysServed w.server (w.devices m.device) m changes moves
 Says w s (commits name what changes true) moves = SaysCommit (w.devices name) s name what changes moves
 Says w s (starts changes stands) moves = moves ≡ []
 Says w s (makes m) moves = moves ≡ []

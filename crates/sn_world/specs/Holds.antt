@@ -1,8 +1,9 @@
 -- The invariant: what the rows of both ends and the requests ever made have in common with the ideal state, at every moment.
-use Rattle.std.specs.Prelude.{◌≡◌, ◌≢◌, ◌⊎◌, ℕ, ◌≤◌, false, List, length, Option, Some, None}
+use Rattle.std.specs.Prelude.{◌≡◌, ◌⊎◌, ℕ, ◌≤◌, List, length, Option, Some, None}
 use Rattle.sn_account.specs.Lookups.{HasStore}
 use Rattle.sn_account.specs.Sessions.{IsSession, account_uuid, session_token}
 use Rattle.sn_account.specs.Sound.{IsSound as IsSoundServer, most_accounts, most_generations}
+use Rattle.sn_adopted.specs.Moves.{OlderStale}
 use Rattle.sn_laws.specs.Each.{Each}
 use Rattle.sn_laws.specs.Lookups.{Bytes, device_named, draft_at, greatest}
 use Rattle.sn_laws.specs.Relation.{IsOnLast}
@@ -13,12 +14,8 @@ use Rattle.sn_laws.specs.declared.ideal.Draft.{Draft}
 use Rattle.sn_laws.specs.declared.ideal.Ideal.{Ideal}
 use Rattle.sn_laws.specs.declared.ideal.Posted.{Posted}
 use Rattle.sn_laws.specs.declared.moves.Move.{Move}
-use Rattle.sn_laws.specs.declared.moves.Move.TheVariants.{Change}
 use Rattle.sn_rows.specs.Table.{Rows}
-use Rattle.sn_rows.specs.declared.device_rows.LocalItem.{LocalItem}
 use Rattle.sn_rows.specs.declared.device_rows.OwnerRow.{OwnerRow}
-use Rattle.sn_rows.specs.declared.key.Key.TheVariants as key
-use Rattle.sn_rows.specs.declared.key.Slot.TheVariants.{Asked}
 use Rattle.sn_rows.specs.declared.server_rows.StoreRow.{StoreRow}
 use Rattle.sn_shows.specs.Devices.{ShowsDevice}
 use Rattle.sn_shows.specs.Laws.{HasAccount}
@@ -30,7 +27,7 @@ use Rattle.sn_sync.specs.declared.item.Item.{Item}
 use Rattle.sn_sync.specs.declared.request.Request.TheVariants as request
 use Rattle.sn_world.specs.Live.{KnownBelow, LiveItems}
 use Rattle.sn_world.specs.Pulled.{BasesPulled, PulledTo}
-use Rattle.sn_client.specs.States.{HasLocal, HasOwner, IsSound, token_of}
+use Rattle.sn_client.specs.States.{HasOwner, IsSound, token_of}
 use Rattle.sn_world.specs.World.{IsMade, Made, World}
 
 -- ---- the premise
@@ -43,16 +40,10 @@ TokensDiffer secret = (n g h : ℕ) → n ≤ most_accounts → g ≤ most_gener
 
 -- ---- the ideal state
 
--- no account gets another set: no password is changed yet
-abbrev pub ChangesNoSet : Move → Type 0
-ChangesNoSet (Change identifier number set) = ⊥
-ChangesNoSet m = Unit {0}
-
 -- it comes of legal moves: so each law of lists of moves is a law of the state
 pub record Reached (s : Ideal) : Type 0 where
   pub moves : List Move
   pub legal : Legal moves
-  pub no_change : Each ChangesNoSet moves
   pub is : s ≡ end moves
 
 -- no more accounts, and no more sets of one, than a server has
@@ -74,13 +65,9 @@ NumbersOf s name = (d : Device) (a : Account) → HasAccount s name d a → Post
 
 -- ---- rows
 
--- none is to be sealed again under another set
-abbrev pub NoneStale : Rows → Type 0
-NoneStale rows = (number : ℕ) (local : LocalItem) → HasLocal rows number local → local.stale ≡ false
-
--- no set is asked for
-abbrev pub AsksNoSet : Rows → Type 0
-AsksNoSet rows = rows (key.Set Asked) ≡ None
+-- where a device holds two sets, each of its rows that the older one opens is to be sealed again
+abbrev pub StaleOf : Rows → Ideal → Bytes → Type 0
+StaleOf rows s name = (d : Device) (a : Account) → HasAccount s name d a → OlderStale rows a d.held
 
 -- ---- session tokens
 
@@ -132,7 +119,7 @@ pub record IsSync (m : Made) (token : Bytes) (items : List Item) : Type 0 where
 pub record HoldsSync (secret : Bytes) (server device : Rows) (s : Ideal) (name token : Bytes) (items : List Item) : Type 0 where
   pub of_device : HasToken secret s.accounts (device_named s name) token
   pub known : Each (KnownBelow (greatest 0 (stamps_in s.accounts))) items
-  pub live : (n : ℕ) → IsSession server token n → LiveItems server device n items
+  pub live : (n : ℕ) → IsSession server token n → LiveItems server device s.accounts n items
 
 -- a registration: what is asked for is the set that it would begin
 pub record BeginsSet (found : Option KeySet) (params : Params) (pw : Bytes) : Type 0 where
@@ -140,6 +127,21 @@ pub record BeginsSet (found : Option KeySet) (params : Params) (pw : Bytes) : Ty
   pub is : found ≡ Some set
   pub params_are : params ≡ set.params
   pub pw_is : pw ≡ set.pw
+
+-- a change of password: what is asked for is the set that it would begin, and its token is of that set's account and of a set that the account has
+pub record HoldsChange (secret : Bytes) (accounts : List Account) (found : Option KeySet) (token pw : Bytes) (cost : ℕ) (nonce : Bytes) : Type 0 where
+  pub set : KeySet
+  pub is : found ≡ Some set
+  pub pw_is : set.pw ≡ pw
+  pub cost_is : set.params.pw_cost ≡ cost
+  pub nonce_is : set.params.pw_nonce ≡ nonce
+  pub number : ℕ
+  pub account : Account
+  pub at : account_at number accounts ≡ Some account
+  pub own : account.identifier ≡ set.params.identifier
+  pub generation : ℕ
+  pub within : generation ≤ length account.sets
+  pub token_is : token ≡ session_token secret number generation
 
 -- ---- all of it
 
@@ -151,12 +153,10 @@ pub record Holds (secret : Bytes) (w : World) (s : Ideal) : Type 0 where
   pub keeps_secret : (store : StoreRow) → HasStore w.server store → store.secret ≡ secret
   pub server : ShowsServer w.server s.accounts
   pub server_sound : (store : StoreRow) → HasStore w.server store → IsSoundServer w.server
-  -- each device: its rows show what the state has of it, and are sound, and no change of password is under way: none is to be sealed again, no set is
-  -- asked for
+  -- each device: its rows show what the state has of it, and are sound; and those of an older set are to be sealed again
   pub devices : (name : Bytes) → ShowsDevice (w.devices name) s name
   pub sound : (name : Bytes) → IsSound (w.devices name)
-  pub unstale : (name : Bytes) → NoneStale (w.devices name)
-  pub unasked : (name : Bytes) → AsksNoSet (w.devices name)
+  pub older_stale : (name : Bytes) → StaleOf (w.devices name) s name
   -- its drafts that were sent, its session token, and its sync token
   pub numbers : (name : Bytes) → NumbersOf s name
   pub own_tokens : (name : Bytes) (d : Device) → device_named s name ≡ Some d → DeviceToken secret (w.devices name) s.accounts d
@@ -164,8 +164,9 @@ pub record Holds (secret : Bytes) (w : World) (s : Ideal) : Type 0 where
   -- how far it has pulled: without a sync token nothing, and with one up to its stamp
   pub bases_pulled : (name : Bytes) → BasesPulled (w.devices name)
   pub pulled : (name : Bytes) → PulledTo (w.devices name) s.accounts (device_named s name)
-  -- each request that was made, whenever it comes: a sync, a registration, and no change of password yet
+  -- each request that was made, whenever it comes: a sync, a change of password, a registration
   pub syncs : (m : Made) (token : Bytes) (items : List Item) → IsMade w m → IsSync m token items
       → HoldsSync secret w.server (w.devices m.device) s m.device token items
-  pub no_change : (m : Made) (token current pw : Bytes) (cost : ℕ) (nonce : Bytes) → IsMade w m → m.request ≢ request.ChangePw token current pw cost nonce
+  pub changes : (m : Made) (token current pw : Bytes) (cost : ℕ) (nonce : Bytes) → IsMade w m → m.request ≡ request.ChangePw token current pw cost nonce
+      → HoldsChange secret s.accounts m.begins token pw cost nonce
   pub registers : (m : Made) (params : Params) (pw : Bytes) → IsMade w m → m.request ≡ request.Register params pw → BeginsSet m.begins params pw

@@ -30,15 +30,16 @@ use Rattle.sn_sync.specs.declared.answer.Conflict.{Conflict}
 use Rattle.sn_sync.specs.declared.item.Item.{Item}
 use Rattle.sn_client.specs.Runs.{Sends, items_of}
 use Rattle.sn_rows.specs.Table.{Rows, rows_after}
-use Rattle.sn_world.specs.Committing.{AreDifferent, Commits, MayBegin, MayCommit, MayRenew, SaysCommit}
+use Rattle.sn_world.specs.Committing.{AreDifferent, Commits, MayAdopt, MayBegin, MayCommit, MayRenew, SaysCommit}
 use Rattle.sn_world.specs.Settling.{MeetsOwnLast, TakesLast}
-use Rattle.sn_client.specs.States.{HasLocal, HasOwner, IsSound, token_of}
+use Rattle.sn_client.specs.States.{HasOwner, HasSets, IsSound, token_of}
+use Rattle.sn_sets.specs.declared.sets.Sets.{Sets}
 use Rattle.sn_client.specs.Steps.{What, applies}
 use Rattle.sn_world.specs.First.{Starts}
 use Rattle.sn_world.specs.Happens.{Does, Happens, Says, Trace}
 use Rattle.sn_world.specs.Holds.{Holds, IsSync, TokensDiffer}
 use Rattle.sn_world.specs.Applying.{Tells}
-use Rattle.sn_world.specs.Making.{HasTokens, IsPostedOf, Makes, MakesOf, SendsPosted, SendsTokens}
+use Rattle.sn_world.specs.Making.{HasTokens, IsSentOf, Makes, MakesChange, MakesOf, SendsPosted, SendsTokens}
 use Rattle.sn_world.specs.Pulled.{HasAll, StandOnLasts}
 use Rattle.sn_world.specs.Serving.{SaysServed, Serves}
 use Rattle.sn_world.specs.World.{Made, OnDevice, World, at_first}
@@ -60,7 +61,7 @@ KeepsStarting = (secret : Bytes) (w next : World) (s : Ideal) (changes : List Ch
 -- any request that was made, served at any time, as often as may be
 abbrev pub KeepsServing : Type 0
 KeepsServing = (secret : Bytes) (w next : World) (s : Ideal) (m : Made) (now : ℕ) (changes : List Change) (given : Answer) (moves : List Move)
-    → TokensDiffer secret → Holds secret w s → Serves w next m now changes given → SaysServed w.server m changes moves → KeptBy secret next s moves
+    → TokensDiffer secret → Holds secret w s → Serves w next m now changes given → SaysServed w.server (w.devices m.device) m changes moves → KeptBy secret next s moves
 
 -- a registration that is answered with an account: with its token and uuid a device may begin, with the set that was asked for
 abbrev pub RegisteredBegins : Type 0
@@ -80,19 +81,35 @@ SignedInBegins = (secret : Bytes) (w : World) (s : Ideal) (identifier : Bytes) (
     → Holds secret w s → Rule w.server (request.SignIn identifier set.pw) now changes (answer.Account token name uuid)
     → ((n : ℕ) → IsNamed w.server identifier n → IsPresent w.server n set.params) → IsOnlySet s set → MayBegin secret s set uuid token
 
--- and a device of the account may renew its token with it
+-- and a device whose greatest set has those parameters may renew its token with it
 abbrev pub SignedInRenews : Type 0
-SignedInRenews = (secret : Bytes) (w : World) (s : Ideal) (identifier pw : Bytes) (now : ℕ) (changes : List Change) (token account uuid name : Bytes) (d : Device)
-    → Holds secret w s → Rule w.server (request.SignIn identifier pw) now changes (answer.Account token account uuid)
-    → device_named s name ≡ Some d → d.account ≡ identifier → MayRenew secret s name token
+SignedInRenews = (secret : Bytes) (w : World) (s : Ideal) (identifier pw : Bytes) (now : ℕ) (changes : List Change) (token account uuid name : Bytes)
+    (owner : OwnerRow) (sets : Sets) → Holds secret w s → Rule w.server (request.SignIn identifier pw) now changes (answer.Account token account uuid)
+    → HasSets (w.devices name) owner sets → owner.identifier ≡ identifier
+    → ((n : ℕ) → IsNamed w.server identifier n → IsPresent w.server n sets.present.params) → MayRenew secret s name token
+
+-- a device that doesn't hold the account's present parameters, and signs in with a set of those, may adopt it
+abbrev pub SignedInAdopts : Type 0
+SignedInAdopts = (secret : Bytes) (w : World) (s : Ideal) (identifier : Bytes) (now : ℕ) (changes : List Change) (token account uuid name : Bytes)
+    (owner : OwnerRow) (sets : Sets) (set : KeySet) → Holds secret w s
+    → Rule w.server (request.SignIn identifier set.pw) now changes (answer.Account token account uuid)
+    → HasSets (w.devices name) owner sets → owner.identifier ≡ identifier → set.params ≢ sets.present.params
+    → ((n : ℕ) → IsNamed w.server identifier n → IsPresent w.server n set.params) → IsOnlySet s set → MayAdopt secret s name set token
+
+-- a change of password of a device that is answered with an account: the device may adopt the set that was asked for
+abbrev pub ChangedAdopts : Type 0
+ChangedAdopts = (secret : Bytes) (w next : World) (s : Ideal) (m : Made) (now : ℕ) (changes : List Change) (moves : List Move)
+    (token identifier uuid : Bytes) (set : KeySet) → TokensDiffer secret → Holds secret w s → MakesChange (w.devices m.device) (Some set) m.request
+    → m.begins ≡ Some set → Serves w next m now changes (answer.Account token identifier uuid)
+    → SaysServed w.server (w.devices m.device) m changes moves → MayAdopt secret (end_from s moves) m.device set token
 
 -- a sync of a device's rows, from its tokens on, whose items have different uuids: where it is answered, the answer tells the device the rows as they are left
 abbrev pub ServedTells : Type 0
 ServedTells = (secret : Bytes) (w next : World) (s : Ideal) (m : Made) (token : Bytes) (items : List Item) (now : ℕ) (changes : List Change) (moves : List Move)
     (conflicts : List Conflict) (cursor : Option Bytes) (retrieved saved : List Item) (next_token : Bytes)
-    → TokensDiffer secret → Holds secret w s → (sync : IsSync m token items) → Each (IsPostedOf (w.devices m.device)) items
+    → TokensDiffer secret → Holds secret w s → (sync : IsSync m token items) → Each (IsSentOf (w.devices m.device)) items
     → HasTokens (w.devices m.device) sync.sync_token sync.cursor_token → AreApart (uuids items)
-    → Serves w next m now changes (answer.Sync conflicts cursor retrieved saved next_token) → SaysServed w.server m changes moves
+    → Serves w next m now changes (answer.Sync conflicts cursor retrieved saved next_token) → SaysServed w.server (w.devices m.device) m changes moves
     → Tells next.server (next.devices m.device) (end_from s moves) m.device items conflicts cursor retrieved saved next_token
 
 -- ---- requests
@@ -101,11 +118,10 @@ ServedTells = (secret : Bytes) (w next : World) (s : Ideal) (m : Made) (token : 
 abbrev pub KeepsMaking : Type 0
 KeepsMaking = (secret : Bytes) (w next : World) (s : Ideal) (m : Made) → TokensDiffer secret → Holds secret w s → Makes w next m → Holds secret next s
 
--- what a round of a device's sync posts and sends, where nothing is to be sealed again: no draft is posted twice, the request is of rows that are
--- posted, and from their tokens on, and its items have different uuids
+-- what a round of a device's sync posts and sends: no draft is posted twice, the request is of rows that are posted or to be sealed again, and from their
+-- tokens on, and its items have different uuids
 abbrev pub SendsArePosted : Type 0
-SendsArePosted = (rows : Rows) (numbers : List ℕ) (posted : List Change) (r : Request) (ready : Rows) → IsSound rows
-    → ((number : ℕ) (local : LocalItem) → HasLocal rows number local → ¬ (local.stale ≡ true)) → Sends rows numbers posted r ready
+SendsArePosted = (rows : Rows) (numbers : List ℕ) (posted : List Change) (r : Request) (ready : Rows) → IsSound rows → Sends rows numbers posted r ready
     → AreDifferent numbers × ((begins : Option KeySet) → MakesOf ready begins r) × AreApart (uuids (items_of r)) × SendsTokens ready r
 
 -- ---- devices
@@ -159,7 +175,7 @@ pub record Settles (w next : World) (s : Ideal) (name : Bytes) (change : Change)
   pub sent : Item
   pub sends : SendsPosted local sent
   pub saved : IsSavedOf sent i
-  pub takes : TakesLast change number i None
+  pub takes : TakesLast meets.meets.sets change number i None
   pub sound : IsSound (rows_after (w.devices name) (change ∷ []))
   pub synced : (owner : OwnerRow) → HasOwner (w.devices name) owner → token_of owner.sync_token ≢ None
   pub on : OnDevice w next name (change ∷ [])

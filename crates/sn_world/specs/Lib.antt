@@ -6,10 +6,12 @@ pub mod Delivered
 pub mod First
 pub mod Fitting
 pub mod Happens
+pub mod Holders
 pub mod Holds
 pub mod Laws
 pub mod Live
 pub mod Making
+pub mod Plain
 pub mod Pulled
 pub mod Rounds
 pub mod Serving

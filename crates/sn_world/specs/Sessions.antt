@@ -19,7 +19,7 @@ use Rattle.sn_world.specs.Calls.{AreServed, BeginsBy, Fate, IsOnlyOf, IsServed, 
 use Rattle.sn_world.specs.First.{IsFirst}
 use Rattle.sn_world.specs.Happens.{Happens, Trace, commits, makes, serves, starts}
 use Rattle.sn_world.specs.Holds.{Holds, TokensDiffer}
-use Rattle.sn_world.specs.Laws.{KeptBy}
+use Rattle.sn_world.specs.Plain.{HoldsPlain, KeptPlain}
 use Rattle.sn_world.specs.World.{IsMade, Made, World, at_first}
 
 -- ---- what happens
@@ -156,14 +156,15 @@ abbrev pub device_behind_all : Bytes → Rows → List Line → Rows
 device_behind_all own rows [] = rows
 device_behind_all own rows (line ∷ lines) = device_behind_all own (device_behind own rows line) lines
 
--- the steps of all are a trace; its moves are legal, and the invariant holds behind it, with the rows that the lines leave
+-- the steps of all are a trace; its moves are legal, and the invariant holds behind it, in a world in which no password is changed, with the rows that the
+-- lines leave
 pub record LinesLead (secret : Bytes) (w : World) (s : Ideal) (lines : List Line) : Type 0 where
   pub steps : List Happens
   pub of_lines : AreStepsOf lines steps
   pub moves : List Move
   pub next : World
   pub goes : Trace secret w s steps moves next
-  pub keeps : KeptBy secret next s moves
+  pub keeps : KeptPlain secret next s moves
   pub server_is : next.server ≡ server_behind_all w.server lines
   pub devices_are : (name : Bytes) → next.devices name ≡ device_behind_all name (w.devices name) lines
 
@@ -171,15 +172,15 @@ pub record LinesLead (secret : Bytes) (w : World) (s : Ideal) (lines : List Line
 
 -- a request that was made leads on with the set that it would begin
 abbrev pub AgainLeads : Type 0
-AgainLeads = (secret : Bytes) (w : World) (s : Ideal) (m : Made) (fate : Fate) → IsMade w m → IsServed w.server m.request unheard fate
+AgainLeads = (secret : Bytes) (w : World) (s : Ideal) (m : Made) (fate : Fate) → Holds secret w s → IsMade w m → IsServed w.server m.request unheard fate
     → (x : LeadsLine secret w s (again m.device m.request fate)) × (x.begins ≡ m.begins)
 
--- from a world in which the invariant holds
+-- from a world in which the invariant holds, and no password is changed
 abbrev pub LinesGo : Type 0
 LinesGo = (secret : Bytes) (w : World) (s : Ideal) (lines : List Line)
-    → TokensDiffer secret → Holds secret w s → MayFollow secret w s lines → LinesLead secret w s lines
+    → TokensDiffer secret → HoldsPlain secret w s → MayFollow secret w s lines → LinesLead secret w s lines
 
 -- and from the beginning on
 abbrev pub LinesKeep : Type 0
 LinesKeep = (secret : Bytes) (lines : List Line) → TokensDiffer secret → MayFollow secret at_first empty lines
-    → (x : LinesLead secret at_first empty lines) × Legal x.moves × Holds secret x.next (end x.moves)
+    → (x : LinesLead secret at_first empty lines) × Legal x.moves × HoldsPlain secret x.next (end x.moves)

@@ -25,7 +25,7 @@ use Rattle.sn_string.specs.declared.params.KeySet.{KeySet}
 use Rattle.sn_sync.specs.declared.item.Body.TheVariants as body
 use Rattle.sn_sync.specs.declared.item.Item.{Item}
 use Rattle.sn_world.specs.Live.{LiveItem}
-use Rattle.sn_world.specs.Making.{SendsPosted}
+use Rattle.sn_world.specs.Making.{IsSentBy}
 use Rattle.sn_world.specs.Pulled.{PulledAt}
 use Rattle.sn_client.specs.Sending.{PutsColumns}
 use Rattle.sn_client.specs.States.{Columns, HasItem, HasLocal, HasSets}
@@ -55,15 +55,13 @@ pub record MeetsOwnLast (server device : Rows) (s : Ideal) (name : Bytes) (n num
   pub meets : MeetsStored server device s name n number a d local i
   pub same : HasContent meets.sets local meets.latest i
 
--- the change puts the row with the item's strings, as it gives them, with this draft or without one, and with nothing sent of it
-pub record TakesLast (change : Change) (number : ℕ) (i : Item) (latest : Option RowBody) : Type 0 where
+-- on a device that holds these sets the change puts the row with the item's strings, with this draft or without one, and with nothing sent of it
+pub record TakesLast (sets : Sets) (change : Change) (number : ℕ) (i : Item) (latest : Option RowBody) : Type 0 where
   pub content : Bytes
   pub enc : Bytes
   pub body_is : i.body ≡ body.Strings content enc
   pub words : ChaCha
   pub left : ChaCha
-  pub sets : Sets
-  pub no_older : sets.older ≡ None
   pub columns_then : Columns
   pub stands_on : StandsOn sets words i content enc latest None columns_then left
   pub puts : PutsColumns change number columns_then
@@ -73,7 +71,7 @@ pub record TakesLast (change : Change) (number : ℕ) (i : Item) (latest : Optio
 -- the draft may be settled, the rows then show the state after it, and the item's row is the last version, up to any stamp
 abbrev pub SettlesOwn : Type 0
 SettlesOwn = (server device : Rows) (s : Ideal) (name : Bytes) (n number : ℕ) (a : Account) (d : Device) (local : LocalItem) (i : Item) (change : Change)
-    → MeetsOwnLast server device s name n number a d local i → TakesLast change number i None
+    → (x : MeetsOwnLast server device s name n number a d local i) → TakesLast x.meets.sets change number i None
     → IsTrue (allows s (Settle name i.uuid)) × ShowsDevice (rows_after device (change ∷ [])) (after s (Settle name i.uuid)) name
     × ((upto : ℕ) → PulledAt (rows_after device (change ∷ [])) a upto i.uuid)
 
@@ -86,6 +84,6 @@ SettlesGone = (server device : Rows) (s : Ideal) (name : Bytes) (n number : ℕ)
 
 -- what is saved is what a row sent: whatever the change leaves of that row, what was live of the device is live
 abbrev pub AppliesLive : Type 0
-AppliesLive = (server device : Rows) (n number : ℕ) (local : LocalItem) (sent saved j : Item) (change : Change)
-    → HasLocal device number local → SendsPosted local sent → IsStored server n saved → IsSavedOf sent saved → key_of change ≡ key.Local number
-    → LiveItem (server (key.Item j.uuid)) device n j → LiveItem (server (key.Item j.uuid)) (rows_after device (change ∷ [])) n j
+AppliesLive = (server device : Rows) (accounts : List Account) (n number : ℕ) (local : LocalItem) (sent saved j : Item) (change : Change)
+    → HasLocal device number local → IsSentBy local sent → IsStored server n saved → IsSavedOf sent saved → key_of change ≡ key.Local number
+    → LiveItem (server (key.Item j.uuid)) device accounts n j → LiveItem (server (key.Item j.uuid)) (rows_after device (change ∷ [])) accounts n j

@@ -12,6 +12,7 @@ use Rattle.sn_shows.specs.Laws.{HasAccount}
 use Rattle.sn_world.specs.Calls.{AreServed, Fate, Leads, call_steps, rows_served}
 use Rattle.sn_world.specs.Happens.{Happens}
 use Rattle.sn_world.specs.Holds.{Holds, TokensDiffer}
+use Rattle.sn_world.specs.Plain.{AsksNoSet}
 use Rattle.sn_world.specs.Pulled.{HasAll, StandOnLasts}
 use Rattle.sn_world.specs.World.{World}
 
@@ -29,8 +30,9 @@ pub record LeadsSynced (secret : Bytes) (w : World) (s : Ideal) (name : Bytes) (
   pub leads : Leads secret w s name steps server device
   pub synced : IsSynced (leads.next.devices name) (end_from s leads.moves) name
 
--- a sync that is answered is such steps, whatever its device and others did before
+-- a sync that is answered is such steps, whatever its device and others did before, where the device asks for no set
 abbrev pub SyncsEnd : Type 0
 SyncsEnd = (secret : Bytes) (w : World) (s : Ideal) (name : Bytes) (least : ℕ) (words left : ChaCha) (acts : List Act) (fates : List Fate) (given : Given)
-    → TokensDiffer secret → Holds secret w s → Run least sync (w.devices name) words acts (answered given left) → AreServed w.server acts fates
+    → TokensDiffer secret → Holds secret w s → AsksNoSet (w.devices name) → Run least sync (w.devices name) words acts (answered given left)
+    → AreServed w.server acts fates
     → LeadsSynced secret w s name (call_steps name None acts fates) (rows_served w.server fates) (rows_done (w.devices name) acts)

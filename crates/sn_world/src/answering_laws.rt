@@ -5,14 +5,15 @@ ghost use Rattle.sn_world.specs.Answering.{SyncsAnswer, TracedSyncsAnswer};
 
 use crate::fitting_laws::{calls_fit, first_fits, traces_fit};
 use crate::laws::{
-    holds_first, keeps, keeps_committing, keeps_making, keeps_serving, says_some, sends_are_posted,
-    served_tells, trace_keeps,
+    keeps, keeps_committing, keeps_making, keeps_serving, says_some, sends_are_posted, served_tells,
 };
+use crate::plain_laws::{keeps_plain, plain_first, plain_rows};
 use sn_laws::laws::versions_rise;
 use sn_shows::server_laws::accounts_apart;
 use sn_sync::laws::one_stamp;
 
-/// Each sync of a device that has an account is answered, or ends by one of the causes that are named.
+/// Where no password is changed, each sync of a device that has an account is answered, or ends by one of the
+/// causes that are named.
 pub fn syncs_answer()
     ensures { SyncsAnswer }
 {
@@ -24,6 +25,8 @@ pub fn syncs_answer()
     sends_are_posted();
     keeps();
     says_some();
+    keeps_plain();
+    plain_rows();
     versions_rise();
     one_stamp();
     calls_fit();
@@ -33,8 +36,8 @@ pub fn syncs_answer()
 pub fn traced_syncs_answer()
     ensures { TracedSyncsAnswer }
 {
-    holds_first();
-    trace_keeps();
+    plain_first();
+    keeps_plain();
     first_fits();
     traces_fit();
     syncs_answer();

@@ -4,9 +4,8 @@
 ghost use Rattle.sn_world.specs.Delivered.{CallsFit, CallsGoBy, DevicesFit, FirstFits, LinesGoBy, LinesKeepBy, SyncsEndBy, TracesFit};
 ghost use Rattle.sn_world.specs.Fitting.{FreshFits, RequestsFit, RunsStayFitting, SendsFit, StepsFit, StepsFitUuids};
 
-use crate::laws::{
-    calls_go, holds_first, keeps, lines_go, registers_go, sign_ins_go, syncs_end, syncs_go,
-};
+use crate::laws::{calls_go, keeps, registers_go, sign_ins_go, syncs_end, syncs_go};
+use crate::plain_laws::{keeps_plain, lines_go, plain_first};
 use sn_client::{fresh_is_sound, runs_by_steps, steps_stay_sound};
 
 /// A fresh device's rows are such that its requests are within their bounds.
@@ -104,7 +103,7 @@ pub fn syncs_end_by()
 pub fn lines_go_by()
     ensures { LinesGoBy }
 {
-    keeps();
+    keeps_plain();
     lines_go();
     steps_fit_uuids();
     steps_stay_sound();
@@ -115,7 +114,7 @@ pub fn lines_go_by()
 pub fn lines_keep_by()
     ensures { LinesKeepBy }
 {
-    holds_first();
+    plain_first();
     first_fits();
     lines_go_by();
 }

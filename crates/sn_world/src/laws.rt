@@ -2,15 +2,20 @@
 //! and do nothing else; their contracts are the laws.
 
 ghost use Rattle.sn_world.specs.Calls.{CallsGo, FrontsGo, LeadsKeep, RegistersGo, SignInsGo, SyncsGo};
-ghost use Rattle.sn_world.specs.Laws.{AppliedWhole, HoldsFirst, Keeps, KeepsCommitting, KeepsMaking, KeepsServing, KeepsStarting, RegisteredBegins, SaysSome, SendsArePosted, ServedTells, SignedInBegins, SignedInRenews, SyncedRows, TraceKeeps};
+ghost use Rattle.sn_world.specs.Laws.{AppliedWhole, ChangedAdopts, HoldsFirst, Keeps, KeepsCommitting, KeepsMaking, KeepsServing, KeepsStarting, RegisteredBegins, SaysSome, SendsArePosted, ServedTells, SignedInAdopts, SignedInBegins, SignedInRenews, SyncedRows, TraceKeeps};
 ghost use Rattle.sn_world.specs.Making.{MakesLive};
 ghost use Rattle.sn_world.specs.Rounds.{RoundsGo};
-ghost use Rattle.sn_world.specs.Sessions.{AgainLeads, LinesGo, LinesKeep};
+ghost use Rattle.sn_world.specs.Sessions.{AgainLeads};
 ghost use Rattle.sn_world.specs.Synced.{SyncsEnd};
 
 use crate::settling_laws::applies_live;
 use sn_account::answer_laws::syncs_tell;
 use sn_account::rule_laws::stays_sound;
+use sn_changed::laws::{change_served, change_sessions, change_spares, rewrap_taken, stale_behind};
+use sn_changed::leaving_laws::{
+    change_lasts, change_leaves, change_on_last, item_owner, rewrap_leaves, version_lasts,
+    version_on_last,
+};
 use sn_client::{fresh_is_sound, stay_standing, steps_stay_sound};
 use sn_items::one_content;
 use sn_laws::laws::versions_rise;
@@ -19,6 +24,7 @@ use sn_shows::device_laws::{
     edit_keeps, edited_shows, join_keeps, joined_shows, post_keeps, posted_shows, settle_keeps,
     settled_shows, tokens_show,
 };
+use sn_shows::rekeying_laws::{change_keeps, changed_last, rewrap_keeps};
 use sn_shows::server_laws::{
     accept_keeps, accepted_last, accepted_shows, accounts_apart, register_keeps, registered_shows,
     store_shows,
@@ -40,11 +46,14 @@ pub fn keeps_starting()
     one_token();
 }
 
-/// What a device sends of its rows, each posted, may be accepted or changes nothing.
+/// What a device sends of its rows, each posted or to be sealed again, may be accepted, is its item's last
+/// version sealed again, or changes nothing.
 pub fn makes_live()
     ensures { MakesLive }
 {
     one_stamp();
+    versions_rise();
+    stale_behind();
 }
 
 /// A request that a device makes keeps the invariant, whether it is delivered or not.
@@ -70,6 +79,20 @@ pub fn keeps_serving()
     registered_shows();
     register_keeps();
     stays_sound();
+    rewrap_taken();
+    rewrap_leaves();
+    rewrap_keeps();
+    item_owner();
+    version_lasts();
+    version_on_last();
+    change_served();
+    change_leaves();
+    change_lasts();
+    change_on_last();
+    change_sessions();
+    change_spares();
+    change_keeps();
+    changed_last();
 }
 
 /// What a registration is answered with is what a device may begin with.
@@ -77,14 +100,30 @@ pub fn registered_begins()
     ensures { RegisteredBegins }
 {}
 
+/// What a change of password is answered with is what its device may adopt.
+pub fn changed_adopts()
+    ensures { ChangedAdopts }
+{
+    accounts_apart();
+    change_served();
+    change_leaves();
+}
+
 /// What a sign-in is answered with is what a device may begin with.
 pub fn signed_in_begins()
     ensures { SignedInBegins }
 {}
 
-/// And what a device of the account may renew its session token with.
+/// And what a device of the account may renew its session token with, where it holds the present set.
 pub fn signed_in_renews()
     ensures { SignedInRenews }
+{
+    accounts_apart();
+}
+
+/// Where it doesn't, it may adopt that with it.
+pub fn signed_in_adopts()
+    ensures { SignedInAdopts }
 {
     accounts_apart();
 }
@@ -104,7 +143,8 @@ pub fn served_tells()
 }
 
 /// A device commits its first rows, a renewed session token, a new item, an edit, a deletion, drafts that
-/// it posts, or the answer to a sync: the moves are legal, and the invariant holds after them.
+/// it posts, the answer to a sync, a set that it asks for, adopts or forgets: the moves are legal, and the
+/// invariant holds after them.
 pub fn keeps_committing()
     ensures { KeepsCommitting }
 {
@@ -179,6 +219,7 @@ pub fn rounds_go()
     keeps_serving();
     served_tells();
     sends_are_posted();
+    says_some();
 }
 
 /// Wherever steps lead from a world in which the invariant holds, their moves are legal and it holds again.
@@ -251,24 +292,6 @@ pub fn fronts_go()
 /// A request that was made leads on wherever it is delivered late or again, with the set that it would begin.
 pub fn again_leads()
     ensures { AgainLeads }
-{}
-
-/// Whatever devices call one after another, whole or stopped, and whatever requests are delivered late or
-/// again between these, is one list of such steps, and the invariant holds behind it.
-pub fn lines_go()
-    ensures { LinesGo }
 {
-    keeps();
-    calls_go();
-    syncs_go();
-    registers_go();
-    sign_ins_go();
-}
-
-/// So it is from the beginning on.
-pub fn lines_keep()
-    ensures { LinesKeep }
-{
-    holds_first();
-    lines_go();
+    says_some();
 }

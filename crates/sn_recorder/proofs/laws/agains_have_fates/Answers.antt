@@ -1,4 +1,4 @@
-use Rattle.sn_link.proofs.Requests.{ReadLaws}
+use Rattle.sn_link.proofs.Facts.{ReadLaws}
 use Rattle.sn_recorder.proofs.Fating.{agains_have_fates}
 use Rattle.sn_recorder.proofs.laws.agains_have_fates.Goals as goal
 

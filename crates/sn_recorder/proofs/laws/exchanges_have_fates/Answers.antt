@@ -1,4 +1,4 @@
-use Rattle.sn_link.proofs.Serving.{HearLaws}
+use Rattle.sn_link.proofs.Facts.{HearLaws}
 use Rattle.sn_recorder.proofs.Fating.{exchanges_have_fates}
 use Rattle.sn_recorder.proofs.laws.exchanges_have_fates.Goals as goal
 

@@ -2,4 +2,4 @@ use Rattle.sn_telling.proofs.TraceLemmas.{agains_tell}
 use Rattle.sn_telling.proofs.laws.agains_tell.Goals as goal
 
 pub returns : goal.returns
-returns c = agains_tell
+returns c = agains_tell c.plain_says.ensures

@@ -9,4 +9,5 @@ returns c = syncs_answer c.calls_fit.ensures (record {
   serve = c.keeps_serving.ensures;
   tells = c.served_tells.ensures;
   sends = c.sends_are_posted.ensures;
-}) c.keeps.ensures c.says_some.ensures c.versions_rise.ensures c.one_stamp.ensures
+  says = c.says_some.ensures;
+}) c.keeps.ensures c.says_some.ensures c.keeps_plain.ensures c.plain_rows.ensures c.versions_rise.ensures c.one_stamp.ensures

@@ -9,4 +9,5 @@ returns c = rounds_go (record {
   serve = c.keeps_serving.ensures;
   tells = c.served_tells.ensures;
   sends = c.sends_are_posted.ensures;
+  says = c.says_some.ensures;
 })
