@@ -11,6 +11,3 @@ mod tables;
 
 pub use block_cipher::{Aes256Dec, Aes256Enc};
 pub use bytes::{block_of_columns, columns_of_block, xor_columns};
-
-#[cfg(test)]
-mod tests;

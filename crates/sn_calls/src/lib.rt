@@ -11,6 +11,3 @@ mod making;
 pub use calling::call;
 pub use device_call::DeviceCall;
 pub use ends::{Answered, CallEnd};
-
-#[cfg(test)]
-mod tests;

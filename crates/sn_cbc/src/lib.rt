@@ -11,6 +11,3 @@ mod sealing;
 pub use error::CbcError;
 pub use laws::{one_ciphertext, one_plain};
 pub use sealing::{seal, seal_owned, unseal, unseal_owned};
-
-#[cfg(test)]
-mod tests;

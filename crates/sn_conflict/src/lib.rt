@@ -12,6 +12,3 @@ pub use error::CheckError;
 pub use laws::one_meeting;
 pub use meeting::{Meeting, meet};
 pub use strings::names_item;
-
-#[cfg(test)]
-mod tests;

@@ -12,8 +12,6 @@ mod laws;
 mod mem_shelf;
 mod memory;
 mod shelf;
-#[cfg(test)]
-mod tests;
 
 pub use calls::Call;
 pub use disk::Disk;

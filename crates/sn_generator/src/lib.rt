@@ -6,6 +6,3 @@ mod generator;
 mod puts;
 
 pub use generator::generate;
-
-#[cfg(test)]
-mod tests;

@@ -13,8 +13,6 @@
 mod blocks;
 mod mac256;
 mod mac512;
-#[cfg(test)]
-mod tests;
 
 pub use mac256::{Mac256, hmac_sha256};
 pub use mac512::{Mac512, hmac_sha512};

@@ -13,8 +13,6 @@ mod laws;
 mod message;
 mod options;
 mod request;
-#[cfg(test)]
-mod tests;
 mod trigger;
 
 pub use answer::{NoAnswer, WriteFault, read_answer, write_answer};

@@ -5,8 +5,6 @@
 mod faults;
 mod memory;
 mod outside;
-#[cfg(test)]
-mod tests;
 mod whole;
 
 pub use faults::{Failed, FaultPlan};

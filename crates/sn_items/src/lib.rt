@@ -21,6 +21,3 @@ pub use sealed::{Sealed, Which};
 pub use sealing::{seal_owned_text, seal_text};
 pub use utf8::utf8_text;
 pub use words::Words;
-
-#[cfg(test)]
-mod tests;

@@ -12,8 +12,6 @@ mod loading;
 mod making;
 mod owner;
 mod reading;
-#[cfg(test)]
-mod tests;
 
 pub use batches::Batches;
 pub use error::JournalError;

@@ -8,6 +8,3 @@ pub mod salt;
 pub use check::check_of;
 pub use derivation::derive;
 pub use salt::{salt_of, salt_text};
-
-#[cfg(test)]
-mod tests;

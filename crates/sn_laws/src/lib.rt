@@ -20,6 +20,3 @@ mod twins;
 pub use ideal::{Account, Body, Content, Device, Draft, Ideal, Posted, Version};
 pub use moves::Move;
 pub use run::{first_illegal, step};
-
-#[cfg(test)]
-mod tests;

@@ -13,6 +13,3 @@ pub use done::Done;
 pub use foreign::foreign_in;
 pub use laws::{says_computed, says_one};
 pub use serving::{accepts_in, moves_for, registers_in};
-
-#[cfg(test)]
-mod tests;

@@ -8,8 +8,6 @@ mod mem_clock;
 mod mem_link;
 mod mem_port;
 mod port;
-#[cfg(test)]
-mod tests;
 
 pub use clock::Clock;
 pub use link::{AskError, Link};

@@ -6,6 +6,3 @@ mod notes;
 
 pub use copies::conflict_copy;
 pub use notes::note;
-
-#[cfg(test)]
-mod tests;

@@ -9,9 +9,6 @@ ghost use Rattle.sn_pbkdf.specs.Pbkdf.{xor_bytes, key_block, pbkdf2};
 
 use sn_hmac::Mac512;
 
-#[cfg(test)]
-mod tests;
-
 // `block`, with each byte of `other` xored into its own.
 #[tactic(auto, using(crate::proofs::BlockLemmas::xor_more))]
 fn xor_into(block: &mut [u8; 64], other: &[u8; 64])

@@ -12,6 +12,3 @@ pub use error::{RekeyError, Running};
 pub use laws::{closed_stays, open_or_not, same_content, version_stays};
 pub use rekeying::rekey_item;
 pub use rewrapping::{rewrap, rewrap_held, rewrap_older};
-
-#[cfg(test)]
-mod tests;

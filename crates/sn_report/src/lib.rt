@@ -6,8 +6,6 @@ mod labels;
 mod moves;
 pub mod report;
 mod showing;
-#[cfg(test)]
-mod tests;
 mod writing;
 
 pub use labels::Labels;

@@ -4,6 +4,3 @@
 mod row_map;
 
 pub use row_map::{RowMap, keys_of};
-
-#[cfg(test)]
-mod tests;

@@ -36,6 +36,3 @@ pub use reading::read;
 pub use server_rows::{AccountRow, GenerationRow, ItemRow, StoreRow};
 pub use value::Value;
 pub use writing::write;
-
-#[cfg(test)]
-mod tests;

@@ -12,6 +12,3 @@ mod words;
 
 pub use reader::read_script;
 pub use script::{Fate, Line, Ordinal, Script, ScriptError};
-
-#[cfg(test)]
-mod tests;

@@ -32,6 +32,3 @@ pub use text::Text;
 pub use twin::Twin;
 pub use uuid_texts::{uuid_of, uuid_text};
 pub use writer::{authenticated, authenticated_text, with_hash, with_params, write};
-
-#[cfg(test)]
-mod tests;

@@ -7,6 +7,3 @@ pub mod summary;
 mod walk;
 
 pub use summary::{Summary, summary_of, summary_text};
-
-#[cfg(test)]
-mod tests;

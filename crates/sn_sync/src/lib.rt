@@ -31,6 +31,3 @@ pub use request_reader::read_request;
 pub use request_writer::write_request;
 pub use stamp::{BadForm, Stamp};
 pub use token::{token_read, token_text};
-
-#[cfg(test)]
-mod tests;

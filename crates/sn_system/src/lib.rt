@@ -9,8 +9,6 @@ mod links;
 mod ports;
 mod sockets;
 mod streams;
-#[cfg(test)]
-mod tests;
 
 pub use clock::SystemClock;
 pub use files::{FileDisk, FileShelf};

@@ -9,8 +9,6 @@ mod log;
 mod opening;
 mod reading;
 mod table;
-#[cfg(test)]
-mod tests;
 
 pub use committed::{CommitError, Committed};
 pub use error::TableError;

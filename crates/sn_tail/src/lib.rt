@@ -6,8 +6,6 @@ mod laws;
 mod marks;
 mod shelf_laws;
 mod tails;
-#[cfg(test)]
-mod tests;
 
 pub use gates::{first_place, place_of_end};
 pub use laws::{
