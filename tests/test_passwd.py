@@ -20,7 +20,10 @@ import scripted
 import serving
 from devices import Device, Row
 
+# How often a change is killed: so many times, or, where nothing else is asked, no longer than this.
 KILLS = int(os.environ.get("SN_PASSWD_KILLS", "100"))
+KILLING_SECONDS = float("inf") if "SN_PASSWD_KILLS" in os.environ else 60
+FEWEST_KILLS = 20
 SEED = 20261129
 
 FIRST, SECOND, THIRD = "the first password", "the second password", "the third password"
@@ -664,7 +667,7 @@ class Killed(Case):
             account.a.passwd(SECOND)
             self.taken, password = time.monotonic() - began, SECOND
             note = list(account.contents)[0]
-            while kills < KILLS:
+            while kills < KILLS and (kills < FEWEST_KILLS or time.monotonic() - began < KILLING_SECONDS):
                 self.assertLess(unharmed, 10 * KILLS + 50)
                 number = kills + unharmed
                 account.contents[note] = '{"n":"%d"}' % number

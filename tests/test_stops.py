@@ -12,7 +12,10 @@ import program
 import random_edits
 import serving
 
+# How often a command is killed: so many times, or, where nothing else is asked, no longer than this.
 KILLS = int(os.environ.get("SN_KILLS", "200"))
+KILLING_SECONDS = float("inf") if "SN_KILLS" in os.environ else 75
+FEWEST_KILLS = 40
 SEED = 20261128
 # How long a command takes, until one has shown it.
 FIRST_GUESS = 0.03
@@ -58,7 +61,8 @@ class Killed(unittest.TestCase):
         # On a disk, where a command spends most of its time between its writes.
         with devices.folder(in_memory=False) as folder, serving.Served(os.path.join(folder, "server")) as server:
             pair = random_edits.Pair(self, folder, server.port, SEED)
-            while sum(kills.values()) < KILLS:
+            began = time.monotonic()
+            while sum(kills.values()) < KILLS and (sum(kills.values()) < FEWEST_KILLS or time.monotonic() - began < KILLING_SECONDS):
                 rounds += 1
                 self.assertLess(rounds, 20 * KILLS + 100)
                 device, command, uuid, content = pair.choose()
