@@ -8,5 +8,6 @@ pub mod ParamsFacts
 pub mod Written
 pub mod Pieces
 pub mod Places
+pub mod PlainFacts
 pub mod Unique
 pub mod UuidFacts

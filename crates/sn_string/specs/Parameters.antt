@@ -1,5 +1,5 @@
 -- The params part: the base64 of a JSON text of auth parameters.
-use Rattle.std.specs.Prelude.{◌≡◌, ℕ, ◌≤◌, List, length, codes, Some}
+use Rattle.std.specs.Prelude.{◌≡◌, ℕ, ◌≤◌, ◌++◌, ◌&&◌, ◌==◌, Bool, not, nat_le, List, length, codes, decimal, Some}
 use Rattle.std.specs.Str.{IsUtf8}
 use Rattle.serde_json.specs.Data.{Data, object, string, number, unsigned, member, no_members}
 use Rattle.serde_json.specs.Find.{get}
@@ -18,6 +18,15 @@ params_data p = object (member (codes "identifier") (string p.identifier)
 -- the compact JSON (RFC 8259) of that
 unfoldable pub params_json : Params → List ℕ
 params_json p = compact_text (params_data p)
+
+-- the byte stands in a JSON text as it is: it is no control character, quotation mark or backslash
+abbrev pub is_plain : ℕ → Bool
+is_plain byte = nat_le 32 byte && (not (byte == 34) && not (byte == 92))
+
+-- the JSON of parameters whose identifier and nonce stand in it as they are
+unfoldable pub plain_json : Params → List ℕ
+plain_json p =
+    codes "{\"identifier\":\"" ++ (p.identifier ++ (codes "\",\"pw_cost\":" ++ (decimal p.pw_cost ++ (codes ",\"pw_nonce\":\"" ++ (p.pw_nonce ++ codes "\",\"version\":\"003\"}")))))
 
 -- the params part that is written
 unfoldable pub params_text : Params → List ℕ

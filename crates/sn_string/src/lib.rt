@@ -12,6 +12,7 @@ pub mod laws;
 pub mod many;
 pub mod params;
 pub mod params_part;
+mod plain_params;
 pub mod reader;
 pub mod text;
 pub mod twin;

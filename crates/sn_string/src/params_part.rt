@@ -9,6 +9,7 @@ ghost use Rattle.sn_string.specs.declared.params.Params.{Params};
 
 use crate::base64_texts::{base64_bytes, base64_text};
 use crate::params::Params;
+use crate::plain_params::plain_params;
 use crate::text::Text;
 use serde_json::{Value, json};
 use std::alloc::{AllocError, Global};
@@ -64,7 +65,7 @@ fn params_of_json(alloc: Global, json: &[u8]) -> Result<Option<Params>, AllocErr
     ensures some { IfOk result (λ found. IfSome found (λ p. IsParamsJson json.now p)) }
     ensures none { IfOk result (λ found. IfNone found ((p : Params) → ¬ (IsParamsJson json.now p))) }
 {
-    if let Some(params) = written_params(alloc, json)? {
+    if let Some(params) = plain_params(alloc, json)? {
         return Ok(Some(params));
     }
     match Value::from_slice(alloc, json) {
@@ -76,44 +77,6 @@ fn params_of_json(alloc: Global, json: &[u8]) -> Result<Option<Params>, AllocErr
             Ok(None)
         }
     }
-}
-
-// The parameters of a text that is exactly what is written for them. Nearly all are, and these do
-// without the JSON reader, which takes longer than the rest of a string.
-fn written_params(alloc: Global, json: &[u8]) -> Result<Option<Params>, AllocError>
-    ensures { IfOk result (λ found. IfSome found (λ p. IsParamsJson json.now p)) }
-{
-    let Some(candidate) = candidate_of(alloc, json)? else {
-        return Ok(None);
-    };
-    let written = params_json(alloc, &candidate)?;
-    if written.as_bytes() == json {
-        return Ok(Some(candidate));
-    }
-    Ok(None)
-}
-
-// The only parameters that the text can be written for. It need not be: the caller compares.
-fn candidate_of(alloc: Global, json: &[u8]) -> Result<Option<Params>, AllocError> {
-    let Some((identifier, pw_cost, pw_nonce)) = pieces_of(json) else {
-        return Ok(None);
-    };
-    let identifier = Text::of(alloc, identifier)?;
-    let pw_nonce = Text::of(alloc, pw_nonce)?;
-    Ok(Params::new(identifier, pw_cost, pw_nonce))
-}
-
-// The identifier, the cost and the nonce, where they stand between what is always written.
-fn pieces_of(json: &[u8]) -> Option<(&str, u32, &str)> {
-    let text = str::from_utf8(json).ok()?;
-    let text = text.strip_prefix("{\"identifier\":\"")?;
-    let (identifier, text) = text.split_once('"')?;
-    let text = text.strip_prefix(",\"pw_cost\":")?;
-    let (pw_cost, text) = text.split_once(',')?;
-    let text = text.strip_prefix("\"pw_nonce\":\"")?;
-    let pw_nonce = text.strip_suffix("\",\"version\":\"003\"}")?;
-    let pw_cost = pw_cost.parse().ok()?;
-    Some((identifier, pw_cost, pw_nonce))
 }
 
 /// The parameters in a JSON object. Its other members do not count.
