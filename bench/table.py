@@ -216,8 +216,15 @@ def measure(path, count, rounds):
     return figures
 
 
-def run(path, count, rounds):
-    command = [sys.executable, __file__, "--library", path, "--rounds", str(rounds), "--worker", str(count)]
+def measure_load(path, count, rounds):
+    """The figures of a load alone."""
+    file = file_of(rows_of(count))
+    proved = Proved(path, file, rounds)
+    return {"bytes": len(file), "peak": added_peak(proved.load_once), "load": proved.load()}
+
+
+def run(path, count, rounds, *options):
+    command = [sys.executable, __file__, "--library", path, "--rounds", str(rounds), "--worker", str(count), *options]
     return json.loads(subprocess.run(command, check=True, stdout=subprocess.PIPE, text=True).stdout)
 
 
@@ -266,16 +273,43 @@ def section(figures, rounds):
     return "\n".join(lines) + "\n"
 
 
+def least(figures):
+    return {name: min(one[name] for one in figures) for name in figures[0]}
+
+
+def beside_before(path, before, rounds):
+    """A load of the most rows by this library and by one that was built before a change, in turns."""
+    turns = [(run(before, SIZES[-1], 1, "--load"), run(path, SIZES[-1], 1, "--load")) for _ in range(rounds)]
+    old, new = (least(figures) for figures in zip(*turns))
+    size = new["bytes"] / 2**20
+    lines = [
+        "",
+        "Beside it, in turns of one run, a library that was built before a row's value took memory for what it holds alone, and before the journal lent its "
+        f"payloads; the least of {rounds} rounds each. The peak is without the disk in memory twice.",
+        "",
+        f"| a load of {SIZES[-1]:,} rows, file of {size:.1f} MiB | before | after | of it |",
+        "|---|---|---|---|",
+        f"| time | {old['load']:.2f} s | {new['load']:.2f} s | {new['load'] / old['load']:.2f} |",
+        f"| peak | {old['peak'] - 2 * size:.1f} MiB, {old['peak'] / size - 2:.1f} times the file | {new['peak'] - 2 * size:.1f} MiB, "
+        f"{new['peak'] / size - 2:.1f} times | {(new['peak'] - 2 * size) / (old['peak'] - 2 * size):.2f} |",
+    ]
+    return "\n".join(lines) + "\n"
+
+
 def main():
     options = argparse.ArgumentParser(description=__doc__)
     options.add_argument("--library", required=True)
+    options.add_argument("--before", help="a library of an earlier state, whose loads are timed beside")
     options.add_argument("--rounds", type=int, default=3)
     options.add_argument("--worker", type=int)
+    options.add_argument("--load", action="store_true")
     given = options.parse_args()
     if given.worker:
-        print(json.dumps(measure(given.library, given.worker, given.rounds)))
+        print(json.dumps((measure_load if given.load else measure)(given.library, given.worker, given.rounds)))
         return
     text = section([run(given.library, count, given.rounds) for count in SIZES], given.rounds)
+    if given.before:
+        text += beside_before(given.library, given.before, given.rounds)
     print(text)
     results.put(text)
 

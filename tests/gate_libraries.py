@@ -1,0 +1,40 @@
+"""Marks the libraries that a passed gate has left under crates/ as built, so that `rt lib` takes them for the shared library of
+the checks and proves none of them anew. Where the toolchain is another than this expects, nothing is marked, and `rt lib`
+builds its own."""
+
+import importlib.machinery
+import importlib.util
+import os
+import shutil
+import sys
+
+TOP = os.path.normpath(os.path.join(os.path.dirname(os.path.realpath(__file__)), ".."))
+
+
+def module_of(name, path):
+    loader = importlib.machinery.SourceFileLoader(name, path)
+    module = importlib.util.module_from_spec(importlib.util.spec_from_loader(name, loader))
+    sys.modules[name] = module
+    loader.exec_module(module)
+    return module
+
+
+def mark(top):
+    """The names of the crates whose libraries are marked."""
+    tools = os.path.dirname(os.path.realpath(shutil.which("rt")))
+    module_of("rtlib", os.path.join(tools, "rtlib.py"))
+    os.chdir(top)
+    marked = []
+    for crate in module_of("rt_command", os.path.join(tools, "rt")).crates_of(top):
+        if crate.makes_rlib() and os.path.isfile(os.path.join(crate.rlib, "format")):
+            with open(os.path.join(os.path.dirname(crate.rlib), "stamp"), "w") as file:
+                file.write(crate.stamp())
+            marked.append(crate.name)
+    return marked
+
+
+if __name__ == "__main__":
+    try:
+        print("tests: %d libraries of the gate are taken" % len(mark(TOP)), file=sys.stderr)
+    except Exception as fault:  # whatever another toolchain lacks
+        print("tests: the gate's libraries are not taken: %r" % fault, file=sys.stderr)
