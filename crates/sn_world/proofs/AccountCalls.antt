@@ -35,7 +35,7 @@ use Rattle.sn_world.proofs.AskLemmas.{Behind, answered_stands, asks_goes, holds_
 use Rattle.sn_world.proofs.CallLemmas.{Goes, Stands, once_goes, refuses_goes}
 use Rattle.sn_world.proofs.SignedIn.{signed_in_adopts, signed_in_renews}
 use Rattle.sn_world.proofs.Tokens.{apart_of, one_account, there_is}
-use Rattle.sn_world.specs.Calls.{AreServed, Fate, GoesCall, IsOnlyOf, RegistersGo, SignInsGo}
+use Rattle.sn_world.specs.Calls.{AreServed, Fate, GoesCall, IsOnlyOf, RegistersGo, SignInsGo, begins_none}
 use Rattle.sn_world.specs.Committing.{MayBegin, MayCommit}
 use Rattle.sn_world.specs.Holds.{Holds, TokensDiffer}
 use Rattle.sn_world.specs.Laws.{IsOnlySet, Keeps, RegisteredBegins, SaysSome, SignedInBegins}
@@ -50,10 +50,14 @@ pub record AccountLaws : Type 0 where
   pub registered : RegisteredBegins
   pub begins : SignedInBegins
 
+-- each request would begin this set
+abbrev pub begins_set : KeySet → Request → Option KeySet
+begins_set set r = Some set
+
 -- ---- what the answers tell
 
 -- a registration that is answered with an account is a move
-one_registered : (server : Rows) (identifier : Bytes) (params : Params) (pw : Bytes) (set : KeySet) (now : ℕ) (changes : List Change) (token account uuid : Bytes)
+pub one_registered : (server : Rows) (identifier : Bytes) (params : Params) (pw : Bytes) (set : KeySet) (now : ℕ) (changes : List Change) (token account uuid : Bytes)
     → Rule server (request.Register params pw) now changes (answer.Account token account uuid)
     → registers_in identifier (Some set) changes ≡ Register identifier set ∷ []
 one_registered server identifier params pw set now changes token account uuid rule = by rule.2
@@ -64,7 +68,7 @@ one_registered server identifier params pw set now changes token account uuid ru
     by (inr (inr (unknown, room, b))) = ap (registers_in identifier (Some set)) b.changes_are
 
 -- the parameters that are answered are those of each account with the identifier
-told_present : AccountsApart → (secret : Bytes) (v : World) (t : Ideal) → Holds secret v t → (identifier : Bytes) (params : Params)
+pub told_present : AccountsApart → (secret : Bytes) (v : World) (t : Ideal) → Holds secret v t → (identifier : Bytes) (params : Params)
     → TellsParams v.server identifier (answer.Params params) → (n : ℕ) → IsNamed v.server identifier n → IsPresent v.server n params
 told_present apart secret v t h identifier params (inl (unknown, given)) n named = let e = given in absurd (cc)
 told_present apart secret v t h identifier params (inr x) n (row, there, is) =
@@ -101,7 +105,8 @@ module _ (laws : AccountLaws) (secret : Bytes) (differ : TokensDiffer secret) (n
     asks_for : MakesOf rows (Some set) r
     asks_for = record { set = set; is = refl; request_is = refl }
 
-    registered_on : (halt : Halt) → Behind laws.keeps laws.says secret differ name (Some set) v t server rows k r asks_for (KeepsAccount rows words (begins set)) halt
+    registered_on : (halt : Halt)
+        → Behind laws.keeps laws.says secret differ name (begins_set set) v t server rows k r asks_for (KeepsAccount rows words (begins set)) halt
     registered_on halt now changes given moves later fates fits rule says_it (token, account, uuid, is, once) over =
         let m : Made = made_of name (Some set) r in
         let told : Rule server r now changes (answer.Account token account uuid) = subst (λ (x : Answer). Rule server r now changes x) is rule in
@@ -109,18 +114,18 @@ module _ (laws : AccountLaws) (secret : Bytes) (differ : TokensDiffer secret) (n
         serves_so v m server now changes (answer.Account token account uuid) k.server_is fits told in
         let may : MayBegin secret (after t (Register set.params.identifier set)) set uuid token =
         laws.registered secret (made_world v m) (served_world v m changes) t m set.params set.pw now changes token account uuid set
-        (holds_made laws.keeps laws.says secret differ name (Some set) v t server rows k r asks_for) served refl refl in
+        (holds_made laws.keeps laws.says secret differ name (begins_set set) v t server rows k r asks_for) served refl refl in
         let one : registers_in set.params.identifier (Some set) changes ≡ Register set.params.identifier set ∷ [] =
         one_registered server set.params.identifier set.params set.pw set now changes token account uuid told in
-        once_goes laws.keeps laws.says secret differ name (Some set) (served_world v m changes) (end_from t moves) (rows_after server changes) rows later fates
+        once_goes laws.keeps laws.says secret differ name (begins_set set) (served_world v m changes) (end_from t moves) (rows_after server changes) rows later fates
         halt words (begins set uuid token) nothing
-        (answered_stands laws.keeps laws.says secret differ name (Some set) v t server rows k r asks_for now changes given moves fits rule says_it)
+        (answered_stands laws.keeps laws.says secret differ name (begins_set set) v t server rows k r asks_for now changes given moves fits rule says_it)
         (subst (λ (u : Ideal). MayBegin secret u set uuid token) (sym (ap (λ (ms : List Move). end_from t ms) (says_it ∙ one))) may) once over
 
     pub set_goes : (acts : List Act) (fates : List Fate) (halt : Halt) → AsksAccount rows words r (begins set) acts halt → AreServed server acts fates
-        → Goes secret name (Some set) v t server rows acts fates halt
+        → Goes secret name (begins_set set) v t server rows acts fates halt
     set_goes acts fates halt asks over =
-        asks_goes laws.keeps laws.says secret differ name (Some set) v t server rows k r asks_for (KeepsAccount rows words (begins set)) acts fates halt
+        asks_goes laws.keeps laws.says secret differ name (begins_set set) v t server rows k r asks_for (KeepsAccount rows words (begins set)) acts fates halt
         (registered_on halt) asks over
 
   -- ---- a sign-in
@@ -133,21 +138,21 @@ module _ (laws : AccountLaws) (secret : Bytes) (differ : TokensDiffer secret) (n
     signed_on : (what : Bytes → Bytes → What) (halt : Halt)
         → ((now : ℕ) (changes : List Change) (token account uuid : Bytes) → Rule server signing now changes (answer.Account token account uuid)
         → (changed : Rows) → MayCommit secret changed rows t name (what uuid token))
-        → Behind laws.keeps laws.says secret differ name None v t server rows k signing tt (KeepsAccount rows words what) halt
+        → Behind laws.keeps laws.says secret differ name begins_none v t server rows k signing tt (KeepsAccount rows words what) halt
     signed_on what halt may now changes given moves later fates fits rule none (token, account, uuid, is, once) over =
         let told : Rule server signing now changes (answer.Account token account uuid) = subst (λ (x : Answer). Rule server signing now changes x) is rule in
-        once_goes laws.keeps laws.says secret differ name None (served_world v (made_of name None signing) changes) (end_from t moves)
+        once_goes laws.keeps laws.says secret differ name begins_none (served_world v (made_of name None signing) changes) (end_from t moves)
         (rows_after server changes) rows later fates halt words (what uuid token) nothing
-        (answered_stands laws.keeps laws.says secret differ name None v t server rows k signing tt now changes given moves fits rule none)
+        (answered_stands laws.keeps laws.says secret differ name begins_none v t server rows k signing tt now changes given moves fits rule none)
         (subst (λ (ms : List Move). MayCommit secret (rows_after server changes) rows (end_from t ms) name (what uuid token)) (sym none)
         (may now changes token account uuid told (rows_after server changes))) once over
 
     asks_account : (what : Bytes → Bytes → What) (acts : List Act) (fates : List Fate) (halt : Halt)
         → ((now : ℕ) (changes : List Change) (token account uuid : Bytes) → Rule server signing now changes (answer.Account token account uuid)
         → (changed : Rows) → MayCommit secret changed rows t name (what uuid token))
-        → AsksAccount rows words signing what acts halt → AreServed server acts fates → Goes secret name None v t server rows acts fates halt
+        → AsksAccount rows words signing what acts halt → AreServed server acts fates → Goes secret name begins_none v t server rows acts fates halt
     asks_account what acts fates halt may asks over =
-        asks_goes laws.keeps laws.says secret differ name None v t server rows k signing tt (KeepsAccount rows words what) acts fates halt
+        asks_goes laws.keeps laws.says secret differ name begins_none v t server rows k signing tt (KeepsAccount rows words what) acts fates halt
         (signed_on what halt may) asks over
 
     abbrev IsTold : Params → Type 0
@@ -158,9 +163,9 @@ module _ (laws : AccountLaws) (secret : Bytes) (differ : TokensDiffer secret) (n
 
     again_goes : (sets : Sets) (owner : OwnerRow) (acts : List Act) (fates : List Fate) (halt : Halt) → HasSets rows owner sets → owner.identifier ≡ identifier
         → IsTold set.params → IsOnlySet t set
-        → SignsInAgain rows words identifier sets set acts halt → AreServed server acts fates → Goes secret name None v t server rows acts fates halt
+        → SignsInAgain rows words identifier sets set acts halt → AreServed server acts fates → Goes secret name begins_none v t server rows acts fates halt
     again_goes sets owner acts fates halt holds is told only (inl (same, differs, refuses)) over =
-        refuses_goes laws.keeps laws.says secret differ name None v t server rows acts fates halt refusal.WrongPassword k refuses over
+        refuses_goes laws.keeps laws.says secret differ name begins_none v t server rows acts fates halt refusal.WrongPassword k refuses over
     again_goes sets owner acts fates halt holds is told only (inr (inl (same, asks))) over =
         asks_account (λ uuid token. renews token) acts fates halt
         (λ now changes token account uuid rule changed. signed_in_renews laws.apart secret v t identifier set.pw now changes token account uuid name owner sets
@@ -169,7 +174,7 @@ module _ (laws : AccountLaws) (secret : Bytes) (differ : TokensDiffer secret) (n
         (told_there sets.present.params (subst IsTold (ap (λ (z : KeySet). z.params) same) told)))
         asks over
     again_goes sets owner acts fates halt holds is told only (inr (inr (other, inl (older, refuses)))) over =
-        refuses_goes laws.keeps laws.says secret differ name None v t server rows acts fates halt refusal.WrongPassword k refuses over
+        refuses_goes laws.keeps laws.says secret differ name begins_none v t server rows acts fates halt refusal.WrongPassword k refuses over
     again_goes sets owner acts fates halt holds is told only (inr (inr (other, inr (not, asks)))) over =
         asks_account (λ uuid token. adopts set token) acts fates halt
         (λ now changes token account uuid rule changed. signed_in_adopts laws.apart secret v t identifier now changes token account uuid name owner sets set
@@ -179,7 +184,7 @@ module _ (laws : AccountLaws) (secret : Bytes) (differ : TokensDiffer secret) (n
 
     pub with_goes : (acts : List Act) (fates : List Fate) (halt : Halt) → IsOrMayBe rows identifier
         → IsTold set.params → IsOnlySet t set
-        → SignsInWith rows words identifier set acts halt → AreServed server acts fates → Goes secret name None v t server rows acts fates halt
+        → SignsInWith rows words identifier set acts halt → AreServed server acts fates → Goes secret name begins_none v t server rows acts fates halt
     with_goes acts fates halt may told only (inl (none, asks)) over =
         asks_account (begins set) acts fates halt
         (λ now changes token account uuid rule changed. laws.begins secret v t identifier now changes token account uuid set k.holds
@@ -195,12 +200,12 @@ module _ (laws : AccountLaws) (secret : Bytes) (differ : TokensDiffer secret) (n
     under_goes : (params : Params) (acts : List Act) (fates : List Fate) (halt : Halt)
         → ((n : ℕ) → IsNamed server identifier n → IsPresent server n params)
         → SignsInUnder least rows words identifier password params acts halt → AreServed server acts fates
-        → Goes secret name None v t server rows acts fates halt
+        → Goes secret name begins_none v t server rows acts fates halt
     under_goes params acts fates halt told (inl (other, refuses)) over =
-        refuses_goes laws.keeps laws.says secret differ name None v t server rows acts fates halt (refusal.BadAnswer (place.Member (codes "identifier"))) k refuses
+        refuses_goes laws.keeps laws.says secret differ name begins_none v t server rows acts fates halt (refusal.BadAnswer (place.Member (codes "identifier"))) k refuses
         over
     under_goes params acts fates halt told (inr (same, inl (bad, refuses))) over =
-        refuses_goes laws.keeps laws.says secret differ name None v t server rows acts fates halt (refusal.Cost params.pw_cost) k refuses over
+        refuses_goes laws.keeps laws.says secret differ name begins_none v t server rows acts fates halt (refusal.Cost params.pw_cost) k refuses over
     under_goes params acts fates halt told (inr (same, inr (good, (set, keys, signs)))) over =
         let is : params ≡ set.params = sym keys.params in
         with_goes v t server rows words identifier set k acts fates halt may
@@ -213,7 +218,7 @@ module _ (laws : AccountLaws) (secret : Bytes) (differ : TokensDiffer secret) (n
     question = request.Params identifier
 
     told_on : (halt : Halt)
-        → Behind laws.keeps laws.says secret differ name None v t server rows k question tt (SignsInBy least rows words identifier password) halt
+        → Behind laws.keeps laws.says secret differ name begins_none v t server rows k question tt (SignsInBy least rows words identifier password) halt
     told_on halt now changes given moves later fates fits rule no_moves (params, is, under) over =
         let none : changes ≡ [] = rule.2.0 in
         let unmoved : rows_after server changes ≡ server = ap (rows_after server) none in
@@ -223,24 +228,24 @@ module _ (laws : AccountLaws) (secret : Bytes) (differ : TokensDiffer secret) (n
         (told_present laws.apart secret v t k.holds identifier params
         (subst (λ (x : Rows). TellsParams x identifier (answer.Params params)) (sym k.server_is) tells)) in
         under_goes (served_world v (made_of name None question) changes) (end_from t moves) (rows_after server changes) rows words identifier password
-        (answered_stands laws.keeps laws.says secret differ name None v t server rows k question tt now changes given moves fits rule no_moves) may
+        (answered_stands laws.keeps laws.says secret differ name begins_none v t server rows k question tt now changes given moves fits rule no_moves) may
         (subst (λ (ms : List Move). IsOnlyOf (end_from t ms) identifier password) (sym no_moves) only) least params later
         fates halt (subst (λ (x : Rows). (n : ℕ) → IsNamed x identifier n → IsPresent x n params) (sym unmoved) told) under over
 
     pub question_goes : (acts : List Act) (fates : List Fate) (halt : Halt) → AsksParams least rows words identifier password acts halt
-        → AreServed server acts fates → Goes secret name None v t server rows acts fates halt
+        → AreServed server acts fates → Goes secret name begins_none v t server rows acts fates halt
     question_goes acts fates halt asks over =
-        asks_goes laws.keeps laws.says secret differ name None v t server rows k question tt (SignsInBy least rows words identifier password) acts fates halt
+        asks_goes laws.keeps laws.says secret differ name begins_none v t server rows k question tt (SignsInBy least rows words identifier password) acts fates halt
         (told_on halt) asks over
 
   pub sign_in_goes : (v : World) (t : Ideal) (server rows : Rows) (words : ChaCha) (identifier password : Bytes) (least : ℕ) (acts : List Act)
       (fates : List Fate) (halt : Halt) → Stands secret name v t server rows → IsOnlyOf t identifier password
       → Run least (sign_in identifier password) rows words acts halt → AreServed server acts fates
-      → Goes secret name None v t server rows acts fates halt
+      → Goes secret name begins_none v t server rows acts fates halt
   sign_in_goes v t server rows words identifier password least acts fates halt k only (inl wants) over =
-      refuses_goes laws.keeps laws.says secret differ name None v t server rows acts fates halt refusal.Memory k wants over
+      refuses_goes laws.keeps laws.says secret differ name begins_none v t server rows acts fates halt refusal.Memory k wants over
   sign_in_goes v t server rows words identifier password least acts fates halt k only (inr (inl (owner, has, differs, refuses))) over =
-      refuses_goes laws.keeps laws.says secret differ name None v t server rows acts fates halt (refusal.OtherAccount owner.identifier) k refuses over
+      refuses_goes laws.keeps laws.says secret differ name begins_none v t server rows acts fates halt (refusal.OtherAccount owner.identifier) k refuses over
   sign_in_goes v t server rows words identifier password least acts fates halt k only (inr (inr (may, asks))) over =
       question_goes v t server rows words identifier password k may only least acts fates halt asks over
 
@@ -251,29 +256,29 @@ register_call : (laws : AccountLaws) (secret : Bytes) (w : World) (s : Ideal) (n
     → RunsRegister least identifier password cost (w.devices name) words acts halt → AreServed w.server acts fates
     → GoesCall secret w s name (register identifier password cost) acts fates halt
 register_call laws secret w s name least identifier password cost words acts fates halt differ h (inl (owner, has, refuses)) over = record {
-  begins = None;
-  of_call = inl refl;
-  leads = refuses_goes laws.keeps laws.says secret differ name None w s w.server (w.devices name) acts fates halt (refusal.HasAccount owner.identifier)
+  begins = begins_none;
+  of_call = λ r. tt;
+  leads = refuses_goes laws.keeps laws.says secret differ name begins_none w s w.server (w.devices name) acts fates halt (refusal.HasAccount owner.identifier)
       (record { holds = h; server_is = refl; device_is = refl }) refuses over;
 }
 register_call laws secret w s name least identifier password cost words acts fates halt differ h (inr (none, inl (bad, refuses))) over = record {
-  begins = None;
-  of_call = inl refl;
-  leads = refuses_goes laws.keeps laws.says secret differ name None w s w.server (w.devices name) acts fates halt (refusal.Cost cost)
+  begins = begins_none;
+  of_call = λ r. tt;
+  leads = refuses_goes laws.keeps laws.says secret differ name begins_none w s w.server (w.devices name) acts fates halt (refusal.Cost cost)
       (record { holds = h; server_is = refl; device_is = refl }) refuses over;
 }
 register_call laws secret w s name least identifier password cost words acts fates halt differ h (inr (none, inr (good, (set, left, new, asks)))) over = record {
-  begins = Some set;
-  of_call = inr (set, refl, new.keys);
+  begins = begins_set set;
+  of_call = λ r. new.keys;
   leads = set_goes laws secret differ name w s w.server (w.devices name) left set (record { holds = h; server_is = refl; device_is = refl }) acts fates halt
       asks over;
 }
 
 pub registers_go : AccountLaws → RegistersGo
 registers_go laws secret w s name least identifier password cost words acts fates halt differ h (inl wants) over = record {
-  begins = None;
-  of_call = inl refl;
-  leads = refuses_goes laws.keeps laws.says secret differ name None w s w.server (w.devices name) acts fates halt refusal.Memory
+  begins = begins_none;
+  of_call = λ r. tt;
+  leads = refuses_goes laws.keeps laws.says secret differ name begins_none w s w.server (w.devices name) acts fates halt refusal.Memory
       (record { holds = h; server_is = refl; device_is = refl }) wants over;
 }
 registers_go laws secret w s name least identifier password cost words acts fates halt differ h (inr runs) over =
@@ -281,8 +286,8 @@ registers_go laws secret w s name least identifier password cost words acts fate
 
 pub sign_ins_go : AccountLaws → SignInsGo
 sign_ins_go laws secret w s name least identifier password words acts fates halt differ h only runs over = record {
-  begins = None;
-  of_call = refl;
+  begins = begins_none;
+  of_call = λ r. tt;
   leads = sign_in_goes laws secret differ name w s w.server (w.devices name) words identifier password least acts fates halt
       (record { holds = h; server_is = refl; device_is = refl }) only runs over;
 }

@@ -7,7 +7,7 @@ use Rattle.rand_chacha.specs.ChaCha.{ChaCha}
 use Rattle.sn_account.specs.Sessions.{IsSession, session_token}
 use Rattle.sn_adopted.proofs.Facts.{adopt_holds, adopt_shows, reposts_allowed, reposts_move, reposts_show}
 use Rattle.sn_adopted.specs.Laws.{HoldsAdopted}
-use Rattle.sn_adopted.specs.Moves.{AreReposted as HaveMoved, OlderStale, WasSent, adopting, reposting, sent_again}
+use Rattle.sn_adopted.specs.Moves.{AreReposted, OlderStale, WasSent, adopting, reposting, sent_again}
 use Rattle.sn_client.proofs.Facts.{Adopted, adopted as rows_adopted}
 use Rattle.sn_client.specs.Sending.{Numbered}
 use Rattle.sn_client.specs.States.{HasLocal, IsSound, OwnerColumns}
@@ -17,7 +17,7 @@ use Rattle.sn_laws.proofs.Facts.{allowed_to, clash, draft_is, end_from-append, f
 use Rattle.sn_laws.specs.Each.{Each, One}
 use Rattle.sn_laws.specs.Lookups.{Bytes, account_for, account_named, account_of, device_named, draft_at, greatest, held_by, is_account, is_device, is_draft, last_of}
 use Rattle.sn_laws.specs.Moves.{allows}
-use Rattle.sn_laws.specs.Reached.{AllDiffer, IsOneOrTwo}
+use Rattle.sn_laws.specs.Reached.{AllDiffer, IsOneOrTwo, NumbersHeld}
 use Rattle.sn_laws.specs.Relation.{IsBased, IsOnLast}
 use Rattle.sn_laws.specs.Runs.{LegalFrom, end_from}
 use Rattle.sn_laws.specs.declared.ideal.Account.{Account}
@@ -40,13 +40,13 @@ use Rattle.sn_shows.specs.Laws.{AccountsApart, HasAccount}
 use Rattle.sn_shows.specs.Servers.{stamps_in}
 use Rattle.sn_shows.specs.Sets.{set_at}
 use Rattle.sn_string.specs.declared.params.KeySet.{KeySet}
-use Rattle.sn_world.proofs.Adopting.{IsAdopting, adopted, adopts_so, reached_all}
+use Rattle.sn_world.proofs.Adopting.{IsAdopting, adopted, adopts_so}
 use Rattle.sn_world.proofs.AnswerLists.{rises_so}
 use Rattle.sn_world.proofs.DeviceRows.{one_owner, sync_tokens_kept}
 use Rattle.sn_world.proofs.Frames.{DeviceFrame, HasPulled, device_kept}
 use Rattle.sn_world.proofs.HeldSets.{held_sets, nonces_apart}
-use Rattle.sn_world.proofs.Items.{legal_both}
-use Rattle.sn_world.proofs.Lists.{each_contained}
+use Rattle.sn_world.proofs.LegalMoves.{legal_joined, reached_after}
+use Rattle.sn_world.proofs.Lists.{each_contained, this_one}
 use Rattle.sn_world.proofs.Pulls.{StaysAt, alike_put, pulls_kept}
 use Rattle.sn_world.proofs.Reposted.{each_reposted, reposted_differ, reposted_one, reposting_accounts, reposting_devices}
 use Rattle.sn_world.proofs.ShowsLemmas.{each_at, shows_alike}
@@ -64,10 +64,6 @@ parts_of (number, local) = refl
 none_one : {A : Type 0} (P : A → Type 0) (xs : List A) → Each (λ (x : A). ¬ (P x)) xs → One P xs → ⊥
 none_one P [] each one = one
 none_one P (x ∷ xs) each one = ⊎_elim (λ (here : P x). each.0 here) (λ rest. none_one P xs each.1 rest) one
-
-each_own : (P : Bytes → Type 0) (uuids : List Bytes) (uuid : Bytes) → Each P uuids → One (λ (u : Bytes). u ≡ uuid) uuids → P uuid
-each_own P [] uuid each one = absurd one
-each_own P (x ∷ xs) uuid each one = ⊎_elim (λ (e : x ≡ uuid). subst P e each.0) (λ rest. each_own P xs uuid each.1 rest) one
 
 one_or_not : (uuids : List Bytes) (uuid : Bytes) → One (λ (u : Bytes). u ≡ uuid) uuids ⊎ ¬ (One (λ (u : Bytes). u ≡ uuid) uuids)
 one_or_not [] uuid = inr (λ one. one)
@@ -111,8 +107,9 @@ again_set number was sent draft p e is =
 
 -- ---- the commit
 
-module _ (apart : AccountsApart) (secret : Bytes) (w next : World) (s : Ideal) (differ : TokensDiffer secret) (h : Holds secret w s) (name : Bytes)
-    (words left : ChaCha) (set : KeySet) (token : Bytes) (changes : List Change) (moves : List Move) (x : Adopts (w.devices name) words set token changes left)
+module _ (apart : AccountsApart) (numbers_held : NumbersHeld) (secret : Bytes) (w next : World) (s : Ideal) (differ : TokensDiffer secret)
+    (h : Holds secret w s) (name : Bytes) (words left : ChaCha) (set : KeySet) (token : Bytes) (changes : List Change) (moves : List Move)
+    (x : Adopts (w.devices name) words set token changes left)
     (may : MayAdopt secret s name set token) (says : SaysAdoption (w.devices name) s name moves) (sound : IsSound (rows_after (w.devices name) changes))
     (on : OnDevice w next name changes) where
   abbrev before : Rows
@@ -211,27 +208,19 @@ module _ (apart : AccountsApart) (secret : Bytes) (w next : World) (s : Ideal) (
           let p = posted_some a.sets (greatest 0 d.held) local.uuid local.posted draft.posted k.posted some in
           record { draft = draft; at = e; posted = p.0; sent = p.1; uuid_is = own_uuid local.uuid draft e; base_is = sym k.base }
 
-  based_of : (uuid : Bytes) (base : Option ℕ) → IsOnLast s a uuid base → IsBased base (last_of uuid a.versions)
-  based_of uuid (Some stamp) stands = stands
-  based_of uuid None stands = by (last_of uuid a.versions) refl
-    where
-      none : Each (λ (v : Version). v.uuid ≢ uuid) a.versions
-      none =
-          let at = named_at s d.account a has.account in
-          each_at (λ (b : Account). Each (λ (v : Version). v.uuid ≢ uuid) b.versions) s.accounts at.0 a stands at.1
+  -- what was sent was sent under no set above those that were held
+  sent_within : (uuid : Bytes) (draft : Draft) (p : Posted) (k : ℕ) → draft_at s name uuid ≡ Some draft → draft.posted ≡ Some p → p.set ≡ Some k
+      → k ≤ greatest 0 d.held
+  sent_within uuid draft p k at sent number_is =
+      subst (λ (found : Option Device). k ≤ greatest 0 (held_by found)) has.device
+      (subst (λ (t : Ideal). draft_at t name uuid ≡ Some draft → k ≤ greatest 0 (held_by (device_named t name))) (sym h.reached.is)
+      (λ found. numbers_held h.reached.moves name uuid draft p k h.reached.legal found sent number_is) at)
 
-      by : (found : Option Version) → last_of uuid a.versions ≡ found → last_of uuid a.versions ≡ None
-      by None e = e
-      by (Some v) e = absurd (none_one (λ (y : Version). y.uuid ≡ uuid) a.versions none (last_item uuid a.versions v e))
-
-  unpost_allowed : (at : ℕ) (local : LocalItem) → HasLocal before at local → IsReposted s a local → IsTrue (allows mid (Unpost name local.uuid))
+  unpost_allowed : (at : ℕ) (local : LocalItem) → HasLocal before at local → IsReposted a local → IsTrue (allows mid (Unpost name local.uuid))
   unpost_allowed at local stands is =
       let sent : SentDraft s name local = sent_draft at local stands is.0 in
       let k = h.numbers name d a has local.uuid sent.draft sent.at sent.posted sent.sent in
-      let stood : IsOnLast s a sent.draft.uuid sent.draft.base =
-      subst (λ (u : Bytes). IsOnLast s a u sent.draft.base) (sym sent.uuid_is)
-      (subst (λ (o : Option ℕ). IsOnLast s a local.uuid o) (sym sent.base_is) is.1) in
-      let was : k.0 ≡ greatest 0 d.held = k.2 stood in
+      let most_is : k.0 ≤ greatest 0 d.held = sent_within local.uuid sent.draft sent.posted k.0 sent.at sent.sent k.1 in
       let lower : greatest 0 d.held < number = above in
       allowed_to mid (Unpost name local.uuid)
       (record {
@@ -243,38 +232,38 @@ module _ (apart : AccountsApart) (secret : Bytes) (w next : World) (s : Ideal) (
         number = k.0;
         number_is = k.1;
         before = λ e. absurd (omega arith);
-        based = subst (λ (o : Option ℕ). IsBased o (last_of local.uuid a.versions)) (sym sent.base_is) (based_of local.uuid local.base is.1);
+        based = subst (λ (o : Option ℕ). IsBased o (last_of local.uuid a.versions)) (sym sent.base_is) is.1;
       })
 
-  was_sent : (at : ℕ) (local : LocalItem) → HasLocal before at local → IsReposted s a local → WasSent mid name local.uuid
+  was_sent : (at : ℕ) (local : LocalItem) → HasLocal before at local → IsReposted a local → WasSent mid name local.uuid
   was_sent at local stands is =
       let sent : SentDraft s name local = sent_draft at local stands is.0 in
       record { draft = sent.draft; at = draft_mid name local.uuid ∙ sent.at; posted = sent.posted; sent = sent.sent }
 
   all_allowed : Each (λ (uuid : Bytes). IsTrue (allows mid (Unpost name uuid))) says.uuids
   all_allowed =
-      each_reposted s a (λ (uuid : Bytes). IsTrue (allows mid (Unpost name uuid))) says.items says.uuids says.reposted
-      (each_contained (λ (item : Numbered). IsReposted s a item.1 → IsTrue (allows mid (Unpost name item.1.uuid))) says.items
+      each_reposted a (λ (uuid : Bytes). IsTrue (allows mid (Unpost name uuid))) says.items says.uuids says.reposted
+      (each_contained (λ (item : Numbered). IsReposted a item.1 → IsTrue (allows mid (Unpost name item.1.uuid))) says.items
       (λ item there is. unpost_allowed item.0 item.1 (row item there) is))
 
   all_sent : Each (WasSent mid name) says.uuids
   all_sent =
-      each_reposted s a (WasSent mid name) says.items says.uuids says.reposted
-      (each_contained (λ (item : Numbered). IsReposted s a item.1 → WasSent mid name item.1.uuid) says.items
+      each_reposted a (WasSent mid name) says.items says.uuids says.reposted
+      (each_contained (λ (item : Numbered). IsReposted a item.1 → WasSent mid name item.1.uuid) says.items
       (λ item there is. was_sent item.0 item.1 (row item there) is))
 
   all_differ : AllDiffer says.uuids
   all_differ =
-      reposted_differ s a says.items says.uuids says.reposted (rises_so (λ (item : Numbered). item.0) says.items says.items_are.rising)
+      reposted_differ a says.items says.uuids says.reposted (rises_so (λ (item : Numbered). item.0) says.items says.items_are.rising)
       (λ one other here there same. holder.once one.0 other.0 one.1 other.1 (row one here) (row other there) same)
 
   legal_second : LegalFrom mid second_moves
   legal_second = reposts_allowed mid name says.uuids all_differ all_allowed
 
   reached : Reached later
-  reached = reached_all mid second_moves (reached_all s first_moves h.reached first.0) legal_second
+  reached = reached_after mid second_moves (reached_after s first_moves h.reached first.0) legal_second
 
-  moved : HaveMoved mid later name says.uuids
+  moved : AreReposted mid later name says.uuids
   moved = reposts_move mid name says.uuids
 
   -- ---- the state after them
@@ -310,6 +299,20 @@ module _ (apart : AccountsApart) (secret : Bytes) (w next : World) (s : Ideal) (
   abbrev IsNumbered : Draft → Posted → Type 0
   IsNumbered draft p = (k : ℕ) × (p.set ≡ Some k) × (IsOnLast s a draft.uuid draft.base → k ≡ number)
 
+  -- what could be accepted is sent again
+  based_of : (uuid : Bytes) (base : Option ℕ) → IsOnLast s a uuid base → IsBased base (last_of uuid a.versions)
+  based_of uuid (Some stamp) stands = stands
+  based_of uuid None stands = by (last_of uuid a.versions) refl
+    where
+      none : Each (λ (v : Version). v.uuid ≢ uuid) a.versions
+      none =
+          let at = named_at s d.account a has.account in
+          each_at (λ (b : Account). Each (λ (v : Version). v.uuid ≢ uuid) b.versions) s.accounts at.0 a stands at.1
+
+      by : (found : Option Version) → last_of uuid a.versions ≡ found → last_of uuid a.versions ≡ None
+      by None e = e
+      by (Some v) e = absurd (none_one (λ (y : Version). y.uuid ≡ uuid) a.versions none (last_item uuid a.versions v e))
+
   -- one that isn't sent again doesn't stand on its item's last version
   left_number : (uuid : Bytes) (draft : Draft) (p : Posted) → draft_at s name uuid ≡ Some draft → draft.posted ≡ Some p
       → ¬ (One (λ (u : Bytes). u ≡ uuid) says.uuids) → IsNumbered draft p
@@ -331,16 +334,17 @@ module _ (apart : AccountsApart) (secret : Bytes) (w next : World) (s : Ideal) (
       found : IsOnLast s a draft.uuid draft.base → One (λ (u : Bytes). u ≡ uuid) says.uuids
       found stands =
           subst (λ (v : Bytes). One (λ (u : Bytes). u ≡ v) says.uuids) stood.item_is
-          (reposted_one s a says.items says.uuids says.reposted (stood.number, stood.item) ((says.items_are.whole stood.number stood.item).1 stood.stands) (
+          (reposted_one a says.items says.uuids says.reposted (stood.number, stood.item) ((says.items_are.whole stood.number stood.item).1 stood.stands) (
             row_posted a.sets (greatest 0 d.held) stood.item.uuid stood.item.posted draft.posted p shown.posted is,
-            subst (λ (u : Bytes). IsOnLast s a u stood.item.base) (own_uuid uuid draft at ∙ sym stood.item_is)
-                (subst (λ (o : Option ℕ). IsOnLast s a draft.uuid o) (sym shown.base) stands),
+            based_of stood.item.uuid stood.item.base
+                (subst (λ (u : Bytes). IsOnLast s a u stood.item.base) (own_uuid uuid draft at ∙ sym stood.item_is)
+                (subst (λ (o : Option ℕ). IsOnLast s a draft.uuid o) (sym shown.base) stands)),
           ))
 
   again_number : (uuid : Bytes) (draft : Draft) (p : Posted) → draft_at later name uuid ≡ Some draft → draft.posted ≡ Some p
       → One (λ (u : Bytes). u ≡ uuid) says.uuids → IsNumbered draft p
   again_number uuid draft p at is one =
-      let was : WasSent mid name uuid = each_own (WasSent mid name) says.uuids uuid all_sent one in
+      let was : WasSent mid name uuid = this_one (WasSent mid name) says.uuids uuid all_sent one in
       let now_is : draft_at later name uuid ≡ Some (sent_again (greatest 0 (held_by (device_named mid name))) was.draft was.posted) =
       moved.own uuid was.draft was.posted one was.at was.sent in
       let same : sent_again (greatest 0 (held_by (device_named mid name))) was.draft was.posted ≡ draft =
@@ -495,6 +499,6 @@ module _ (apart : AccountsApart) (secret : Bytes) (w next : World) (s : Ideal) (
   pub adopted_so : KeptBy secret next s moves
   adopted_so =
       subst (λ (ms : List Move). KeptBy secret next s ms) (sym says.moves_are) (
-        legal_both s first_moves second_moves first.0 legal_second,
+        legal_joined s first_moves second_moves first.0 legal_second,
         subst (λ (t : Ideal). Holds secret next t) (sym (end_from-append s first_moves second_moves)) (device_kept secret w next s later name changes h on frame),
       )

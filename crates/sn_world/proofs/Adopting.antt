@@ -5,9 +5,9 @@ use Rattle.std.specs.Option.{option_map}
 use Rattle.std.specs.Prelude.{◌==◌, IsTrue, if◌then◌else◌}
 use Rattle.std.specs.Str.{bytes_eq}
 use Rattle.sn_adopted.specs.Moves.{adopting}
-use Rattle.sn_laws.proofs.Facts.{allowed_to, carries_two, device_after, device_joined, end_from-append, is_false, one_there, retired, same_text, text_same}
+use Rattle.sn_laws.proofs.Facts.{allowed_to, carries_two, device_after, device_joined, is_false, one_there, retired, same_text, text_same}
 use Rattle.sn_laws.specs.Each.{Each, One}
-use Rattle.sn_laws.specs.Lookups.{Bytes, account_named, device_named, empty, greatest, held_by}
+use Rattle.sn_laws.specs.Lookups.{Bytes, account_named, device_named, greatest, held_by}
 use Rattle.sn_laws.specs.Moves.{after, allows, without}
 use Rattle.sn_laws.specs.Reached.{CarriesLastTwo, IsOneOrTwo}
 use Rattle.sn_laws.specs.Relation.{HeldBefore}
@@ -20,19 +20,9 @@ use Rattle.sn_laws.specs.declared.moves.Move.TheVariants.{Join, Retire}
 use Rattle.sn_shows.proofs.Facts.{greatest_of_one, greatest_of_two}
 use Rattle.sn_shows.specs.Laws.{HasAccount}
 use Rattle.sn_world.proofs.DeviceSets.{account_is}
-use Rattle.sn_world.proofs.Items.{legal_both}
 use Rattle.sn_world.proofs.ShowsLemmas.{each_at}
 use Rattle.sn_world.proofs.Tokens.{named_at, named_identifier}
 use Rattle.sn_world.specs.Holds.{Reached}
-
--- ---- more legal moves
-
-pub reached_all : (s : Ideal) (ms : List Move) → Reached s → LegalFrom s ms → Reached (end_from s ms)
-reached_all s ms r h = record {
-  moves = r.moves ++ ms;
-  legal = legal_both empty r.moves ms r.legal (subst (λ (t : Ideal). LegalFrom t ms) r.is h);
-  is = ap (λ (t : Ideal). end_from t ms) r.is ∙ sym (end_from-append empty r.moves ms);
-}
 
 -- ---- a device with one set more, or one less
 

@@ -48,7 +48,7 @@ use Rattle.sn_world.proofs.DeviceRows.{local_past, one_local, one_owner, posted_
 use Rattle.sn_world.proofs.DeviceSets.{identifier_of}
 use Rattle.sn_world.proofs.Frames.{HasPulled, device_kept, live_kept}
 use Rattle.sn_world.proofs.HeldSets.{held_sets}
-use Rattle.sn_world.proofs.Items.{legal_both}
+use Rattle.sn_world.proofs.LegalMoves.{legal_joined}
 use Rattle.sn_world.proofs.AccountSets.{nonces_apart}
 use Rattle.sn_world.proofs.Retired.{Leaves, framed, leaves_retired, stale_retired}
 use Rattle.sn_world.proofs.Unused.{retire_legal}
@@ -393,7 +393,7 @@ module _ (laws : TakingLaws) (tokens_law : TokensShow) (secret : Bytes) (w next 
       → held_by (device_named s name) ≡ older ∷ present ∷ [] → says.later ≡ Retire name older ∷ [] → KeptBy secret next s moves
   kept_retired set may_go change gone is older present held_is said =
       subst (λ (ms : List Move). KeptBy secret next s ms) (sym (says.moves_are ∙ ap (λ (ms : List Move). says.first ++ ms) said)) (
-        legal_both s says.first (Retire name older ∷ []) took.legal (legal, tt),
+        legal_joined s says.first (Retire name older ∷ []) took.legal (legal, tt),
         subst (λ (t : Ideal). Holds secret next t) (sym (end_from-append s says.first (Retire name older ∷ []))) holds,
       )
     where

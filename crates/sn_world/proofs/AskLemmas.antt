@@ -76,16 +76,16 @@ is_answered server r given (unread at) fate is over = absurd (cc)
 
 -- ---- a request, whatever becomes of it
 
-module _ (keeps : Keeps) (says : SaysSome) (secret : Bytes) (differ : TokensDiffer secret) (name : Bytes) (begins : Option KeySet) (v : World) (t : Ideal)
-    (server rows : Rows) (k : Stands secret name v t server rows) (r : Request) (of : MakesOf rows begins r) where
+module _ (keeps : Keeps) (says : SaysSome) (secret : Bytes) (differ : TokensDiffer secret) (name : Bytes) (begins : Request → Option KeySet) (v : World)
+    (t : Ideal) (server rows : Rows) (k : Stands secret name v t server rows) (r : Request) (of : MakesOf rows (begins r) r) where
   abbrev m : Made
-  m = made_of name begins r
+  m = made_of name (begins r) r
 
   pub holds_made : Holds secret (made_world v m) t
-  holds_made = (keeps secret v (made_world v m) t (makes m) [] differ k.holds (makes_so v name begins r rows k.device_is of) refl).1
+  holds_made = (keeps secret v (made_world v m) t (makes m) [] differ k.holds (makes_so v name (begins r) r rows k.device_is of) refl).1
 
   -- it is made and served, with these moves
-  served_leads : (now : ℕ) (changes : List Change) (given : Answer) (moves : List Move) → FitsRequest r → Rule server r now changes given
+  pub served_leads : (now : ℕ) (changes : List Change) (given : Answer) (moves : List Move) → FitsRequest r → Rule server r now changes given
       → SaysServed v.server (v.devices name) m changes moves
       → (one : Leads secret v t name (makes m ∷ serves m now changes given true ∷ []) (rows_after server changes) rows)
       × (one.moves ≡ moves) × (one.next ≡ served_world v m changes)
@@ -97,7 +97,7 @@ module _ (keeps : Keeps) (says : SaysSome) (secret : Bytes) (differ : TokensDiff
         made_world v m,
         [],
         moves,
-        makes_so v name begins r rows k.device_is of,
+        makes_so v name (begins r) r rows k.device_is of,
         refl,
         (served_world v m changes, moves, [], serves_so v m server now changes given k.server_is fits rule, says_it, (refl, refl), sym (append-nil moves)),
         refl,
@@ -121,7 +121,7 @@ module _ (keeps : Keeps) (says : SaysSome) (secret : Bytes) (differ : TokensDiff
   ask_leads reply undelivered over = record {
     moves = [];
     next = made_world v m;
-    goes = (made_world v m, [], [], makes_so v name begins r rows k.device_is of, refl, (refl, refl), refl);
+    goes = (made_world v m, [], [], makes_so v name (begins r) r rows k.device_is of, refl, (refl, refl), refl);
     server_is = k.server_is;
     device_is = k.device_is;
   }
@@ -135,7 +135,7 @@ module _ (keeps : Keeps) (says : SaysSome) (secret : Bytes) (differ : TokensDiff
       made_world v m,
       [],
       [],
-      makes_so v name begins r rows k.device_is of,
+      makes_so v name (begins r) r rows k.device_is of,
       refl,
       (made_world v m, [], [], refl, refl, (refl, refl), refl),
       refl,
@@ -155,7 +155,7 @@ module _ (keeps : Keeps) (says : SaysSome) (secret : Bytes) (differ : TokensDiff
       (stands_then keeps says secret differ name v t (makes m ∷ serves m now changes given true ∷ []) (rows_after server changes) rows k.holds one.0))
 
   -- no answer is gone on with
-  last_asked : (reply : Reply) (later : List Act) (fates : List Fate) (halt : Halt) (why : ClientError) → Refuses later halt why
+  pub last_asked : (reply : Reply) (later : List Act) (fates : List Fate) (halt : Halt) (why : ClientError) → Refuses later halt why
       → AreServed server (asked r reply ∷ later) fates → Goes secret name begins v t server rows (asked r reply ∷ later) fates halt
   last_asked reply later [] halt why refuses over = absurd over
   last_asked reply later (fate ∷ fates) halt why (none, is) (one, rest) =
@@ -172,7 +172,7 @@ module _ (keeps : Keeps) (says : SaysSome) (secret : Bytes) (differ : TokensDiff
       → AreServed (rows_after server changes) later fates
       → Goes secret name begins (served_world v m changes) (end_from t moves) (rows_after server changes) rows later fates halt
 
-  goes_on_asked : (P : Answer → List Act → Halt → Type 0) (reply : Reply) (given : Answer) (later : List Act) (fates : List Fate) (halt : Halt) → Behind P halt
+  pub goes_on_asked : (P : Answer → List Act → Halt → Type 0) (reply : Reply) (given : Answer) (later : List Act) (fates : List Fate) (halt : Halt) → Behind P halt
       → reply ≡ said given → P given later halt → AreServed server (asked r reply ∷ later) fates
       → Goes secret name begins v t server rows (asked r reply ∷ later) fates halt
   goes_on_asked P reply given later [] halt on is p over = absurd over

@@ -21,7 +21,7 @@ use Rattle.sn_sync.specs.declared.item.Item.{Item}
 use Rattle.sn_world.proofs.Based.{given_gone, given_strings, gone_version, live_version}
 use Rattle.sn_world.proofs.Lasts.{has_last, last_cons}
 use Rattle.sn_world.proofs.Standing.{its_last}
-use Rattle.sn_world.proofs.Steps.{each_of}
+use Rattle.sn_world.proofs.Lists.{this_one}
 use Rattle.sn_world.specs.Pulled.{HasBase, HasNoBase, PulledAt}
 
 -- ---- the last version of an item
@@ -54,7 +54,7 @@ rises_last uuid (x ∷ xs) w v rise one is last = by (λ rest here. rises_last u
         ⊎_elim
         (λ (is_x : x ≡ w).
         let among = last_among uuid xs v here in
-        inr (subst (λ (z : Version). z.stamp < v.stamp) is_x (each_of (λ (z : Version). x.stamp < z.stamp) xs v (each_stamp xs rise.0) among.0)))
+        inr (subst (λ (z : Version). z.stamp < v.stamp) is_x (this_one (λ (z : Version). x.stamp < z.stamp) xs v (each_stamp xs rise.0) among.0)))
         (λ rest. behind rest here) one
 
 -- it, as the server tells it

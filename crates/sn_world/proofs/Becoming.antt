@@ -1,12 +1,12 @@
 -- One account has a set or a version more: what this leaves of the state, of what each device's rows show, and of what was sent.
-use Rattle.std.proofs.Common.{◌≡◌, ◌≢◌, ◌⊎◌, ◌<◌, ◌≤◌, ℕ, List, [], ◌∷◌, length, Option, Some, refl, sym, ap, ◌∙◌, subst, inl, inr, ⊎_elim, arith}
+use Rattle.std.proofs.Common.{◌≡◌, ◌≢◌, ◌⊎◌, ◌<◌, ◌≤◌, ℕ, List, [], ◌∷◌, length, Option, Some, refl, sym, ap, ◌∙◌, subst, inl, inr, arith}
 use Rattle.std.specs.Prelude.{find}
 use Rattle.sn_adopted.specs.Moves.{OlderStale}
 use Rattle.sn_changed.proofs.Facts.{is_one_of, named_one_of, was_one_of}
 use Rattle.sn_changed.specs.Leaves.{OnlyBecomes, VersionLasts, VersionOnLast, WasLast, WereOnLast, with_version}
 use Rattle.sn_items.specs.declared.sealed.Sealed.{Sealed}
 use Rattle.sn_laws.proofs.Facts.{last_other}
-use Rattle.sn_laws.specs.Each.{Each, One}
+use Rattle.sn_laws.specs.Each.{Each}
 use Rattle.sn_laws.specs.Lookups.{Bytes, account_named, device_named, draft_at, greatest, is_device, is_draft, last_of}
 use Rattle.sn_laws.specs.declared.ideal.Account.{Account}
 use Rattle.sn_laws.specs.declared.ideal.Device.{Device}
@@ -25,13 +25,10 @@ use Rattle.sn_sync.specs.declared.item.Item.{Item}
 use Rattle.sn_account.specs.Sound.{most_accounts, most_generations}
 use Rattle.sn_world.proofs.Frames.{LastsBefore}
 use Rattle.sn_world.proofs.Lasts.{above_all}
+use Rattle.sn_world.proofs.Lists.{this_one}
 use Rattle.sn_world.proofs.Tokens.{named_at}
 use Rattle.sn_world.specs.Holds.{AreFew, NumbersOf, StaleOf}
 use Rattle.sn_world.specs.Live.{IsRewrap}
-
-pub each_of : (P : Version → Type 0) (vs : List Version) (w : Version) → Each P vs → One (λ (y : Version). y ≡ w) vs → P w
-each_of P [] w each one = absurd one
-each_of P (v ∷ vs) w each one = ⊎_elim (λ (e : v ≡ w). subst P e each.0) (λ rest. each_of P vs w each.1 rest) one
 
 -- what is a rewrap is one by any account with the same sets and the same last version of its item
 pub rewrap_by : (accounts later : List Account) (n : ℕ) (i : Item) (x : IsRewrap accounts n i) (b : Account) → account_at n later ≡ Some b
@@ -82,7 +79,7 @@ draft_below rows s name uuid d a e n base stamp has shows at is there above =
     let its : IsBase a (greatest 0 d.held) row.item base =
     subst (λ (o : Option ℕ). ShowsBase a (greatest 0 d.held) row.item o) (drafted.base ∙ is) shown_row.base in
     let less : its.listed.version.stamp < stamp =
-    each_of (λ (y : Version). y.stamp < stamp) a.versions its.listed.version
+    this_one (λ (y : Version). y.stamp < stamp) a.versions its.listed.version
     (each_at (λ (b : Account). Each (λ (y : Version). y.stamp < stamp) b.versions) s.accounts n a (above_all s.accounts stamp above) there) its.listed.among in
     subst (λ (k : ℕ). k < stamp) its.listed.stamp_is less
 

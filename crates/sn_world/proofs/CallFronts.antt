@@ -7,6 +7,7 @@ use Rattle.sn_laws.specs.declared.ideal.Ideal.{Ideal}
 use Rattle.sn_laws.specs.declared.moves.Move.{Move}
 use Rattle.sn_rows.specs.Table.{Rows, rows_after}
 use Rattle.sn_string.specs.declared.params.KeySet.{KeySet}
+use Rattle.sn_sync.specs.declared.request.Request.{Request}
 use Rattle.sn_world.proofs.AskLemmas.{made_of}
 use Rattle.sn_world.specs.Calls.{AreServed, Fate, FrontsGo, call_steps, crashed, fate_steps, rows_behind, rows_served, served, undelivered}
 use Rattle.sn_world.specs.Happens.{Happens, Trace, commits, makes}
@@ -24,19 +25,19 @@ first_of secret (step ∷ a) b moves w next s (mid, first, later, does, says, re
     let x = first_of secret a b later mid next (end_from s first) rest in
     record { moves = first ++ x.moves; next = x.next; goes = (mid, first, x.moves, does, says, x.goes, refl) }
 
--- the fates of the first acts
-record Split (name : Bytes) (begins : Option KeySet) (server : Rows) (front later : List Act) (fates : List Fate) : Type 0 where
-  met : List Fate
-  others : List Fate
-  fates_are : fates ≡ met ++ others
-  over : AreServed server front met
-  rest : List Happens
-  steps : call_steps name begins (front ++ later) fates ≡ call_steps name begins front met ++ rest
+-- the fates of the first acts, and of those behind them
+pub record Split (name : Bytes) (begins : Request → Option KeySet) (server : Rows) (front later : List Act) (fates : List Fate) : Type 0 where
+  pub met : List Fate
+  pub others : List Fate
+  pub fates_are : fates ≡ met ++ others
+  pub over : AreServed server front met
+  pub later_over : AreServed (rows_served server met) later others
+  pub steps : call_steps name begins (front ++ later) fates ≡ call_steps name begins front met ++ call_steps name begins later others
 
-split : (name : Bytes) (begins : Option KeySet) (server : Rows) (front later : List Act) (fates : List Fate) → AreServed server (front ++ later) fates
+pub split : (name : Bytes) (begins : Request → Option KeySet) (server : Rows) (front later : List Act) (fates : List Fate) → AreServed server (front ++ later) fates
     → Split name begins server front later fates
 split name begins server [] later fates over =
-    record { met = []; others = fates; fates_are = refl; over = refl; rest = call_steps name begins later fates; steps = refl }
+    record { met = []; others = fates; fates_are = refl; over = refl; later_over = over; steps = refl }
 split name begins server (committed what changes ∷ front) later fates over =
     let x = split name begins server front later fates over in
     record {
@@ -44,25 +45,25 @@ split name begins server (committed what changes ∷ front) later fates over =
       others = x.others;
       fates_are = x.fates_are;
       over = x.over;
-      rest = x.rest;
+      later_over = x.later_over;
       steps = ap (λ (steps : List Happens). commits name what changes true ∷ steps) x.steps;
     }
 split name begins server (asked r reply ∷ front) later [] over = absurd over
 split name begins server (asked r reply ∷ front) later (fate ∷ fates) (one, others) =
     let x = split name begins (rows_behind server fate) front later fates others in
-    let own : List Happens = fate_steps (made_of name begins r) fate in
+    let own : List Happens = fate_steps (made_of name (begins r) r) fate in
     record {
       met = fate ∷ x.met;
       others = x.others;
       fates_are = ap (λ (fs : List Fate). fate ∷ fs) x.fates_are;
       over = (one, x.over);
-      rest = x.rest;
-      steps = ap (λ (steps : List Happens). makes (made_of name begins r) ∷ own ++ steps) x.steps
-          ∙ ap (λ (steps : List Happens). makes (made_of name begins r) ∷ steps) (sym (append_assoc own (call_steps name begins front x.met) x.rest));
+      later_over = x.later_over;
+      steps = ap (λ (steps : List Happens). makes (made_of name (begins r) r) ∷ own ++ steps) x.steps
+          ∙ ap (λ (steps : List Happens). makes (made_of name (begins r) r) ∷ steps) (sym (append_assoc own (call_steps name begins front x.met) (call_steps name begins later x.others)));
     }
 
 -- the rows that they leave
-pub rows_left : (secret name : Bytes) (begins : Option KeySet) (acts : List Act) (fates : List Fate) (server : Rows) (moves : List Move) (w next : World) (s : Ideal)
+pub rows_left : (secret name : Bytes) (begins : Request → Option KeySet) (acts : List Act) (fates : List Fate) (server : Rows) (moves : List Move) (w next : World) (s : Ideal)
     → AreServed server acts fates → Trace secret w s (call_steps name begins acts fates) moves next
     → (next.server ≡ rows_served w.server fates) × (next.devices name ≡ rows_done (w.devices name) acts)
 rows_left secret name begins [] fates server moves w next s none (still, same) = (
@@ -96,9 +97,10 @@ rows_left secret name begins (asked r reply ∷ acts) (crashed now changes given
 pub fronts_go : FrontsGo
 fronts_go secret w s name begins front later fates last server device over x =
     let z = split name begins w.server front later fates over in
-    let steps : call_steps name begins (front ++ later) fates ++ last ≡ call_steps name begins front z.met ++ (z.rest ++ last) =
-    ap (λ (steps : List Happens). steps ++ last) z.steps ∙ append_assoc (call_steps name begins front z.met) z.rest last in
-    let first = first_of secret (call_steps name begins front z.met) (z.rest ++ last) x.moves w x.next s
+    let rest : List Happens = call_steps name begins later z.others in
+    let steps : call_steps name begins (front ++ later) fates ++ last ≡ call_steps name begins front z.met ++ (rest ++ last) =
+    ap (λ (steps : List Happens). steps ++ last) z.steps ∙ append_assoc (call_steps name begins front z.met) rest last in
+    let first = first_of secret (call_steps name begins front z.met) (rest ++ last) x.moves w x.next s
     (subst (λ (steps : List Happens). Trace secret w s steps x.moves x.next) steps x.goes) in
     let left = rows_left secret name begins front z.met w.server first.moves w first.next s z.over first.goes in (
       z.met,

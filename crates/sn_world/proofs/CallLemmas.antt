@@ -1,5 +1,5 @@
 -- Steps of the world one after another; and the calls that ask a server for nothing.
-use Rattle.std.proofs.Common.{◌≡◌, ℕ, List, [], ◌∷◌, ◌++◌, length, Option, None, true, false, refl, sym, ap, ◌∙◌, subst, inl, inr, append_assoc}
+use Rattle.std.proofs.Common.{◌≡◌, ℕ, List, [], ◌∷◌, ◌++◌, length, Option, true, false, refl, sym, ap, ◌∙◌, subst, inl, inr, append_assoc}
 use Rattle.rand_chacha.specs.ChaCha.{ChaCha}
 use Rattle.sn_client.specs.Runs.{Act, Call, CommitsOnce, DeletesItem, Given, GivesText, Halt, ListsItems, PutsItem, Refuses, Run, RunsCall, StopsAt, WithAccount, WithContent, WithItem, a_text, a_uuid, answered, broken, commits as committed, content, delete, edit, lines, list, nothing, passwd, put, refused, register, rows_done, sign_in, sync}
 use Rattle.sn_client.specs.States.{Bytes}
@@ -15,10 +15,11 @@ use Rattle.sn_rows.specs.declared.change.Change.{Change}
 use Rattle.sn_rows.specs.declared.device_rows.OwnerRow.{OwnerRow}
 use Rattle.sn_sets.specs.declared.sets.Sets.{Sets}
 use Rattle.sn_string.specs.declared.params.KeySet.{KeySet}
+use Rattle.sn_sync.specs.declared.request.Request.{Request}
 use Rattle.sn_world.proofs.DeviceRows.{with_device, with_own}
 use Rattle.sn_world.proofs.RoundLemmas.{changed_device}
 use Rattle.sn_world.proofs.Traced.{trace_from}
-use Rattle.sn_world.specs.Calls.{AreServed, AsksNothing, BeginsBy, CallsGo, Fate, Leads, LeadsKeep, LeadsTo, call_steps, rows_served}
+use Rattle.sn_world.specs.Calls.{AreServed, AsksNothing, CallsGo, Fate, Leads, LeadsKeep, LeadsTo, begins_none, call_steps, rows_served}
 use Rattle.sn_world.specs.Committing.{Commits, MayCommit}
 use Rattle.sn_world.specs.Happens.{Does, Happens, Trace, commits}
 use Rattle.sn_world.specs.Holds.{Holds, TokensDiffer}
@@ -51,7 +52,7 @@ pub record Stands (secret name : Bytes) (v : World) (t : Ideal) (server rows : R
   pub device_is : v.devices name ≡ rows
 
 -- acts of a device over a server, with these fates, from these rows
-abbrev pub Goes : (secret name : Bytes) → Option KeySet → World → Ideal → Rows → Rows → List Act → List Fate → Halt → Type 0
+abbrev pub Goes : (secret name : Bytes) → (Request → Option KeySet) → World → Ideal → Rows → Rows → List Act → List Fate → Halt → Type 0
 Goes secret name begins v t server rows acts fates halt =
     LeadsTo secret v t name (call_steps name begins acts fates) (rows_served server fates) (rows_done rows acts) halt
 
@@ -97,7 +98,7 @@ module _ (keeps : Keeps) (says : SaysSome) (secret : Bytes) (differ : TokensDiff
   pub none_leads : (v : World) (t : Ideal) (server rows : Rows) → Stands secret name v t server rows → Leads secret v t name [] server rows
   none_leads v t server rows k = record { moves = []; next = v; goes = (refl, refl); server_is = k.server_is; device_is = k.device_is }
 
-  step_leads : (v next : World) (t : Ideal) (step : Happens) (server rows : Rows) → Holds secret v t → Does secret v t step next → next.server ≡ server
+  pub step_leads : (v next : World) (t : Ideal) (step : Happens) (server rows : Rows) → Holds secret v t → Does secret v t step next → next.server ≡ server
       → next.devices name ≡ rows → Leads secret v t name (step ∷ []) server rows
   step_leads v next t step server rows h does server_is device_is =
       let said = says secret v next t step h does in
@@ -129,7 +130,7 @@ module _ (keeps : Keeps) (says : SaysSome) (secret : Bytes) (differ : TokensDiff
   -- ---- acts
 
   -- none is made, and the call is refused
-  pub refuses_goes : (begins : Option KeySet) (v : World) (t : Ideal) (server rows : Rows) (acts : List Act) (fates : List Fate) (halt : Halt) (why : ClientError)
+  pub refuses_goes : (begins : Request → Option KeySet) (v : World) (t : Ideal) (server rows : Rows) (acts : List Act) (fates : List Fate) (halt : Halt) (why : ClientError)
       → Stands secret name v t server rows → Refuses acts halt why → AreServed server acts fates → Goes secret name begins v t server rows acts fates halt
   refuses_goes begins v t server rows acts fates halt why k (none, is) over =
       let no_fates : fates ≡ [] = subst (λ (xs : List Act). AreServed server xs fates) none over in
@@ -138,7 +139,7 @@ module _ (keeps : Keeps) (says : SaysSome) (secret : Bytes) (differ : TokensDiff
       (subst (λ (z : Halt). Goes secret name begins v t server rows [] [] z) (sym is) (none_leads v t server rows k)))
 
   -- none is made, and the call is answered
-  pub answers_goes : (begins : Option KeySet) (v : World) (t : Ideal) (server rows : Rows) (acts : List Act) (fates : List Fate) (halt : Halt) (given : Given)
+  pub answers_goes : (begins : Request → Option KeySet) (v : World) (t : Ideal) (server rows : Rows) (acts : List Act) (fates : List Fate) (halt : Halt) (given : Given)
       (left : ChaCha) → Stands secret name v t server rows → acts ≡ [] → halt ≡ answered given left → AreServed server acts fates
       → Goes secret name begins v t server rows acts fates halt
   answers_goes begins v t server rows acts fates halt given left k none is over =
@@ -159,7 +160,7 @@ module _ (keeps : Keeps) (says : SaysSome) (secret : Bytes) (differ : TokensDiff
   stops_to v t server rows halt words left what changes k step may (inr (inr is)) =
       subst (λ (z : Halt). LeadsTo secret v t name [] server rows z) (sym is) (none_leads v t server rows k)
 
-  pub stops_goes : (begins : Option KeySet) (v : World) (t : Ideal) (server rows : Rows) (acts : List Act) (fates : List Fate) (halt : Halt)
+  pub stops_goes : (begins : Request → Option KeySet) (v : World) (t : Ideal) (server rows : Rows) (acts : List Act) (fates : List Fate) (halt : Halt)
       (words left : ChaCha) (what : What) (changes : List Change) → Stands secret name v t server rows → Step rows words what changes left
       → MayCommit secret server rows t name what → acts ≡ [] → StopsAt what changes halt → AreServed server acts fates
       → Goes secret name begins v t server rows acts fates halt
@@ -170,7 +171,7 @@ module _ (keeps : Keeps) (says : SaysSome) (secret : Bytes) (differ : TokensDiff
       (stops_to v t server rows halt words left what changes k step may stops))
 
   -- one commit more
-  pub once_goes : (begins : Option KeySet) (v : World) (t : Ideal) (server rows : Rows) (acts : List Act) (fates : List Fate) (halt : Halt) (words : ChaCha)
+  pub once_goes : (begins : Request → Option KeySet) (v : World) (t : Ideal) (server rows : Rows) (acts : List Act) (fates : List Fate) (halt : Halt) (words : ChaCha)
       (what : What) (given : Given) → Stands secret name v t server rows → MayCommit secret server rows t name what
       → CommitsOnce rows words what given acts halt → AreServed server acts fates → Goes secret name begins v t server rows acts fates halt
   once_goes begins v t server rows acts fates halt words what given k may (changes, left, step, inl (batch, one, is)) over =
@@ -184,23 +185,23 @@ module _ (keeps : Keeps) (says : SaysSome) (secret : Bytes) (differ : TokensDiff
 
   -- ---- calls that ask for nothing
 
-  module _ (w : World) (s : Ideal) (h : Holds secret w s) (words : ChaCha) (acts : List Act) (fates : List Fate) (halt : Halt)
-      (over : AreServed w.server acts fates) where
+  module _ (begins : Request → Option KeySet) (w : World) (s : Ideal) (h : Holds secret w s) (words : ChaCha) (acts : List Act) (fates : List Fate)
+      (halt : Halt) (over : AreServed w.server acts fates) where
     abbrev here : Type 0
-    here = Goes secret name None w s w.server (w.devices name) acts fates halt
+    here = Goes secret name begins w s w.server (w.devices name) acts fates halt
 
     stands : Stands secret name w s w.server (w.devices name)
     stands = record { holds = h; server_is = refl; device_is = refl }
 
     pub refused_here : (why : ClientError) → Refuses acts halt why → here
-    refused_here why refuses = refuses_goes None w s w.server (w.devices name) acts fates halt why stands refuses over
+    refused_here why refuses = refuses_goes begins w s w.server (w.devices name) acts fates halt why stands refuses over
 
     pub answered_here : (given : Given) (left : ChaCha) → acts ≡ [] → halt ≡ answered given left → here
-    answered_here given left none is = answers_goes None w s w.server (w.devices name) acts fates halt given left stands none is over
+    answered_here given left none is = answers_goes begins w s w.server (w.devices name) acts fates halt given left stands none is over
 
     pub committed_here : (what : What) (given : Given) → MayCommit secret w.server (w.devices name) s name what
         → CommitsOnce (w.devices name) words what given acts halt → here
-    committed_here what given may once = once_goes None w s w.server (w.devices name) acts fates halt words what given stands may once over
+    committed_here what given may once = once_goes begins w s w.server (w.devices name) acts fates halt words what given stands may once over
 
     pub with_account : (P : OwnerRow → Sets → List Act → Halt → Type 0) → ((owner : OwnerRow) (sets : Sets) → P owner sets acts halt → here)
         → WithAccount (w.devices name) P acts halt → here
@@ -249,24 +250,12 @@ module _ (keeps : Keeps) (says : SaysSome) (secret : Bytes) (differ : TokensDiff
     runs_goes least call quiet (inl wants) = refused_here refusal.Memory wants
     runs_goes least call quiet (inr runs) = goes least call quiet runs
 
--- such a call begins no set
-begins_none : (call : Call) → AsksNothing call → BeginsBy call None
-begins_none (register identifier password cost) quiet = absurd quiet
-begins_none (sign_in identifier password) quiet = refl
-begins_none (put kind text) quiet = refl
-begins_none (edit uuid text) quiet = refl
-begins_none (delete uuid) quiet = refl
-begins_none list quiet = refl
-begins_none (content uuid) quiet = refl
-begins_none sync quiet = refl
-begins_none (passwd password cost) quiet = absurd quiet
-
 pub leads_keep : Keeps → LeadsKeep
 leads_keep keeps secret w s name steps server device differ h x = trace_from keeps secret differ steps x.moves w x.next s h x.goes
 
 pub calls_go : Keeps → SaysSome → CallsGo
 calls_go keeps says secret w s name least call words acts fates halt differ h quiet runs over = record {
-  begins = None;
-  of_call = begins_none call quiet;
-  leads = runs_goes keeps says secret differ name w s h words acts fates halt over least call quiet runs;
+  begins = begins_none;
+  of_call = λ r. tt;
+  leads = runs_goes keeps says secret differ name begins_none w s h words acts fates halt over least call quiet runs;
 }

@@ -3,6 +3,7 @@ use Rattle.std.proofs.Common.{◌≡◌, ◌≢◌, ◌⊎◌, ℕ, List, [], �
 use Rattle.std.specs.Prelude.{IsSome}
 use Rattle.rand_chacha.specs.ChaCha.{ChaCha}
 use Rattle.sn_laws.specs.Lookups.{Bytes, device_named, greatest, held_by}
+use Rattle.sn_laws.specs.Reached.{NumbersHeld}
 use Rattle.sn_laws.specs.Relation.{HasLive, IsPlain, MayDelete as DeletionAllowed, MayWrite}
 use Rattle.sn_laws.specs.declared.ideal.Account.{Account}
 use Rattle.sn_laws.specs.declared.ideal.Content.{Content}
@@ -52,7 +53,7 @@ use Rattle.sn_client.specs.States.{HasItem, HasLocal, IsSound, columns}
 use Rattle.sn_client.specs.Steps.{AppliesTo, Deletes, Edits, IsContent, IsUnknown, Step, What, adopts, applies, asks, begins, deletes, drafted, edits, forgets, posts, puts, renews}
 use Rattle.sn_world.specs.World.{OnDevice, World}
 
--- the laws of the crates below that speak of a device's rows
+-- the laws of the crates below that speak of a device's rows, and of what it sent
 pub record DeviceLaws : Type 0 where
   pub apart : AccountsApart
   pub joined : JoinedShows
@@ -63,6 +64,7 @@ pub record DeviceLaws : Type 0 where
   pub posted : PostedShows
   pub post_keeps : PostKeeps
   pub sound : StepsStaySound
+  pub numbers : NumbersHeld
   pub taking : TakingLaws
 
 -- a draft that isn't deleted in its row isn't in the ideal state
@@ -236,7 +238,7 @@ module _ (laws : DeviceLaws) (secret : Bytes) (w next : World) (s : Ideal) (h : 
       subst (λ (ms : List Move). KeptBy secret next s ms) (sym says)
       (asked_so secret w next s h name changes sound (stale_kept secret w s h name words left (asks set) changes tt step) on set step.0)
   by_kind differ words left (adopts set token) changes moves step sound on may says =
-      adopted_so laws.apart secret w next s differ h name words left set token changes moves step may says sound on
+      adopted_so laws.apart laws.numbers secret w next s differ h name words left set token changes moves step may says sound on
   by_kind differ words left forgets changes moves step sound on may says =
       subst (λ (ms : List Move). KeptBy secret next s ms) (sym says)
       (forgot_so secret w next s h name changes sound (stale_kept secret w s h name words left forgets changes tt step) on step.0)

@@ -37,12 +37,12 @@ use Rattle.sn_world.specs.World.{Made, World, at_first}
 
 -- ---- each request, where all are within their bounds
 
-one_served : (server : Rows) (r : Request) (reply : Reply) (fate : Fate) → FitsRequest r → IsServedBy server r reply fate → IsServed server r reply fate
+pub one_served : (server : Rows) (r : Request) (reply : Reply) (fate : Fate) → FitsRequest r → IsServedBy server r reply fate → IsServed server r reply fate
 one_served server r reply undelivered fits over = over
 one_served server r reply (served now changes given arrives) fits over = (fits, over.0, over.1)
 one_served server r reply (crashed now changes given) fits over = (fits, over.0, over.1)
 
-all_served : (server : Rows) (acts : List Act) (fates : List Fate) → AreFitting acts → AreServedBy server acts fates → AreServed server acts fates
+pub all_served : (server : Rows) (acts : List Act) (fates : List Fate) → AreFitting acts → AreServedBy server acts fates → AreServed server acts fates
 all_served server [] fates fit over = over
 all_served server (committed what changes ∷ acts) fates (kept, fit) over = all_served server acts fates fit over
 all_served server (asked r reply ∷ acts) [] fit over = absurd over
@@ -126,23 +126,23 @@ first_fits = record { devices = λ name n l found. absurd (cc); made = tt }
 
 -- ---- the requests that were made
 
-abbrev FitsMade : Made → Type 0
+abbrev pub FitsMade : Made → Type 0
 FitsMade m = FitsRequest m.request
 
-abbrev FitsMaking : Happens → Type 0
+abbrev pub FitsMaking : Happens → Type 0
 FitsMaking (starts changes stands) = Unit {0}
 FitsMaking (makes m) = FitsMade m
 FitsMaking (serves m now changes given stands) = Unit {0}
 FitsMaking (commits name what changes stands) = Unit {0}
 
-made_fit : (made : List Made) (steps : List Happens) → Each FitsMade made → Each FitsMaking steps → Each FitsMade (made_behind made steps)
+pub made_fit : (made : List Made) (steps : List Happens) → Each FitsMade made → Each FitsMaking steps → Each FitsMade (made_behind made steps)
 made_fit made [] fit each = fit
 made_fit made (starts changes stands ∷ steps) fit each = made_fit made steps fit each.1
 made_fit made (makes m ∷ steps) fit each = made_fit (m ∷ made) steps (each.0, fit) each.1
 made_fit made (serves m now changes given stands ∷ steps) fit each = made_fit made steps fit each.1
 made_fit made (commits name what changes stands ∷ steps) fit each = made_fit made steps fit each.1
 
-call_makes : (name : Bytes) (begins : Option KeySet) (acts : List Act) (fates : List Fate) → AreFitting acts → Each FitsMaking (call_steps name begins acts fates)
+pub call_makes : (name : Bytes) (begins : Request → Option KeySet) (acts : List Act) (fates : List Fate) → AreFitting acts → Each FitsMaking (call_steps name begins acts fates)
 call_makes name begins [] fates fit = tt
 call_makes name begins (committed what changes ∷ acts) fates (kept, fit) = (tt, call_makes name begins acts fates fit)
 call_makes name begins (asked r reply ∷ acts) [] fit = tt
@@ -150,17 +150,17 @@ call_makes name begins (asked r reply ∷ acts) (undelivered ∷ fates) (fits, f
 call_makes name begins (asked r reply ∷ acts) (served now changes given arrives ∷ fates) (fits, fit) = (fits, (tt, call_makes name begins acts fates fit))
 call_makes name begins (asked r reply ∷ acts) (crashed now changes given ∷ fates) (fits, fit) = (fits, (tt, call_makes name begins acts fates fit))
 
-end_makes : (name : Bytes) (halt : Halt) (stands : Bool) (steps : List Happens) → Each FitsMaking steps → Each FitsMaking (with_end name halt stands steps)
+pub end_makes : (name : Bytes) (halt : Halt) (stands : Bool) (steps : List Happens) → Each FitsMaking steps → Each FitsMaking (with_end name halt stands steps)
 end_makes name (answered given left) stands steps each = each
 end_makes name (refused why) stands steps each = each
 end_makes name (broken what changes) stands steps each = each_both FitsMaking steps (commits name what changes stands ∷ []) each (tt, tt)
 
-again_makes : (m : Made) (fate : Fate) → Each FitsMaking (fate_steps m fate)
+pub again_makes : (m : Made) (fate : Fate) → Each FitsMaking (fate_steps m fate)
 again_makes m undelivered = tt
 again_makes m (served now changes given arrives) = (tt, tt)
 again_makes m (crashed now changes given) = (tt, tt)
 
-one_fits : (ms : List Made) (m : Made) → Each FitsMade ms → One (λ x. x ≡ m) ms → FitsMade m
+pub one_fits : (ms : List Made) (m : Made) → Each FitsMade ms → One (λ x. x ≡ m) ms → FitsMade m
 one_fits [] m each among = absurd among
 one_fits (x ∷ ms) m each (inl here) = subst FitsMade here each.0
 one_fits (x ∷ ms) m each (inr behind) = one_fits ms m each.1 behind
@@ -209,12 +209,12 @@ module _ (steps : StepsFitUuids) (stay : StepsStaySound) (secret : Bytes) where
     over = one_served w.server r unheard fate (one_fits w.made (record { device = name; request = r; begins = may.begins }) fits.made may.made) may.over;
   }
 
-  line_makes : (begins : Option KeySet) (line : Line) → LineFits line → Each FitsMaking (line_steps begins line)
+  line_makes : (begins : Request → Option KeySet) (line : Line) → LineFits line → Each FitsMaking (line_steps begins line)
   line_makes begins (opens changes stands) fit = (tt, tt)
   line_makes begins (calls name least call words acts fates halt stands) fit =
       end_makes name halt stands (call_steps name begins acts fates) (call_makes name begins acts fates fit)
   line_makes begins (stops name least call words front met) fit = call_makes name begins front met fit
-  line_makes begins (again name r fate) fit = again_makes (record { device = name; request = r; begins = begins }) fate
+  line_makes begins (again name r fate) fit = again_makes (record { device = name; request = r; begins = begins r }) fate
 
   module _ (keeps : KeepsPlain) (traces : TracesFit) (differ : TokensDiffer secret) where
     behind_fits : (w : World) (s : Ideal) (line : Line) → HoldsPlain secret w s → FitsWorld w → LineFits line → (x : LeadsLine secret w s line) → FitsWorld x.next

@@ -3,7 +3,6 @@ use Rattle.std.proofs.Common.{◌≡◌, ℕ, zero, suc, List, [], ◌∷◌, So
 use Rattle.sn_account.specs.Lookups.{HasStore}
 use Rattle.sn_account.specs.Rule.{RuleOf}
 use Rattle.sn_laws.proofs.Facts.{end_from-append, found_passes, same_text}
-use Rattle.sn_laws.specs.Each.{Each}
 use Rattle.sn_laws.specs.Lookups.{Bytes, empty, is_account}
 use Rattle.sn_laws.specs.Reached.{DevicesHold, NumbersHeld}
 use Rattle.sn_laws.specs.Relation.{IsUnder}

@@ -9,7 +9,6 @@ use Rattle.sn_conflict.specs.declared.meeting.Meeting.TheVariants as meeting
 use Rattle.sn_laws.specs.Each.{Each}
 use Rattle.sn_laws.specs.Lookups.{Bytes, held_by, device_named}
 use Rattle.sn_laws.specs.Moves.{after}
-use Rattle.sn_laws.specs.declared.ideal.Content.{Content}
 use Rattle.sn_laws.specs.declared.ideal.Ideal.{Ideal}
 use Rattle.sn_laws.specs.declared.moves.Move.{Move}
 use Rattle.sn_laws.specs.declared.moves.Move.TheVariants.{Rewrap}

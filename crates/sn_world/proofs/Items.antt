@@ -34,6 +34,7 @@ use Rattle.sn_world.proofs.Becoming.{few_after, lasts, numbered, numbers_kept, r
 use Rattle.sn_world.proofs.Deciding.{decide_sent}
 use Rattle.sn_world.proofs.Frames.{LastsBefore}
 use Rattle.sn_world.proofs.Lasts.{above_last}
+use Rattle.sn_world.proofs.LegalMoves.{legal_joined}
 use Rattle.sn_world.proofs.Rewrapping.{rewraps}
 use Rattle.sn_world.proofs.SaidChanges.{both_say, one_says, put_says}
 use Rattle.sn_world.proofs.Steps.{Below, accepts, reached_more}
@@ -279,10 +280,6 @@ lasts_both first mid later up x y n b uuid v at found within =
     let a_first = x n b_mid.0 uuid v b_mid.1 b_mid.3 within in
     (a_first.0, a_first.1, a_first.2 ∙ b_mid.2, a_first.3)
 
-pub legal_both : (s : Ideal) (xs ys : List Move) → LegalFrom s xs → LegalFrom (end_from s xs) ys → LegalFrom s (xs ++ ys)
-legal_both s [] ys h k = k
-legal_both s (x ∷ xs) ys h k = (h.0, legal_both (after s x) xs ys h.1 k)
-
 then_ran : (p q r : Progress) (device : Rows) (s : Ideal) (name : Bytes) (n : ℕ) (a : Account) (d : Device) → p.last ≡ greatest 0 (stamps_in s.accounts)
     → (x : Ran p q device s name n a d) → Ran q r device (end_from s x.moves) name n x.account d → Ran p r device s name n a d
 then_ran p q r device s name n a d before x y =
@@ -291,7 +288,7 @@ then_ran p q r device s name n a d before x y =
     let upper : q.last ≤ r.last = y.later in
     record {
       moves = x.moves ++ y.moves;
-      legal = legal_both s x.moves y.moves x.legal y.legal;
+      legal = legal_joined s x.moves y.moves x.legal y.legal;
       made = x.made ++ y.made;
       changes = y.changes ∙ ap (λ (c : List Change). c ++ y.made) x.changes ∙ append_assoc p.changes x.made y.made;
       says = both_say p.rows device name x.made y.made x.moves y.moves x.says

@@ -49,6 +49,7 @@ pub mod HoldersSyncs
 pub mod Items
 pub mod KeyBytes
 pub mod Lasts
+pub mod LegalMoves
 pub mod Lists
 pub mod MadeBy
 pub mod Making

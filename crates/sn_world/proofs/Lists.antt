@@ -5,7 +5,7 @@ use Rattle.std.proofs.lemmas.Option.{slice_get_within}
 use Rattle.std.specs.List.{Contains}
 use Rattle.std.specs.Prelude.{slice_get, take}
 use Rattle.sn_conflict.specs.Lists.{AllRight}
-use Rattle.sn_laws.specs.Each.{Each}
+use Rattle.sn_laws.specs.Each.{Each, One}
 
 pub each_map : {A B : Type 0} (f : A → B) (P : B → Type 0) (xs : List A) → Each (λ (x : A). P (f x)) xs → Each P (map f xs)
 each_map f P [] h = tt
@@ -55,3 +55,8 @@ each_apart name b (x ∷ xs) none = (
 pub each_unmap : {A B : Type 0} (f : A → B) (P : B → Type 0) (xs : List A) → Each P (map f xs) → Each (λ (x : A). P (f x)) xs
 each_unmap f P [] h = tt
 each_unmap f P (x ∷ xs) h = (h.0, each_unmap f P xs h.1)
+
+-- of one of a list
+pub this_one : {A : Type 0} (P : A → Type 0) (xs : List A) (x : A) → Each P xs → One (λ (y : A). y ≡ x) xs → P x
+this_one P [] x each among = absurd among
+this_one P (y ∷ xs) x each among = ⊎_elim (λ (here : y ≡ x). subst P here each.0) (λ behind. this_one P xs x each.1 behind) among

@@ -26,7 +26,7 @@ use Rattle.sn_sync.specs.Versions.{NamesStamp}
 use Rattle.sn_sync.specs.declared.item.Item.{Item}
 use Rattle.sn_world.proofs.Lasts.{has_last, within_all}
 use Rattle.sn_world.proofs.ShowsLemmas.{each_at}
-use Rattle.sn_world.proofs.Steps.{each_of}
+use Rattle.sn_world.proofs.Lists.{this_one}
 use Rattle.sn_world.specs.Holds.{Reached}
 use Rattle.sn_world.specs.Live.{IsPosted, LiveItem}
 use Rattle.sn_world.specs.Making.{IsSentBy, MakesLive, SendsAgain, SendsPosted}
@@ -144,7 +144,7 @@ makes_live one_stamp rise behind server device s name n number a d item i reache
     bound (Some base) e known text stamp is spelled =
         let its : IsBase a (greatest 0 d.held) item base = subst (λ (o : Option ℕ). ShowsBase a (greatest 0 d.held) item o) e shown.base in
         let within : its.listed.version.stamp ≤ greatest 0 (stamps_in s.accounts) =
-        each_of (λ (y : Version). y.stamp ≤ greatest 0 (stamps_in s.accounts)) a.versions its.listed.version
+        this_one (λ (y : Version). y.stamp ≤ greatest 0 (stamps_in s.accounts)) a.versions its.listed.version
         (each_at (λ (b : Account). Each (λ (y : Version). y.stamp ≤ greatest 0 (stamps_in s.accounts)) b.versions) s.accounts n a (within_all s.accounts) at) its.listed.among in
         let same_text : text ≡ known.0 = cc in
         let same : stamp ≡ base = one_stamp known.0 stamp base (subst (λ (t : Bytes). IsStampText t stamp) same_text spelled) known.1 in

@@ -16,7 +16,6 @@ use Rattle.sn_rows.specs.declared.device_rows.OwnerRow.{OwnerRow}
 use Rattle.sn_rows.specs.declared.device_rows.SetRow.{SetRow}
 use Rattle.sn_rows.specs.declared.key.Key.TheVariants as key
 use Rattle.sn_rows.specs.declared.key.Slot.TheVariants.{Older}
-use Rattle.sn_rows.specs.declared.value.Value.{Value}
 use Rattle.sn_rows.specs.declared.value.Value.TheVariants as value
 use Rattle.sn_sets.specs.Sets.{OpensHeld, OpensNot}
 use Rattle.sn_sets.specs.declared.sets.Sets.{Sets}

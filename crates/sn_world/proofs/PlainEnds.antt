@@ -17,7 +17,8 @@ use Rattle.sn_shows.specs.Devices.{ShowsHolder}
 use Rattle.sn_shows.specs.Laws.{HasAccount}
 use Rattle.sn_sync.specs.declared.request.Request.{Request}
 use Rattle.sn_world.proofs.AnswerPasses.{NoneStale}
-use Rattle.sn_world.proofs.PlainSets.{held_of, holds_one}
+use Rattle.sn_world.proofs.HeldSets.{held_sets}
+use Rattle.sn_world.proofs.PlainSets.{holds_one}
 use Rattle.sn_world.proofs.PresentSets.{none_in}
 use Rattle.sn_world.proofs.Tokens.{named_at}
 use Rattle.sn_world.specs.Happens.{Happens}
@@ -40,7 +41,7 @@ plain_device law secret v t name p =
           let k = named_at t d.account a has.account in
           let one : length a.sets ≡ 1 = p.plain.one_set k.0 a k.1 in
           let holder : ShowsHolder (v.devices name) t name d a = holder_of (v.devices name) t name d a (p.holds.devices name) has in
-          (holds_one d.held (length a.sets) a (v.devices name (key.Set Older)) one (held_of t p.holds.reached name d a has.device has.account) holder.older).0
+          (holds_one d.held (length a.sets) a (v.devices name (key.Set Older)) one (held_sets t p.holds.reached name d a has) holder.older).0
           ∙ sym one;
     }
 

@@ -28,14 +28,15 @@ use Rattle.sn_sync.specs.declared.answer.Answer.{Answer}
 use Rattle.sn_sync.specs.declared.answer.Answer.TheVariants as answer
 use Rattle.sn_sync.specs.declared.request.Request.{Request}
 use Rattle.sn_sync.specs.declared.request.Request.TheVariants as request
+use Rattle.sn_world.proofs.LegalMoves.{legal_joined}
 use Rattle.sn_world.proofs.PlainSaid.{moves_keep}
-use Rattle.sn_world.proofs.PlainSets.{KeepsSets, have_one_set, legal_joined, one_set_after}
+use Rattle.sn_world.proofs.PlainSets.{KeepsSets, have_one_set, one_set_after}
 use Rattle.sn_world.proofs.Tokens.{one_account, there_is}
 use Rattle.sn_world.specs.Committing.{Commits}
 use Rattle.sn_world.specs.Happens.{Does, Happens, Says, Trace, commits, makes, serves, starts}
 use Rattle.sn_world.specs.Holds.{Holds, TokensDiffer}
 use Rattle.sn_world.specs.Laws.{HoldsFirst, Keeps, KeptBy}
-use Rattle.sn_world.specs.Plain.{AsksNoSet, HaveOneSet, HoldsPlain, IsPlain, IsPlainCommit, IsPlainStep, KeepsPlain, KeepsSet, KeptPlain, PlainFirst, PlainSays, moves_for}
+use Rattle.sn_world.specs.Plain.{AsksNoSet, HaveOneSet, HoldsPlain, IsPlainCommit, IsPlainStep, IsPlainWorld, KeepsPlain, KeepsSet, KeptPlain, PlainFirst, PlainSays, moves_for}
 use Rattle.sn_world.specs.World.{IsMade, Made, World}
 
 -- ---- a commit of a device asks for no set
@@ -68,7 +69,7 @@ module _ (rows : Rows) (words left : ChaCha) (changes : List Change) (sound : Is
   applied (request.SignIn identifier pw) given x = absurd x
   applied (request.ChangePw token current pw cost nonce) given x = absurd x
 
-  stays_unasked : (what : What) → IsPlainCommit what → Step rows words what changes left → AsksNoSet (rows_after rows changes)
+  pub stays_unasked : (what : What) → IsPlainCommit what → Step rows words what changes left → AsksNoSet (rows_after rows changes)
   stays_unasked (begins set account token) plain (fresh, x, same) =
       ap (λ (cs : List Change). rows_after rows cs (key.Set Asked)) x.changes_are
       ∙ neither_put rows x.owner x.present key.Owner (key.Set Present) (key.Set Asked) (value.Owner x.owner_is.owner) (value.Set x.keys) x.owner_is.puts_it
@@ -99,8 +100,8 @@ stays_one server before later x y one n b at =
 -- ---- each step
 
 -- a step of the server, or none
-same_devices : (w next : World) (s later : Ideal) → IsPlain w s → HaveOneSet later.accounts → next.devices ≡ w.devices → next.made ≡ w.made
-    → IsPlain next later
+same_devices : (w next : World) (s later : Ideal) → IsPlainWorld w s → HaveOneSet later.accounts → next.devices ≡ w.devices → next.made ≡ w.made
+    → IsPlainWorld next later
 same_devices w next s later plain one devices made = record {
   one_set = one;
   unasked = λ name. subst AsksNoSet (sym (ap (λ (d : Bytes → Rows). d name) devices)) (plain.unasked name);
@@ -110,7 +111,7 @@ same_devices w next s later plain one devices made = record {
 no_moves : (s : Ideal) (moves : List Move) → moves ≡ [] → HaveOneSet s.accounts → HaveOneSet (end_from s moves).accounts
 no_moves s moves none one = subst (λ (ms : List Move). HaveOneSet (end_from s ms).accounts) (sym none) one
 
-idle : (w next : World) (s : Ideal) (moves : List Move) → IsPlain w s → next ≡ w → moves ≡ [] → IsPlain next (end_from s moves)
+idle : (w next : World) (s : Ideal) (moves : List Move) → IsPlainWorld w s → next ≡ w → moves ≡ [] → IsPlainWorld next (end_from s moves)
 idle w next s moves plain same none =
     same_devices w next s (end_from s moves) plain (no_moves s moves none plain.one_set) (ap (λ (x : World). x.devices) same) (ap (λ (x : World). x.made) same)
 
@@ -134,7 +135,7 @@ module _ (w next : World) (name : Bytes) (what : What) (changes : List Change) (
 
 module _ (says : PlainSays) (secret : Bytes) (w next : World) (s : Ideal) (moves : List Move) (differ : TokensDiffer secret) (h : HoldsPlain secret w s)
     (kept : Holds secret next (end_from s moves)) where
-  plain_after : (step : Happens) → IsPlainStep step → Does secret w s step next → Says w s step moves → IsPlain next (end_from s moves)
+  plain_after : (step : Happens) → IsPlainStep step → Does secret w s step next → Says w s step moves → IsPlainWorld next (end_from s moves)
   plain_after (starts changes true) plain does said =
       same_devices w next s (end_from s moves) h.plain (no_moves s moves said h.plain.one_set) does.on.devices does.on.made
   plain_after (starts changes false) plain does said = idle w next s moves h.plain does said

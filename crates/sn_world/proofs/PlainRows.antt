@@ -14,8 +14,10 @@ use Rattle.sn_rows.specs.declared.device_rows.LocalItem.{LocalItem}
 use Rattle.sn_rows.specs.declared.key.Key.TheVariants as key
 use Rattle.sn_rows.specs.declared.key.Slot.TheVariants.{Older}
 use Rattle.sn_shows.specs.Devices.{OpensBase, ShowsBase, ShowsDeviceAs, ShowsHolder, ShowsNothing}
+use Rattle.sn_shows.specs.Laws.{HasAccount}
 use Rattle.sn_shows.specs.Servers.{account_at}
-use Rattle.sn_world.proofs.PlainSets.{carries_some, held_of, holds_one}
+use Rattle.sn_world.proofs.HeldSets.{held_sets}
+use Rattle.sn_world.proofs.PlainSets.{carries_some, holds_one}
 use Rattle.sn_world.proofs.Tokens.{named_at}
 use Rattle.sn_world.specs.Holds.{Holds}
 use Rattle.sn_world.specs.Plain.{HoldsPlain, PlainRows}
@@ -59,7 +61,8 @@ module _ (secret : Bytes) (w : World) (s : Ideal) (name : Bytes) (p : HoldsPlain
   held : (d : Device) (a : Account) → device_named s name ≡ Some d → account_named s d.account ≡ Some a → ShowsHolder rows s name d a → HasNone rows
   held d a named has x =
       let k = named_at s d.account a has in
-      let one = holds_one d.held (length a.sets) a (rows (key.Set Older)) (p.plain.one_set k.0 a k.1) (held_of s h.reached name d a named has) x.older in (
+      let own : HasAccount s name d a = record { device = named; account = has } in
+      let one = holds_one d.held (length a.sets) a (rows (key.Set Older)) (p.plain.one_set k.0 a k.1) (held_sets s h.reached name d a own) x.older in (
         λ number local stands.
             is_false local.stale
             (unstale k.0 a number (greatest 0 d.held) local k.1 one.0 stands local.base refl (x.locals number local stands).base),

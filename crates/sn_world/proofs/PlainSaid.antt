@@ -28,7 +28,8 @@ use Rattle.sn_sync.specs.declared.item.Item.{Item}
 use Rattle.sn_sync.specs.declared.request.Request.{Request}
 use Rattle.sn_sync.specs.declared.request.Request.TheVariants as request
 use Rattle.sn_world.proofs.Lists.{each_both}
-use Rattle.sn_world.proofs.PlainSets.{KeepsSets, no_rewrap, one_set_after, reached_after}
+use Rattle.sn_world.proofs.LegalMoves.{reached_after}
+use Rattle.sn_world.proofs.PlainSets.{KeepsSets, no_rewrap, one_set_after}
 use Rattle.sn_world.specs.Holds.{Reached}
 use Rattle.sn_world.specs.Laws.{KeepsServing}
 use Rattle.sn_world.specs.Plain.{HaveOneSet, KeepsSet, PlainSays, accept_of, accepts_in, move_of, moves_for}

@@ -1,17 +1,16 @@
 -- Where each account has one set, each device holds that alone, each live version carries it, and no version is sealed again.
-use Rattle.std.proofs.Common.{◌≡◌, ◌≤◌, ℕ, zero, suc, List, [], ◌∷◌, ◌++◌, length, Option, Some, None, Bool, true, false, IsTrue, refl, sym, ap, ◌∙◌, subst, ⊎_elim, arith}
+use Rattle.std.proofs.Common.{◌≡◌, ◌≤◌, ℕ, zero, suc, List, [], ◌∷◌, ◌++◌, length, Option, Some, None, Bool, true, false, IsTrue, refl, sym, ◌∙◌, subst, arith}
 use Rattle.std.specs.Prelude.{slice_get, if◌then◌else◌}
-use Rattle.sn_laws.proofs.Facts.{allowed_from, carries_sets, devices_all_hold, end_from-append, found_passes, last_among, one_there}
+use Rattle.sn_laws.proofs.Facts.{allowed_from, carries_sets, found_passes, last_among}
 use Rattle.sn_laws.specs.Each.{Each, One}
-use Rattle.sn_laws.specs.Lookups.{Bytes, account_for, account_named, account_of, account_with, device_named, draft_at, empty, greatest, has_item, is_account, last_of}
+use Rattle.sn_laws.specs.Lookups.{Bytes, account_of, account_with, draft_at, greatest, has_item, is_account, last_of}
 use Rattle.sn_laws.specs.Moves.{accepted, after, again, allows, changed_where, rewrapped, version_of}
-use Rattle.sn_laws.specs.Reached.{HoldsSets, IsOneOrTwo}
+use Rattle.sn_laws.specs.Reached.{IsOneOrTwo}
 use Rattle.sn_laws.specs.Relation.{IsLive, IsUnder, MayRewrap}
-use Rattle.sn_laws.specs.Runs.{LegalFrom, end_from}
+use Rattle.sn_laws.specs.Runs.{end_from}
 use Rattle.sn_laws.specs.declared.ideal.Account.{Account}
 use Rattle.sn_laws.specs.declared.ideal.Body.{Body}
 use Rattle.sn_laws.specs.declared.ideal.Body.TheVariants.{Under, Gone}
-use Rattle.sn_laws.specs.declared.ideal.Device.{Device}
 use Rattle.sn_laws.specs.declared.ideal.Draft.{Draft}
 use Rattle.sn_laws.specs.declared.ideal.Ideal.{Ideal}
 use Rattle.sn_laws.specs.declared.ideal.Version.{Version}
@@ -22,6 +21,7 @@ use Rattle.sn_shows.specs.Devices.{ShowsOlder}
 use Rattle.sn_shows.specs.Servers.{account_at}
 use Rattle.sn_string.specs.declared.params.KeySet.{KeySet}
 use Rattle.sn_rows.specs.declared.value.Value.{Value}
+use Rattle.sn_world.proofs.Lists.{this_one}
 use Rattle.sn_world.specs.Holds.{Reached}
 use Rattle.sn_world.specs.Plain.{HaveOneSet}
 
@@ -39,11 +39,6 @@ each_one_set xs one = each_got xs (λ k a e. one (suc k) a e)
 
 pub have_one_set : (xs : List Account) → Each HasOne xs → HaveOneSet xs
 have_one_set xs each n a at = each_at HasOne xs n a each at
-
--- of one of a list
-this_one : {A : Type 0} (P : A → Type 0) (xs : List A) (x : A) → Each P xs → One (λ y. y ≡ x) xs → P x
-this_one P [] x each among = absurd among
-this_one P (y ∷ xs) x each among = ⊎_elim (λ (here : y ≡ x). subst P here each.0) (λ behind. this_one P xs x each.1 behind) among
 
 -- ---- moves
 
@@ -89,18 +84,6 @@ one_end s (m ∷ ms) kept h = one_end (after s m) ms kept.1 (one_step s m kept.0
 -- behind such moves it is so again
 pub one_set_after : (s : Ideal) (ms : List Move) → Each KeepsSets ms → HaveOneSet s.accounts → HaveOneSet (end_from s ms).accounts
 one_set_after s ms kept one = have_one_set (end_from s ms).accounts (one_end s ms kept (each_one_set s.accounts one))
-
-pub legal_joined : (s : Ideal) (xs ys : List Move) → LegalFrom s xs → LegalFrom (end_from s xs) ys → LegalFrom s (xs ++ ys)
-legal_joined s [] ys h k = k
-legal_joined s (x ∷ xs) ys h k = (h.0, legal_joined (after s x) xs ys h.1 k)
-
--- a state that legal moves lead to from one that comes of legal moves does
-pub reached_after : (s : Ideal) (ms : List Move) → Reached s → LegalFrom s ms → Reached (end_from s ms)
-reached_after s ms r legal = record {
-  moves = r.moves ++ ms;
-  legal = legal_joined empty r.moves ms r.legal (subst (λ (t : Ideal). LegalFrom t ms) r.is legal);
-  is = ap (λ (t : Ideal). end_from t ms) r.is ∙ sym (end_from-append empty r.moves ms);
-}
 
 -- ---- versions
 
@@ -149,12 +132,3 @@ holds_one (g ∷ []) n a found one (low, up) older =
     (greatest_of_one g ∙ is, older)
 holds_one (o ∷ g ∷ []) n a found one (low, between, up) older = absurd (omega arith)
 holds_one (o ∷ g ∷ m ∷ held) n a found one sets older = absurd sets
-
--- the sets that a device holds are those of its account
-pub held_of : (s : Ideal) → Reached s → (name : Bytes) (d : Device) (a : Account) → device_named s name ≡ Some d → account_named s d.account ≡ Some a
-    → IsOneOrTwo (length a.sets) d.held
-held_of s r name d a named has =
-    let holds : HoldsSets (account_of s name) d =
-    subst (λ (t : Ideal). device_named t name ≡ Some d → HoldsSets (account_of t name) d) (sym r.is) (λ there. devices_all_hold r.moves name d r.legal there) named in
-    let same : holds.account ≡ a = one_there holds.account a (account_of s name) holds.has (ap (account_for s.accounts) named ∙ has) in
-    subst (λ (b : Account). IsOneOrTwo (length b.sets) d.held) same holds.held

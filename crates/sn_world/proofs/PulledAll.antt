@@ -1,5 +1,5 @@
 -- What all that an answer tells leaves of how far a device has pulled.
-use Rattle.std.proofs.Common.{◌≡◌, ◌⊎◌, ℕ, List, [], ◌∷◌, Option, Some, None, true, false, sym, ap, ◌∙◌, subst, inl, inr}
+use Rattle.std.proofs.Common.{◌⊎◌, ℕ, List, [], ◌∷◌, Option, Some, None, true, false, sym, ap, ◌∙◌, subst, inl, inr}
 use Rattle.std.specs.List.{Contains}
 use Rattle.sn_account.specs.Tells.{IsOthers}
 use Rattle.sn_client.specs.Laws.{AreStanding}

@@ -22,7 +22,7 @@ use Rattle.sn_world.proofs.CallLemmas.{Stands, commit_leads, stands_then}
 use Rattle.sn_world.proofs.FittingRows.{steps_fit_uuids}
 use Rattle.sn_world.proofs.PlainEnds.{round_plain}
 use Rattle.sn_world.proofs.PlainKept.{trace_plain}
-use Rattle.sn_world.proofs.RoundLemmas.{RoundLaws, round_goes, sent_of}
+use Rattle.sn_world.proofs.RoundLemmas.{RoundLaws, rounds_go, sent_of}
 use Rattle.sn_world.specs.Answering.{Arrives, requests_in}
 use Rattle.sn_world.specs.Calls.{AreServed, Fate, Leads, rows_behind, rows_served, served}
 use Rattle.sn_world.specs.Committing.{AreDifferent}
@@ -30,7 +30,7 @@ use Rattle.sn_world.specs.Fitting.{FitsUuids}
 use Rattle.sn_world.specs.Happens.{Happens, commits}
 use Rattle.sn_world.specs.Holds.{TokensDiffer}
 use Rattle.sn_world.specs.Laws.{Keeps, SaysSome}
-use Rattle.sn_world.specs.Plain.{HoldsPlain, IsPlain, IsPlainStep, KeepsPlain}
+use Rattle.sn_world.specs.Plain.{HoldsPlain, IsPlainStep, IsPlainWorld, KeepsPlain}
 use Rattle.sn_world.specs.Rounds.{round_steps}
 use Rattle.sn_world.specs.World.{World}
 
@@ -94,7 +94,7 @@ over_round server round acts fates over =
 module _ (laws : RoundLaws) (keeps : Keeps) (says : SaysSome) (plainly : KeepsPlain) (secret : Bytes) (differ : TokensDiffer secret) (name : Bytes) where
   -- where steps that change no password lead, none is changed
   plain_then : (v : World) (t : Ideal) (server rows : Rows) (steps : List Happens) → HoldsPlain secret v t → Each IsPlainStep steps
-      → (one : Leads secret v t name steps server rows) → IsPlain one.next (end_from t one.moves)
+      → (one : Leads secret v t name steps server rows) → IsPlainWorld one.next (end_from t one.moves)
   plain_then v t server rows steps p plain one = (trace_plain plainly secret differ steps one.moves v one.next t p plain one.goes).1.plain
 
   -- ---- a posting
@@ -103,10 +103,10 @@ module _ (laws : RoundLaws) (keeps : Keeps) (says : SaysSome) (plainly : KeepsPl
     pub world : World
     pub ideal : Ideal
     pub stands : Stands secret name world ideal server rows
-    pub plain : IsPlain world ideal
+    pub plain : IsPlainWorld world ideal
 
   pub ready_at : (v : World) (t : Ideal) (server rows : Rows) (words : ChaCha) (numbers : List ℕ) (posted : List Change) → Stands secret name v t server rows
-      → IsPlain v t → PostsAll rows numbers posted → AreDifferent numbers → Ready server (rows_after rows posted)
+      → IsPlainWorld v t → PostsAll rows numbers posted → AreDifferent numbers → Ready server (rows_after rows posted)
   ready_at v t server rows words [] [] k plain all apart = record { world = v; ideal = t; stands = k; plain = plain }
   ready_at v t server rows words [] (c ∷ posted) k plain all apart = absurd all
   ready_at v t server rows words (n ∷ ns) posted k plain all apart =
@@ -125,7 +125,7 @@ module _ (laws : RoundLaws) (keeps : Keeps) (says : SaysSome) (plainly : KeepsPl
   sound_at v t server rows k = subst IsSound k.device_is (k.holds.sound name)
 
   uuids_round : (v : World) (t : Ideal) (server : Rows) (at : Standing) (round : Round) (after : Standing) → Stands secret name v t server at.rows
-      → IsPlain v t → FitsUuids at.rows → IsRound at round after → FitsUuids after.rows
+      → IsPlainWorld v t → FitsUuids at.rows → IsRound at round after → FitsUuids after.rows
   uuids_round v t server at round after k plain have is =
       let sends = is.sends in
       let apart = (sent_of laws.sends secret v t name at.rows k.holds k.device_is round.numbers round.posted round.request is.ready sends).0 in
@@ -149,13 +149,13 @@ module _ (laws : RoundLaws) (keeps : Keeps) (says : SaysSome) (plainly : KeepsPl
     pub rest : List Fate
     pub fates_are : fates ≡ met ++ rest
     pub stands : Stands secret name world ideal (rows_served server met) at.rows
-    pub plain : IsPlain world ideal
+    pub plain : IsPlainWorld world ideal
     pub have : FitsUuids at.rows
     pub over : AreServed (rows_served server met) later rest
     pub arrive : Each Arrives rest
 
   pub rounds_reach : (rounds : List Round) (at after : Standing) (later : List Act) (v : World) (t : Ideal) (server : Rows) (fates : List Fate)
-      → Stands secret name v t server at.rows → IsPlain v t → FitsUuids at.rows → AreRounds at rounds after
+      → Stands secret name v t server at.rows → IsPlainWorld v t → FitsUuids at.rows → AreRounds at rounds after
       → AreServed server (flat_map acts_of rounds ++ later) fates → Each Arrives fates → Reaches server after later fates
   rounds_reach [] at after later v t server fates k plain have same over arrive =
       let rows_are : at.rows ≡ after.rows = ap (λ (z : Standing). z.rows) (sym same) in
@@ -175,7 +175,7 @@ module _ (laws : RoundLaws) (keeps : Keeps) (says : SaysSome) (plainly : KeepsPl
       let parts : (acts_of round ++ flat_map acts_of rounds) ++ later ≡ acts_of round ++ (flat_map acts_of rounds ++ later) =
       append_assoc (acts_of round) (flat_map acts_of rounds) later in
       let a = over_round server round (flat_map acts_of rounds ++ later) fates (subst (λ (xs : List Act). AreServed server xs fates) parts over) in
-      let g = round_goes laws secret v t name at round between a.now a.changes differ k.holds a.fits k.device_is is
+      let g = rounds_go laws secret v t name at round between a.now a.changes differ k.holds a.fits k.device_is is
       (subst (λ (x : Rows). Rule x round.request a.now a.changes round.given) (sym k.server_is) a.rule) in
       let one : Leads secret v t name (round_steps name round a.now a.changes) (rows_after server a.changes) between.rows = record {
         moves = g.moves;

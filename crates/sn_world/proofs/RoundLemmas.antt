@@ -22,11 +22,11 @@ use Rattle.sn_sync.specs.declared.request.Request.{Request}
 use Rattle.sn_sync.specs.declared.request.Request.TheVariants as request
 use Rattle.sn_world.proofs.DeviceRows.{with_device, with_other, with_own}
 use Rattle.sn_world.specs.Committing.{AreDifferent, Commits}
-use Rattle.sn_world.specs.Happens.{Trace, commits, makes, serves}
+use Rattle.sn_world.specs.Happens.{Happens, Trace, commits, makes, serves}
 use Rattle.sn_world.specs.Holds.{Holds, TokensDiffer}
 use Rattle.sn_world.specs.Laws.{KeepsCommitting, KeepsMaking, KeepsServing, SaysSome, SendsArePosted, ServedTells}
 use Rattle.sn_world.specs.Making.{Makes, MakesOf, SendsTokens}
-use Rattle.sn_world.specs.Rounds.{GoesRound, RoundsGo, made_by, posting_steps}
+use Rattle.sn_world.specs.Rounds.{RoundsGo, posting_steps}
 use Rattle.sn_world.specs.Serving.{SaysServed, Serves}
 use Rattle.sn_world.specs.World.{Made, OnDevice, World}
 
@@ -47,19 +47,29 @@ changed_device w name changes = record {
   made = refl;
 }
 
+-- a device's request that would begin this set
+abbrev pub made_with : Bytes → Option KeySet → Request → Made
+made_with name begins r = record { device = name; request = r; begins = begins }
+
 -- ---- behind the posting
 
-pub record GoesOn (secret : Bytes) (name : Bytes) (w : World) (s : Ideal) (now : ℕ) (changes applied : List Change) (r : Request) (given : Answer) : Type 0 where
+-- the request is made and served at this time, which changes this, and the answer is applied
+abbrev pub asking_steps : Made → ℕ → List Change → Answer → List Change → List Happens
+asking_steps m now changes given applied =
+    makes m ∷ serves m now changes given true ∷ commits m.device (applies m.request given) applied true ∷ []
+
+pub record GoesOn (secret name : Bytes) (begins : Option KeySet) (w : World) (s : Ideal) (now : ℕ) (changes applied : List Change) (r : Request)
+    (given : Answer) : Type 0 where
   pub moves : List Move
   pub next : World
-  pub goes : Trace secret w s (makes (made_by name r) ∷ serves (made_by name r) now changes given true ∷ commits name (applies r given) applied true ∷ []) moves next
+  pub goes : Trace secret w s (asking_steps (made_with name begins r) now changes given applied) moves next
   pub server : next.server ≡ rows_after w.server changes
   pub device : next.devices name ≡ rows_after (w.devices name) applied
 
-module _ (laws : RoundLaws) (secret : Bytes) (differ : TokensDiffer secret) (name : Bytes) (w : World) (s : Ideal) (h : Holds secret w s)
-    (words left : ChaCha) (now : ℕ) (changes applied : List Change) where
+module _ (laws : RoundLaws) (secret : Bytes) (differ : TokensDiffer secret) (name : Bytes) (begins : Option KeySet) (w : World) (s : Ideal)
+    (h : Holds secret w s) (words left : ChaCha) (now : ℕ) (changes applied : List Change) where
   abbrev m : Request → Made
-  m r = made_by name r
+  m r = made_with name begins r
 
   abbrev made : Request → World
   made r = record { server = w.server; devices = w.devices; made = m r ∷ w.made }
@@ -70,9 +80,10 @@ module _ (laws : RoundLaws) (secret : Bytes) (differ : TokensDiffer secret) (nam
   abbrev last : Request → World
   last r = with_device (served r) name (rows_after (w.devices name) applied)
 
-  pub goes_on : (r : Request) (given : Answer) → FitsRequest r → MakesOf (w.devices name) None r → AreApart (uuids (items_of r)) → SendsTokens (w.devices name) r → Rule w.server r now changes given
-      → Step (w.devices name) words (applies r given) applied left → GoesOn secret name w s now changes applied r given
-  goes_on (request.Sync token items limit sync_token cursor_token) (answer.Sync conflicts cursor retrieved saved next_token) fits makes_it apart tokens rule step =
+  pub goes_on_applied : (r : Request) (given : Answer) → FitsRequest r → MakesOf (w.devices name) begins r → AreApart (uuids (items_of r))
+      → SendsTokens (w.devices name) r → Rule w.server r now changes given → Step (w.devices name) words (applies r given) applied left
+      → GoesOn secret name begins w s now changes applied r given
+  goes_on_applied (request.Sync token items limit sync_token cursor_token) (answer.Sync conflicts cursor retrieved saved next_token) fits makes_it apart tokens rule step =
       let r : Request = request.Sync token items limit sync_token cursor_token in
       let given : Answer = answer.Sync conflicts cursor retrieved saved next_token in
       let makes_so : Makes w (made r) (m r) = record { of = makes_it; server = refl; devices = refl; made = refl } in
@@ -121,13 +132,13 @@ module _ (laws : RoundLaws) (secret : Bytes) (differ : TokensDiffer secret) (nam
           refl,
         );
       }
-  goes_on (request.Sync token items limit sync_token cursor_token) (answer.Account other identifier uuid) fits makes_it apart tokens rule step = absurd step
-  goes_on (request.Sync token items limit sync_token cursor_token) (answer.Params params) fits makes_it apart tokens rule step = absurd step
-  goes_on (request.Sync token items limit sync_token cursor_token) (answer.Refused status tag more) fits makes_it apart tokens rule step = absurd step
-  goes_on (request.Register params pw) given fits makes_it apart tokens rule step = absurd step
-  goes_on (request.Params identifier) given fits makes_it apart tokens rule step = absurd step
-  goes_on (request.SignIn identifier pw) given fits makes_it apart tokens rule step = absurd step
-  goes_on (request.ChangePw token current pw cost nonce) given fits makes_it apart tokens rule step = absurd step
+  goes_on_applied (request.Sync token items limit sync_token cursor_token) (answer.Account other identifier uuid) fits makes_it apart tokens rule step = absurd step
+  goes_on_applied (request.Sync token items limit sync_token cursor_token) (answer.Params params) fits makes_it apart tokens rule step = absurd step
+  goes_on_applied (request.Sync token items limit sync_token cursor_token) (answer.Refused status tag more) fits makes_it apart tokens rule step = absurd step
+  goes_on_applied (request.Register params pw) given fits makes_it apart tokens rule step = absurd step
+  goes_on_applied (request.Params identifier) given fits makes_it apart tokens rule step = absurd step
+  goes_on_applied (request.SignIn identifier pw) given fits makes_it apart tokens rule step = absurd step
+  goes_on_applied (request.ChangePw token current pw cost nonce) given fits makes_it apart tokens rule step = absurd step
 
 -- ---- a round
 
@@ -142,9 +153,24 @@ pub sent_of : SendsArePosted → (secret : Bytes) (w : World) (s : Ideal) (name 
 sent_of are_posted secret w s name rows h rows_are numbers posted r ready sends =
     are_posted rows numbers posted r ready (subst (λ (r : Rows). IsSound r) rows_are (h.sound name)) sends
 
-module _ (laws : RoundLaws) (secret : Bytes) (w : World) (s : Ideal) (name : Bytes) (at : Standing) (round : Round) (after : Standing) (now : ℕ)
-    (changes : List Change) (differ : TokensDiffer secret) (h : Holds secret w s) (fits : FitsRequest round.request) (rows_are : w.devices name ≡ at.rows)
-    (x : IsRound at round after)
+-- the steps of a round whose request would begin this set
+abbrev pub round_steps_with : Bytes → Option KeySet → Round → ℕ → List Change → List Happens
+round_steps_with name begins round now changes =
+    posting_steps name round.numbers round.posted
+    ++ asking_steps (made_with name begins round.request) now changes round.given round.applied
+
+-- the rows of the device and of the server are those after the round, whichever set its request would begin
+pub record GoesRoundBy (secret : Bytes) (w : World) (s : Ideal) (name : Bytes) (begins : Option KeySet) (round : Round) (after : Standing) (now : ℕ)
+    (changes : List Change) : Type 0 where
+  pub moves : List Move
+  pub next : World
+  pub goes : Trace secret w s (round_steps_with name begins round now changes) moves next
+  pub server : next.server ≡ rows_after w.server changes
+  pub device : next.devices name ≡ after.rows
+
+module _ (laws : RoundLaws) (secret : Bytes) (w : World) (s : Ideal) (name : Bytes) (begins : Option KeySet) (at : Standing) (round : Round)
+    (after : Standing) (now : ℕ) (changes : List Change) (differ : TokensDiffer secret) (h : Holds secret w s)
+    (fits : FitsRequest round.request) (rows_are : w.devices name ≡ at.rows) (x : IsRound at round after)
     (rule : Rule w.server round.request now changes round.given) where
   ready_is : x.ready ≡ rows_after at.rows round.posted
   ready_is = x.sends.ready_is
@@ -155,10 +181,10 @@ module _ (laws : RoundLaws) (secret : Bytes) (w : World) (s : Ideal) (name : Byt
 
   -- from the rows that the posting leaves
   behind : (v : World) (t : Ideal) → Holds secret v t → v.server ≡ w.server → v.devices name ≡ x.ready
-      → GoesOn secret name v t now changes round.applied round.request round.given
+      → GoesOn secret name begins v t now changes round.applied round.request round.given
   behind v t k server device =
-      goes_on laws secret differ name v t k at.words x.left now changes round.applied round.request round.given fits
-      (subst (λ (r : Rows). MakesOf r None round.request) (sym device) (sends.1 None)) sends.2
+      goes_on_applied laws secret differ name begins v t k at.words x.left now changes round.applied round.request round.given fits
+      (subst (λ (r : Rows). MakesOf r begins round.request) (sym device) (sends.1 begins)) sends.2
       (subst (λ (r : Rows). SendsTokens r round.request) (sym device) sends.3)
       (subst (λ (r : Rows). Rule r round.request now changes round.given) (sym server) rule)
       (subst (λ (r : Rows). Step r at.words (applies round.request round.given) round.applied x.left) (sym device) x.step)
@@ -168,8 +194,7 @@ module _ (laws : RoundLaws) (secret : Bytes) (w : World) (s : Ideal) (name : Byt
 
   by_numbers : (numbers : List ℕ) → round.numbers ≡ numbers
       → (moves : List Move) × (next : World) × Trace secret w s (posting_steps name numbers round.posted
-      ++ makes (made_by name round.request) ∷ serves (made_by name round.request) now changes round.given true
-      ∷ commits name (applies round.request round.given) round.applied true ∷ []) moves next
+      ++ asking_steps (made_with name begins round.request) now changes round.given round.applied) moves next
       × (next.server ≡ rows_after w.server changes) × (next.devices name ≡ after.rows)
   by_numbers [] is =
       let none : round.posted ≡ [] = posted_none at.rows round.posted (subst (λ (ns : List ℕ). PostsAll at.rows ns round.posted) is x.sends.posts_them) in
@@ -195,9 +220,11 @@ module _ (laws : RoundLaws) (secret : Bytes) (w : World) (s : Ideal) (name : Byt
         rows_then v device g.next g.device,
       )
 
-  pub round_goes : GoesRound secret w s name round after now changes
+  pub round_goes : GoesRoundBy secret w s name begins round after now changes
   round_goes = let g = by_numbers round.numbers refl in record { moves = g.0; next = g.1; goes = g.2; server = g.3; device = g.4 }
 
+-- a round whose request begins none
 pub rounds_go : RoundLaws → RoundsGo
 rounds_go laws secret w s name at round after now changes differ h fits rows_are x rule =
-    round_goes laws secret w s name at round after now changes differ h fits rows_are x rule
+    let g = round_goes laws secret w s name None at round after now changes differ h fits rows_are x rule in
+    record { moves = g.moves; next = g.next; goes = g.goes; server = g.server; device = g.device }

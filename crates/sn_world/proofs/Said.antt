@@ -53,13 +53,13 @@ deletion_said rows name uuid changes x =
     (λ (kept : ¬ (IsUnknown x.local) × PutsColumns x.change x.number (drafted (Some row.Deleted) (columns x.local))).
     (Edit name uuid x.local.kind x.local.base content.Deleted ∷ [], (x.number, x.local, x.stands, inr (kept.0, refl)))) x.change_is
 
--- what was sent is sent again of just the items of which it may still be accepted
+-- what was sent is sent again of just the items of which that is so
 adoption_said : AccountsApart → (secret : Bytes) (w : World) (s : Ideal) → Holds secret w s → (name : Bytes) (words left : ChaCha) (set : KeySet) (token : Bytes)
     (changes : List Change) → Adopts (w.devices name) words set token changes left → MayAdopt secret s name set token
     → (moves : List Move) × SaysAdoption (w.devices name) s name moves
 adoption_said apart secret w s h name words left set token changes x may =
     let has = device_account apart secret w s h name may.number may.account may.device may.at may.named may.own in
-    let again = reposted_of s may.account x.items in (
+    let again = reposted_of may.account x.items in (
       _,
       record {
         device = may.device;

@@ -1,5 +1,5 @@
 -- An item of a sync that is accepted, as one version more.
-use Rattle.std.proofs.Common.{◌≡◌, ℕ, List, [], ◌∷◌, ◌++◌, length, Option, Some, refl, sym, ap, ◌∙◌, subst, inl, ⊎_elim, ◌≤◌}
+use Rattle.std.proofs.Common.{◌≡◌, ℕ, List, [], ◌∷◌, ◌++◌, length, Option, Some, refl, sym, ap, ◌∙◌, subst, inl, ◌≤◌}
 use Rattle.std.specs.Prelude.{IsTrue}
 use Rattle.sn_account.specs.Incoming.{IsFree, Progress, stamp_of}
 use Rattle.sn_account.specs.Incoming.{PutsVersion as RulePuts}
@@ -8,7 +8,6 @@ use Rattle.sn_changed.specs.Laws.{ChangeServed, RewrapTaken}
 use Rattle.sn_changed.specs.Leaves.{ChangeLasts, ChangeLeaves, ChangeOnLast, ItemOwner, OnlyBecomes, RewrapLeaves, VersionLasts, VersionOnLast, with_version}
 use Rattle.sn_changed.specs.Sessions.{ChangeSessions, ChangeSpares}
 use Rattle.sn_laws.proofs.Facts.{end_from-append}
-use Rattle.sn_laws.specs.Each.{Each, One}
 use Rattle.sn_laws.specs.Lookups.{Bytes, draft_at, empty, is_account}
 use Rattle.sn_laws.specs.Moves.{accepted, after, allows, changed_where, version_of}
 use Rattle.sn_laws.specs.Runs.{LegalFrom, end_from}
@@ -51,10 +50,6 @@ reached_more s m r h = record {
   legal = legal_more empty r.moves m r.legal (subst (λ (t : Ideal). IsTrue (allows t m)) r.is h);
   is = ap (λ (t : Ideal). after t m) r.is ∙ sym (end_from-append empty r.moves (m ∷ []));
 }
-
-pub each_of : (P : Version → Type 0) (vs : List Version) (w : Version) → Each P vs → One (λ (y : Version). y ≡ w) vs → P w
-each_of P [] w each one = absurd one
-each_of P (v ∷ vs) w each one = ⊎_elim (λ (e : v ≡ w). subst P e each.0) (λ rest. each_of P vs w each.1 rest) one
 
 -- the laws of the crates below, as their functions say them
 pub record Below : Type 0 where

@@ -23,36 +23,35 @@ use Rattle.sn_sync.specs.declared.request.Request.{Request}
 use Rattle.sn_world.proofs.AskLemmas.{ask_leads, is_answered}
 use Rattle.sn_world.proofs.CallLemmas.{Goes, Stands, answers_goes, broken_leads, commit_leads, leads_on, leads_to_on, refused_here, refuses_goes, stands_then, stops_goes}
 use Rattle.sn_world.proofs.PresentSets.{unasked}
-use Rattle.sn_world.proofs.RoundLemmas.{RoundLaws, goes_on, round_goes, sent_of}
-use Rattle.sn_world.specs.Calls.{AreServed, Fate, IsServed, Leads, LeadsTo, SyncsGo, call_steps, rows_behind, rows_served, served}
+use Rattle.sn_world.proofs.RoundLemmas.{RoundLaws, goes_on_applied, round_goes, round_steps_with, sent_of}
+use Rattle.sn_world.specs.Calls.{AreServed, Fate, IsServed, Leads, LeadsTo, SyncsGo, begins_none, call_steps, rows_behind, rows_served, served}
 use Rattle.sn_world.specs.Committing.{AreDifferent}
 use Rattle.sn_world.specs.Happens.{Happens, commits}
 use Rattle.sn_world.specs.Holds.{Holds, TokensDiffer}
 use Rattle.sn_world.specs.Laws.{Keeps, SaysSome}
 use Rattle.sn_world.specs.Making.{MakesOf, SendsTokens}
 use Rattle.sn_world.specs.Plain.{AsksNoSet}
-use Rattle.sn_world.specs.Rounds.{round_steps}
 use Rattle.sn_world.specs.World.{World}
 
 -- ---- lists of acts
 
 -- the posting asks for nothing
-over_posting : (server : Rows) (numbers : List ℕ) (posted : List Change) (acts : List Act) (fates : List Fate)
+pub over_posting : (server : Rows) (numbers : List ℕ) (posted : List Change) (acts : List Act) (fates : List Fate)
     → AreServed server (posting numbers posted ++ acts) fates → AreServed server acts fates
 over_posting server [] posted acts fates over = over
 over_posting server (n ∷ ns) posted acts fates over = over
 
 -- a round: its request is answered
-record RoundServed (server : Rows) (r : Request) (given : Answer) (acts : List Act) (fates : List Fate) : Type 0 where
-  now : ℕ
-  changes : List Change
-  later : List Fate
-  fates_are : fates ≡ served now changes given true ∷ later
-  fits : FitsRequest r
-  rule : Rule server r now changes given
-  over : AreServed (rows_after server changes) acts later
+pub record RoundServed (server : Rows) (r : Request) (given : Answer) (acts : List Act) (fates : List Fate) : Type 0 where
+  pub now : ℕ
+  pub changes : List Change
+  pub later : List Fate
+  pub fates_are : fates ≡ served now changes given true ∷ later
+  pub fits : FitsRequest r
+  pub rule : Rule server r now changes given
+  pub over : AreServed (rows_after server changes) acts later
 
-round_served : (server : Rows) (r : Request) (given : Answer) (applied : List Change) (acts : List Act) (fates : List Fate)
+pub round_served : (server : Rows) (r : Request) (given : Answer) (applied : List Change) (acts : List Act) (fates : List Fate)
     → AreServed server (asked r (said given) ∷ committed (applies r given) applied ∷ acts) fates → RoundServed server r given acts fates
 round_served server r given applied acts [] over = absurd over
 round_served server r given applied acts (fate ∷ fates) (one, others) =
@@ -67,22 +66,22 @@ round_served server r given applied acts (fate ∷ fates) (one, others) =
       over = subst (λ (f : Fate). AreServed (rows_behind server f) acts fates) a.fate_is others;
     }
 
-abbrev round_of : List ℕ → List Change → Request → Answer → List Change → Round
+abbrev pub round_of : List ℕ → List Change → Request → Answer → List Change → Round
 round_of numbers posted r given applied = record { numbers = numbers; posted = posted; request = r; given = given; applied = applied }
 
-over_round : (server : Rows) (numbers : List ℕ) (posted : List Change) (r : Request) (given : Answer) (applied : List Change) (acts : List Act) (fates : List Fate)
+pub over_round : (server : Rows) (numbers : List ℕ) (posted : List Change) (r : Request) (given : Answer) (applied : List Change) (acts : List Act) (fates : List Fate)
     → AreServed server (acts_of (round_of numbers posted r given applied) ++ acts) fates → RoundServed server r given acts fates
 over_round server [] posted r given applied acts fates over = round_served server r given applied acts fates over
 over_round server (n ∷ ns) posted r given applied acts fates over = round_served server r given applied acts fates over
 
-steps_of_round : (name : Bytes) (numbers : List ℕ) (posted : List Change) (r : Request) (given : Answer) (applied : List Change) (acts : List Act)
-    (now : ℕ) (changes : List Change) (later : List Fate)
-    → round_steps name (round_of numbers posted r given applied) now changes ++ call_steps name None acts later
-    ≡ call_steps name None (acts_of (round_of numbers posted r given applied) ++ acts) (served now changes given true ∷ later)
-steps_of_round name [] posted r given applied acts now changes later = refl
-steps_of_round name (n ∷ ns) posted r given applied acts now changes later = refl
+pub steps_of_round : (name : Bytes) (begins : Request → Option KeySet) (numbers : List ℕ) (posted : List Change) (r : Request) (given : Answer)
+    (applied : List Change) (acts : List Act) (now : ℕ) (changes : List Change) (later : List Fate)
+    → round_steps_with name (begins r) (round_of numbers posted r given applied) now changes ++ call_steps name begins acts later
+    ≡ call_steps name begins (acts_of (round_of numbers posted r given applied) ++ acts) (served now changes given true ∷ later)
+steps_of_round name begins [] posted r given applied acts now changes later = refl
+steps_of_round name begins (n ∷ ns) posted r given applied acts now changes later = refl
 
-rows_of_round : (rows : Rows) (numbers : List ℕ) (posted : List Change) (r : Request) (given : Answer) (applied : List Change) (acts : List Act)
+pub rows_of_round : (rows : Rows) (numbers : List ℕ) (posted : List Change) (r : Request) (given : Answer) (applied : List Change) (acts : List Act)
     → PostsAll rows numbers posted
     → rows_done (rows_after (rows_after rows posted) applied) acts ≡ rows_done rows (acts_of (round_of numbers posted r given applied) ++ acts)
 rows_of_round rows [] [] r given applied acts all = refl
@@ -96,45 +95,46 @@ rows_over at round after acts is =
     ap (λ (z : Standing). rows_done z.rows acts) is.after_is ∙ ap (λ (x : Rows). rows_done (rows_after x round.applied) acts) is.sends.ready_is
     ∙ rows_of_round at.rows round.numbers round.posted round.request round.given round.applied acts is.sends.posts_them
 
-module _ (laws : RoundLaws) (keeps : Keeps) (says : SaysSome) (secret : Bytes) (differ : TokensDiffer secret) (name : Bytes) where
+module _ (laws : RoundLaws) (keeps : Keeps) (says : SaysSome) (secret : Bytes) (differ : TokensDiffer secret) (name : Bytes)
+    (begins : Request → Option KeySet) where
   -- ---- an exchange that ends the call
 
   -- what is done behind these acts, wherever they lead
-  abbrev On : Rows → Rows → List Act → List Fate → Halt → Type 0
-  On server rows acts fates halt = (v : World) (t : Ideal) → Stands secret name v t server rows → Goes secret name None v t server rows acts fates halt
+  abbrev pub GoesOver : Rows → Rows → List Act → List Fate → Halt → Type 0
+  GoesOver server rows acts fates halt = (v : World) (t : Ideal) → Stands secret name v t server rows → Goes secret name begins v t server rows acts fates halt
 
-  posting_goes : (v : World) (t : Ideal) (server rows : Rows) (words : ChaCha) (numbers : List ℕ) (posted : List Change) (acts : List Act) (fates : List Fate)
-      (halt : Halt) → Stands secret name v t server rows → PostsAll rows numbers posted → AreDifferent numbers → On server (rows_after rows posted) acts fates halt
-      → Goes secret name None v t server rows (posting numbers posted ++ acts) fates halt
+  pub posting_goes : (v : World) (t : Ideal) (server rows : Rows) (words : ChaCha) (numbers : List ℕ) (posted : List Change) (acts : List Act) (fates : List Fate)
+      (halt : Halt) → Stands secret name v t server rows → PostsAll rows numbers posted → AreDifferent numbers → GoesOver server (rows_after rows posted) acts fates halt
+      → Goes secret name begins v t server rows (posting numbers posted ++ acts) fates halt
   posting_goes v t server rows words [] [] acts fates halt k all apart on = on v t k
   posting_goes v t server rows words [] (c ∷ posted) acts fates halt k all apart on = absurd all
   posting_goes v t server rows words (n ∷ ns) posted acts fates halt k all apart on =
       let one = commit_leads keeps says secret differ name v t server rows words words (posts (n ∷ ns)) posted k (all, refl) apart in
-      leads_to_on keeps says secret differ name v t (commits name (posts (n ∷ ns)) posted true ∷ []) (call_steps name None acts fates) server
+      leads_to_on keeps says secret differ name v t (commits name (posts (n ∷ ns)) posted true ∷ []) (call_steps name begins acts fates) server
       (rows_after rows posted) (rows_served server fates) (rows_done (rows_after rows posted) acts) halt one
       (on one.next (end_from t one.moves) (stands_then keeps says secret differ name v t (commits name (posts (n ∷ ns)) posted true ∷ []) server
       (rows_after rows posted) k.holds one))
 
   -- behind its request
   module _ (v : World) (t : Ideal) (server ready : Rows) (words : ChaCha) (r : Request) (reply : Reply) (fate : Fate) (k : Stands secret name v t server ready)
-      (of : MakesOf ready None r) (apart : AreApart (uuids (items_of r))) (tokens : SendsTokens ready r) (over : IsServed server r reply fate) where
-    asked_leads : Leads secret v t name (call_steps name None (asked r reply ∷ []) (fate ∷ [])) (rows_behind server fate) ready
-    asked_leads = ask_leads keeps says secret differ name None v t server ready k r of reply fate over
+      (of : MakesOf ready (begins r) r) (apart : AreApart (uuids (items_of r))) (tokens : SendsTokens ready r) (over : IsServed server r reply fate) where
+    pub asked_leads : Leads secret v t name (call_steps name begins (asked r reply ∷ []) (fate ∷ [])) (rows_behind server fate) ready
+    asked_leads = ask_leads keeps says secret differ name begins v t server ready k r of reply fate over
 
-    abbrev Behind : Halt → Type 0
-    Behind halt = Goes secret name None v t server ready (asked r reply ∷ []) (fate ∷ []) halt
+    abbrev pub AskedGoes : Halt → Type 0
+    AskedGoes halt = Goes secret name begins v t server ready (asked r reply ∷ []) (fate ∷ []) halt
 
     -- the answer is applied
-    applied_leads : (given : Answer) (changes : List Change) (left : ChaCha) → reply ≡ said given → Step ready words (applies r given) changes left
-        → Leads secret v t name (call_steps name None (asked r reply ∷ []) (fate ∷ []) ++ commits name (applies r given) changes true ∷ [])
+    pub applied_leads : (given : Answer) (changes : List Change) (left : ChaCha) → reply ≡ said given → Step ready words (applies r given) changes left
+        → Leads secret v t name (call_steps name begins (asked r reply ∷ []) (fate ∷ []) ++ commits name (applies r given) changes true ∷ [])
         (rows_behind server fate) (rows_after ready changes)
     applied_leads given changes left is step =
         let a = is_answered server r given reply fate is over in
-        let g = goes_on laws secret differ name v t k.holds words left a.now a.changes changes r given a.fits
-        (subst (λ (x : Rows). MakesOf x None r) (sym k.device_is) of) apart (subst (λ (x : Rows). SendsTokens x r) (sym k.device_is) tokens)
+        let g = goes_on_applied laws secret differ name (begins r) v t k.holds words left a.now a.changes changes r given a.fits
+        (subst (λ (x : Rows). MakesOf x (begins r) r) (sym k.device_is) of) apart (subst (λ (x : Rows). SendsTokens x r) (sym k.device_is) tokens)
         (subst (λ (x : Rows). Rule x r a.now a.changes given) (sym k.server_is) a.rule)
         (subst (λ (x : Rows). Step x words (applies r given) changes left) (sym k.device_is) step) in
-        subst (λ (f : Fate). Leads secret v t name (call_steps name None (asked r reply ∷ []) (f ∷ []) ++ commits name (applies r given) changes true ∷ [])
+        subst (λ (f : Fate). Leads secret v t name (call_steps name begins (asked r reply ∷ []) (f ∷ []) ++ commits name (applies r given) changes true ∷ [])
         (rows_behind server f) (rows_after ready changes)) (sym a.fate_is)
         (record {
           moves = g.moves;
@@ -145,108 +145,109 @@ module _ (laws : RoundLaws) (keeps : Keeps) (says : SaysSome) (secret : Bytes) (
         })
 
     -- its commit isn't made
-    not_applied : (given : Answer) (changes : List Change) → Leads secret v t name
-        (call_steps name None (asked r reply ∷ []) (fate ∷ []) ++ commits name (applies r given) changes false ∷ []) (rows_behind server fate) ready
+    pub not_applied : (given : Answer) (changes : List Change) → Leads secret v t name
+        (call_steps name begins (asked r reply ∷ []) (fate ∷ []) ++ commits name (applies r given) changes false ∷ []) (rows_behind server fate) ready
     not_applied given changes =
-        leads_on keeps says secret differ name v t (call_steps name None (asked r reply ∷ []) (fate ∷ [])) (commits name (applies r given) changes false ∷ [])
+        leads_on keeps says secret differ name v t (call_steps name begins (asked r reply ∷ []) (fate ∷ [])) (commits name (applies r given) changes false ∷ [])
         (rows_behind server fate) ready (rows_behind server fate) ready asked_leads
         (broken_leads keeps says secret differ name asked_leads.next (end_from t asked_leads.moves) (rows_behind server fate) ready (applies r given) changes
-        (stands_then keeps says secret differ name v t (call_steps name None (asked r reply ∷ []) (fate ∷ [])) (rows_behind server fate) ready k.holds asked_leads))
+        (stands_then keeps says secret differ name v t (call_steps name begins (asked r reply ∷ []) (fate ∷ [])) (rows_behind server fate) ready k.holds asked_leads))
 
-    behind_goes : (halt : Halt) → EndsBehind ready words r reply halt → Behind halt
-    behind_goes halt (inl (why, fails, is)) = subst Behind (sym is) asked_leads
-    behind_goes halt (inr (inl is)) = subst Behind (sym is) asked_leads
-    behind_goes halt (inr (inr (given, said_so, inl (why, unapplied, is)))) = subst Behind (sym is) asked_leads
+    pub behind_goes : (halt : Halt) → EndsBehind ready words r reply halt → AskedGoes halt
+    behind_goes halt (inl (why, fails, is)) = subst AskedGoes (sym is) asked_leads
+    behind_goes halt (inr (inl is)) = subst AskedGoes (sym is) asked_leads
+    behind_goes halt (inr (inr (given, said_so, inl (why, unapplied, is)))) = subst AskedGoes (sym is) asked_leads
     behind_goes halt (inr (inr (given, said_so, inr (changes, left, step, inl (batch, is))))) =
-        subst Behind (sym is) (applied_leads given changes left said_so step, not_applied given changes)
-    behind_goes halt (inr (inr (given, said_so, inr (changes, left, step, inr (inl (large, is)))))) = subst Behind (sym is) asked_leads
-    behind_goes halt (inr (inr (given, said_so, inr (changes, left, step, inr (inr is))))) = subst Behind (sym is) asked_leads
+        subst AskedGoes (sym is) (applied_leads given changes left said_so step, not_applied given changes)
+    behind_goes halt (inr (inr (given, said_so, inr (changes, left, step, inr (inl (large, is)))))) = subst AskedGoes (sym is) asked_leads
+    behind_goes halt (inr (inr (given, said_so, inr (changes, left, step, inr (inr is))))) = subst AskedGoes (sym is) asked_leads
 
-  last_goes : (v : World) (t : Ideal) (server ready : Rows) (words : ChaCha) (r : Request) (reply : Reply) (fates : List Fate) (halt : Halt)
-      → Stands secret name v t server ready → MakesOf ready None r → AreApart (uuids (items_of r)) → SendsTokens ready r → AreServed server (asked r reply ∷ []) fates
-      → EndsBehind ready words r reply halt → Goes secret name None v t server ready (asked r reply ∷ []) fates halt
+  pub last_goes : (v : World) (t : Ideal) (server ready : Rows) (words : ChaCha) (r : Request) (reply : Reply) (fates : List Fate) (halt : Halt)
+      → Stands secret name v t server ready → MakesOf ready (begins r) r → AreApart (uuids (items_of r)) → SendsTokens ready r → AreServed server (asked r reply ∷ []) fates
+      → EndsBehind ready words r reply halt → Goes secret name begins v t server ready (asked r reply ∷ []) fates halt
   last_goes v t server ready words r reply [] halt k of apart tokens over ends = absurd over
   last_goes v t server ready words r reply (fate ∷ fates) halt k of apart tokens (one, none) ends =
-      subst (λ (fs : List Fate). Goes secret name None v t server ready (asked r reply ∷ []) (fate ∷ fs) halt) (sym none)
+      subst (λ (fs : List Fate). Goes secret name begins v t server ready (asked r reply ∷ []) (fate ∷ fs) halt) (sym none)
       (behind_goes v t server ready words r reply fate k of apart tokens one halt ends)
 
   module _ (v : World) (t : Ideal) (server rows : Rows) (words : ChaCha) (fates : List Fate) (halt : Halt) (k : Stands secret name v t server rows)
       (numbers : List ℕ) (posted : List Change) (r : Request) (ready : Rows) (sends : Sends rows numbers posted r ready) where
-    so : AreDifferent numbers × ((begins : Option KeySet) → MakesOf ready begins r) × AreApart (uuids (items_of r)) × SendsTokens ready r
-    so = sent_of laws.sends secret v t name rows k.holds k.device_is numbers posted r ready sends
+    pub sends_so : AreDifferent numbers × ((set : Option KeySet) → MakesOf ready set r) × AreApart (uuids (items_of r)) × SendsTokens ready r
+    sends_so = sent_of laws.sends secret v t name rows k.holds k.device_is numbers posted r ready sends
 
-    exchange_goes : (acts : List Act) → EndsExchange words numbers posted r ready acts halt → AreServed server acts fates
-        → Goes secret name None v t server rows acts fates halt
+    pub exchange_goes : (acts : List Act) → EndsExchange words numbers posted r ready acts halt → AreServed server acts fates
+        → Goes secret name begins v t server rows acts fates halt
     exchange_goes acts (inl (some, none, stops)) over =
-        stops_goes keeps says secret differ name None v t server rows acts fates halt words words (posts numbers) posted k (sends.posts_them, refl) so.0 none
+        stops_goes keeps says secret differ name begins v t server rows acts fates halt words words (posts numbers) posted k (sends.posts_them, refl) sends_so.0 none
         stops over
     exchange_goes acts (inr (batch, inl (is, ends))) over =
         let as_posted : posting numbers posted ++ [] ≡ acts = append-nil (posting numbers posted) ∙ sym is in
         let beyond : AreServed server [] fates =
         over_posting server numbers posted [] fates (subst (λ (xs : List Act). AreServed server xs fates) (sym as_posted) over) in
-        subst (λ (xs : List Act). Goes secret name None v t server rows xs fates halt) as_posted
-        (posting_goes v t server rows words numbers posted [] fates halt k sends.posts_them so.0
-        (λ x u z. refuses_goes keeps says secret differ name None x u server (rows_after rows posted) [] fates halt refusal.Memory z (refl, ends) beyond))
+        subst (λ (xs : List Act). Goes secret name begins v t server rows xs fates halt) as_posted
+        (posting_goes v t server rows words numbers posted [] fates halt k sends.posts_them sends_so.0
+        (λ x u z. refuses_goes keeps says secret differ name begins x u server (rows_after rows posted) [] fates halt refusal.Memory z (refl, ends) beyond))
     exchange_goes acts (inr (batch, inr (reply, is, ends))) over =
         let beyond : AreServed server (asked r reply ∷ []) fates =
         over_posting server numbers posted (asked r reply ∷ []) fates (subst (λ (xs : List Act). AreServed server xs fates) is over) in
         let ready_is : ready ≡ rows_after rows posted = sends.ready_is in
-        subst (λ (xs : List Act). Goes secret name None v t server rows xs fates halt) (sym is)
-        (posting_goes v t server rows words numbers posted (asked r reply ∷ []) fates halt k sends.posts_them so.0
-        (λ x u z. last_goes x u server (rows_after rows posted) words r reply fates halt z (subst (λ (y : Rows). MakesOf y None r) ready_is (so.1 None)) so.2 (subst (λ (y : Rows). SendsTokens y r) ready_is so.3)
+        subst (λ (xs : List Act). Goes secret name begins v t server rows xs fates halt) (sym is)
+        (posting_goes v t server rows words numbers posted (asked r reply ∷ []) fates halt k sends.posts_them sends_so.0
+        (λ x u z. last_goes x u server (rows_after rows posted) words r reply fates halt z (subst (λ (y : Rows). MakesOf y (begins r) r) ready_is (sends_so.1 (begins r))) sends_so.2 (subst (λ (y : Rows). SendsTokens y r) ready_is sends_so.3)
         beyond (subst (λ (y : Rows). EndsBehind y words r reply halt) ready_is ends)))
 
-  end_goes : (v : World) (t : Ideal) (server : Rows) (count : ℕ) (at : Standing) (acts : List Act) (fates : List Fate) (halt : Halt)
+  pub end_goes : (v : World) (t : Ideal) (server : Rows) (count : ℕ) (at : Standing) (acts : List Act) (fates : List Fate) (halt : Halt)
       → Stands secret name v t server at.rows → EndsAlone count at acts halt → AreServed server acts fates
-      → Goes secret name None v t server at.rows acts fates halt
+      → Goes secret name begins v t server at.rows acts fates halt
   end_goes v t server count at acts fates halt k (inl (done, none, is)) over =
-      answers_goes keeps says secret differ name None v t server at.rows acts fates halt nothing at.words k none is over
+      answers_goes keeps says secret differ name begins v t server at.rows acts fates halt nothing at.words k none is over
   end_goes v t server count at acts fates halt k (inr (inl (all, due, refuses))) over =
-      refuses_goes keeps says secret differ name None v t server at.rows acts fates halt refusal.RoundsUsed k refuses over
+      refuses_goes keeps says secret differ name begins v t server at.rows acts fates halt refusal.RoundsUsed k refuses over
   end_goes v t server count at acts fates halt k (inr (inr (inl (few, ends)))) over =
       exchange_goes v t server at.rows at.words fates halt k ends.numbers ends.posted ends.request ends.ready ends.sends acts ends.ends_so over
   end_goes v t server count at acts fates halt k (inr (inr (inr wants))) over =
-      refuses_goes keeps says secret differ name None v t server at.rows acts fates halt refusal.Memory k wants over
+      refuses_goes keeps says secret differ name begins v t server at.rows acts fates halt refusal.Memory k wants over
 
   -- ---- rounds
 
   -- what is done behind a round, over whatever rows it leaves the server
-  abbrev Later : Rows → List Act → Halt → Type 0
-  Later rows acts halt = (v : World) (t : Ideal) (server : Rows) (fates : List Fate) → Stands secret name v t server rows → AreServed server acts fates
-      → Goes secret name None v t server rows acts fates halt
+  abbrev pub GoesLater : Rows → List Act → Halt → Type 0
+  GoesLater rows acts halt = (v : World) (t : Ideal) (server : Rows) (fates : List Fate) → Stands secret name v t server rows → AreServed server acts fates
+      → Goes secret name begins v t server rows acts fates halt
 
-  one_round : (v : World) (t : Ideal) (server : Rows) (at : Standing) (round : Round) (after : Standing) (acts : List Act) (fates : List Fate) (halt : Halt)
-      → Stands secret name v t server at.rows → IsRound at round after → AreServed server (acts_of round ++ acts) fates → Later after.rows acts halt
-      → Goes secret name None v t server at.rows (acts_of round ++ acts) fates halt
+  pub one_round : (v : World) (t : Ideal) (server : Rows) (at : Standing) (round : Round) (after : Standing) (acts : List Act) (fates : List Fate) (halt : Halt)
+      → Stands secret name v t server at.rows → IsRound at round after → AreServed server (acts_of round ++ acts) fates → GoesLater after.rows acts halt
+      → Goes secret name begins v t server at.rows (acts_of round ++ acts) fates halt
   one_round v t server at round after acts fates halt k is over on =
       let a = over_round server round.numbers round.posted round.request round.given round.applied acts fates over in
-      let g = round_goes laws secret v t name at round after a.now a.changes differ k.holds a.fits k.device_is is
+      let g = round_goes laws secret v t name (begins round.request) at round after a.now a.changes differ k.holds a.fits k.device_is is
       (subst (λ (x : Rows). Rule x round.request a.now a.changes round.given) (sym k.server_is) a.rule) in
-      let one : Leads secret v t name (round_steps name round a.now a.changes) (rows_after server a.changes) after.rows = record {
+      let one : Leads secret v t name (round_steps_with name (begins round.request) round a.now a.changes) (rows_after server a.changes) after.rows = record {
         moves = g.moves;
         next = g.next;
         goes = g.goes;
         server_is = g.server ∙ ap (λ (x : Rows). rows_after x a.changes) k.server_is;
         device_is = g.device;
       } in
-      let then_stands = stands_then keeps says secret differ name v t (round_steps name round a.now a.changes) (rows_after server a.changes) after.rows k.holds one in
-      let all : LeadsTo secret v t name (round_steps name round a.now a.changes ++ call_steps name None acts a.later)
+      let own : List Happens = round_steps_with name (begins round.request) round a.now a.changes in
+      let then_stands = stands_then keeps says secret differ name v t own (rows_after server a.changes) after.rows k.holds one in
+      let all : LeadsTo secret v t name (own ++ call_steps name begins acts a.later)
       (rows_served (rows_after server a.changes) a.later) (rows_done after.rows acts) halt =
-      leads_to_on keeps says secret differ name v t (round_steps name round a.now a.changes) (call_steps name None acts a.later) (rows_after server a.changes)
+      leads_to_on keeps says secret differ name v t own (call_steps name begins acts a.later) (rows_after server a.changes)
       after.rows (rows_served (rows_after server a.changes) a.later) (rows_done after.rows acts) halt one
       (on one.next (end_from t one.moves) (rows_after server a.changes) a.later then_stands a.over) in
-      subst (λ (fs : List Fate). Goes secret name None v t server at.rows (acts_of round ++ acts) fs halt) (sym a.fates_are)
+      subst (λ (fs : List Fate). Goes secret name begins v t server at.rows (acts_of round ++ acts) fs halt) (sym a.fates_are)
       (subst (λ (x : Rows). LeadsTo secret v t name
-      (call_steps name None (acts_of round ++ acts) (served a.now a.changes round.given true ∷ a.later)) (rows_served (rows_after server a.changes) a.later) x halt)
+      (call_steps name begins (acts_of round ++ acts) (served a.now a.changes round.given true ∷ a.later)) (rows_served (rows_after server a.changes) a.later) x halt)
       (rows_over at round after acts is)
       (subst (λ (steps : List Happens). LeadsTo secret v t name steps (rows_served (rows_after server a.changes) a.later) (rows_done after.rows acts) halt)
-      (steps_of_round name round.numbers round.posted round.request round.given round.applied acts a.now a.changes a.later) all))
+      (steps_of_round name begins round.numbers round.posted round.request round.given round.applied acts a.now a.changes a.later) all))
 
-  rounds_on : (rounds : List Round) (at after : Standing) (acts : List Act) (halt : Halt) → AreRounds at rounds after → Later after.rows acts halt
-      → Later at.rows (flat_map acts_of rounds ++ acts) halt
-  rounds_on [] at after acts halt e on = subst (λ (z : Standing). Later z.rows acts halt) e on
+  pub rounds_on : (rounds : List Round) (at after : Standing) (acts : List Act) (halt : Halt) → AreRounds at rounds after → GoesLater after.rows acts halt
+      → GoesLater at.rows (flat_map acts_of rounds ++ acts) halt
+  rounds_on [] at after acts halt e on = subst (λ (z : Standing). GoesLater z.rows acts halt) e on
   rounds_on (round ∷ rounds) at after acts halt (between, is, later) on =
-      subst (λ (xs : List Act). Later at.rows xs halt) (sym (append_assoc (acts_of round) (flat_map acts_of rounds) acts))
+      subst (λ (xs : List Act). GoesLater at.rows xs halt) (sym (append_assoc (acts_of round) (flat_map acts_of rounds) acts))
       (λ v t server fates k over. one_round v t server at round between (flat_map acts_of rounds ++ acts) fates halt k is over
       (rounds_on rounds between after acts halt later on))
 
@@ -254,27 +255,27 @@ module _ (laws : RoundLaws) (keeps : Keeps) (says : SaysSome) (secret : Bytes) (
 
   module _ (w : World) (s : Ideal) (h : Holds secret w s) (words : ChaCha) (acts : List Act) (fates : List Fate) (halt : Halt)
       (over : AreServed w.server acts fates) where
-    abbrev here : Type 0
-    here = Goes secret name None w s w.server (w.devices name) acts fates halt
+    abbrev pub here : Type 0
+    here = Goes secret name begins w s w.server (w.devices name) acts fates halt
 
-    exchanges_go : ExchangesAlone (w.devices name) words acts halt → here
+    pub exchanges_go : ExchangesAlone (w.devices name) words acts halt → here
     exchanges_go x =
         let first : Standing = record { rows = w.devices name; words = words; last = None } in
-        let all : Later (w.devices name) (flat_map acts_of x.rounds ++ x.later) halt =
+        let all : GoesLater (w.devices name) (flat_map acts_of x.rounds ++ x.later) halt =
         rounds_on x.rounds first x.at x.later halt x.went
         (λ v t server fs k o. end_goes v t server (length x.rounds) x.at x.later fs halt k x.ends o) in
-        subst (λ (xs : List Act). Goes secret name None w s w.server (w.devices name) xs fates halt) (sym x.acts_are)
+        subst (λ (xs : List Act). Goes secret name begins w s w.server (w.devices name) xs fates halt) (sym x.acts_are)
         (all w s w.server fates (record { holds = h; server_is = refl; device_is = refl }) (subst (λ (xs : List Act). AreServed w.server xs fates) x.acts_are over))
 
-    sync_goes : (least : ℕ) → AsksNoSet (w.devices name) → Run least sync (w.devices name) words acts halt → here
-    sync_goes least none (inl wants) = refused_here keeps says secret differ name w s h words acts fates halt over refusal.Memory wants
-    sync_goes least none (inr (inl (nobody, refuses))) = refused_here keeps says secret differ name w s h words acts fates halt over refusal.NoAccount refuses
+    pub sync_goes : (least : ℕ) → AsksNoSet (w.devices name) → Run least sync (w.devices name) words acts halt → here
+    sync_goes least none (inl wants) = refused_here keeps says secret differ name begins w s h words acts fates halt over refusal.Memory wants
+    sync_goes least none (inr (inl (nobody, refuses))) = refused_here keeps says secret differ name begins w s h words acts fates halt over refusal.NoAccount refuses
     sync_goes least none (inr (inr (owner, sets, holds, syncs))) =
         exchanges_go (synced_alone (w.devices name) words owner sets acts halt (unasked (w.devices name) owner sets none holds) syncs)
 
 pub syncs_go : RoundLaws → Keeps → SaysSome → SyncsGo
 syncs_go laws keeps says secret w s name least words acts fates halt differ h none runs over = record {
-  begins = None;
-  of_call = refl;
-  leads = sync_goes laws keeps says secret differ name w s h words acts fates halt over least none runs;
+  begins = begins_none;
+  of_call = λ r. tt;
+  leads = sync_goes laws keeps says secret differ name begins_none w s h words acts fates halt over least none runs;
 }

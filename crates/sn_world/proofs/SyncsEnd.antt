@@ -24,6 +24,7 @@ use Rattle.sn_rows.specs.declared.body.RowBody.{RowBody}
 use Rattle.sn_rows.specs.declared.change.Change.{Change}
 use Rattle.sn_rows.specs.declared.device_rows.OwnerRow.{OwnerRow}
 use Rattle.sn_rows.specs.declared.key.Key.TheVariants as key
+use Rattle.sn_rows.specs.declared.key.Slot.TheVariants.{Asked}
 use Rattle.sn_sets.specs.declared.sets.Sets.{Sets}
 use Rattle.sn_shows.specs.Devices.{ShowsDeviceAs, ShowsDraft, ShowsDrafted, ShowsHolder}
 use Rattle.sn_shows.specs.Laws.{HasAccount}
@@ -33,13 +34,15 @@ use Rattle.sn_sync.specs.declared.answer.Answer.TheVariants as answer
 use Rattle.sn_sync.specs.declared.answer.Conflict.{Conflict}
 use Rattle.sn_sync.specs.declared.item.Item.{Item}
 use Rattle.sn_sync.specs.declared.request.Request.{Request}
-use Rattle.sn_world.proofs.PresentSets.{unasked}
+use Rattle.sn_world.proofs.AskLemmas.{made_of}
+use Rattle.sn_world.proofs.PresentSets.{none_in, unasked}
 use Rattle.sn_world.proofs.SyncCalls.{rows_over}
 use Rattle.sn_world.proofs.Traced.{trace_from}
-use Rattle.sn_world.specs.Calls.{AreServed, Fate, Leads, SyncsGo, call_steps, fate_steps, rows_behind, rows_served}
+use Rattle.sn_world.specs.Calls.{AreServed, Fate, IsNoneOr, Leads, MayBeginBy, SyncsGo, begins_none, call_steps, fate_steps, rows_behind, rows_served}
 use Rattle.sn_world.specs.Happens.{Happens, Trace, commits, makes}
 use Rattle.sn_world.specs.Holds.{Holds, TokensDiffer}
 use Rattle.sn_world.specs.Laws.{AppliedWhole, Keeps, SyncedRows}
+use Rattle.sn_world.specs.Plain.{AsksNoSet}
 use Rattle.sn_world.specs.Pulled.{HasAll}
 use Rattle.sn_world.specs.Synced.{IsSynced, SyncsEnd}
 use Rattle.sn_world.specs.World.{Made, World}
@@ -48,10 +51,10 @@ use Rattle.sn_world.specs.World.{Made, World}
 
 module _ (whole : AppliedWhole) (keeps : Keeps) (secret : Bytes) (differ : TokensDiffer secret) (name : Bytes) (r : Request) (conflicts : List Conflict)
     (retrieved saved : List Item) (token : Bytes) (applied : List Change) where
-  abbrev applying : Happens
+  abbrev pub applying : Happens
   applying = commits name (applies r (answer.Sync conflicts None retrieved saved token)) applied true
 
-  has_all : (steps : List Happens) (moves : List Move) (w next : World) (s : Ideal) → Holds secret w s → Trace secret w s (steps ++ applying ∷ []) moves next
+  pub has_all : (steps : List Happens) (moves : List Move) (w next : World) (s : Ideal) → Holds secret w s → Trace secret w s (steps ++ applying ∷ []) moves next
       → HasAll (next.devices name) (end_from s moves) name
   has_all [] moves w next s h (mid, first, later, does, says, (none, same), is) =
       let all : HasAll (mid.devices name) (end_from s first) name =
@@ -66,17 +69,18 @@ module _ (whole : AppliedWhole) (keeps : Keeps) (secret : Bytes) (differ : Token
       (sym (end_from-append s first later) ∙ ap (λ (ms : List Move). end_from s ms) (sym is)) all
 
 -- the steps of acts whose last one is a commit
-commit_last : (name : Bytes) (what : What) (changes : List Change) (acts : List Act) (server : Rows) (fates : List Fate)
+pub commit_last : (name : Bytes) (begins : Request → Option KeySet) (what : What) (changes : List Change) (acts : List Act) (server : Rows)
+    (fates : List Fate)
     → AreServed server (acts ++ committed what changes ∷ []) fates
-    → (before : List Happens) × (call_steps name None (acts ++ committed what changes ∷ []) fates ≡ before ++ commits name what changes true ∷ [])
-commit_last name what changes [] server fates over = ([], refl)
-commit_last name what changes (committed other done ∷ acts) server fates over =
-    let rest = commit_last name what changes acts server fates over in
+    → (before : List Happens) × (call_steps name begins (acts ++ committed what changes ∷ []) fates ≡ before ++ commits name what changes true ∷ [])
+commit_last name begins what changes [] server fates over = ([], refl)
+commit_last name begins what changes (committed other done ∷ acts) server fates over =
+    let rest = commit_last name begins what changes acts server fates over in
     (commits name other done true ∷ rest.0, ap (λ (xs : List Happens). commits name other done true ∷ xs) rest.1)
-commit_last name what changes (asked r reply ∷ acts) server [] over = absurd over
-commit_last name what changes (asked r reply ∷ acts) server (fate ∷ fates) (one, others) =
-    let rest = commit_last name what changes acts (rows_behind server fate) fates others in
-    let m : Made = record { device = name; request = r; begins = None } in (
+commit_last name begins what changes (asked r reply ∷ acts) server [] over = absurd over
+commit_last name begins what changes (asked r reply ∷ acts) server (fate ∷ fates) (one, others) =
+    let rest = commit_last name begins what changes acts (rows_behind server fate) fates others in
+    let m : Made = made_of name (begins r) r in (
       makes m ∷ fate_steps m fate ++ rest.0,
       ap (λ (xs : List Happens). makes m ∷ fate_steps m fate ++ xs) rest.1
           ∙ ap (λ (xs : List Happens). makes m ∷ xs) (sym (append_assoc (fate_steps m fate) rest.0 (commits name what changes true ∷ []))),
@@ -84,19 +88,19 @@ commit_last name what changes (asked r reply ∷ acts) server (fate ∷ fates) (
 
 -- ---- rounds
 
-rounds_rows : (rounds : List Round) (at after : Standing) → AreRounds at rounds after → after.rows ≡ rows_done at.rows (flat_map acts_of rounds)
+pub rounds_rows : (rounds : List Round) (at after : Standing) → AreRounds at rounds after → after.rows ≡ rows_done at.rows (flat_map acts_of rounds)
 rounds_rows [] at after same = ap (λ (z : Standing). z.rows) same
 rounds_rows (round ∷ rounds) at after (between, is, later) =
     rounds_rows rounds between after later ∙ rows_over at round between (flat_map acts_of rounds) is
 
 -- the last act applies this answer
-record LastApplies (acts : List Act) (given : Answer) : Type 0 where
-  before : List Act
-  request : Request
-  applied : List Change
-  is : acts ≡ before ++ committed (applies request given) applied ∷ []
+pub record LastApplies (acts : List Act) (given : Answer) : Type 0 where
+  pub before : List Act
+  pub request : Request
+  pub applied : List Change
+  pub is : acts ≡ before ++ committed (applies request given) applied ∷ []
 
-behind_round : (rounds : List Round) (round : Round) (at between after : Standing) (given : Answer) → IsRound at round between → AreRounds between rounds after
+pub behind_round : (rounds : List Round) (round : Round) (at between after : Standing) (given : Answer) → IsRound at round between → AreRounds between rounds after
     → after.last ≡ Some given → LastApplies (acts_of round ++ flat_map acts_of rounds) given
 behind_round [] round at between after given is same last =
     let given_is : round.given ≡ given = one_there round.given given after.last (ap (λ (z : Standing). z.last) (same ∙ is.after_is)) last in
@@ -120,7 +124,7 @@ behind_round (second ∷ rounds) round at between after given is (mid, next_is, 
           ∙ sym (append_assoc (acts_of round) l.before (committed (applies l.request given) l.applied ∷ []));
     }
 
-last_applies : (rounds : List Round) (at after : Standing) (given : Answer) → AreRounds at rounds after → at.last ≡ None → after.last ≡ Some given
+pub last_applies : (rounds : List Round) (at after : Standing) (given : Answer) → AreRounds at rounds after → at.last ≡ None → after.last ≡ Some given
     → LastApplies (flat_map acts_of rounds) given
 last_applies [] at after given same none last =
     let no : after.last ≡ None = ap (λ (z : Standing). z.last) same ∙ none in
@@ -129,27 +133,27 @@ last_applies (round ∷ rounds) at after given (between, is, later) none last = 
 
 -- ---- a sync that is answered
 
-unrefused : (given : Given) (left : ChaCha) (why : ClientError) → answered given left ≡ refused why → ⊥
+pub unrefused : (given : Given) (left : ChaCha) (why : ClientError) → answered given left ≡ refused why → ⊥
 unrefused given left why is = absurd (cc)
 
-stops_not : (given : Given) (left : ChaCha) (what : What) (changes : List Change) → StopsAt what changes (answered given left) → ⊥
+pub stops_not : (given : Given) (left : ChaCha) (what : What) (changes : List Change) → StopsAt what changes (answered given left) → ⊥
 stops_not given left what changes (inl (batch, is)) = absurd (cc)
 stops_not given left what changes (inr (inl (large, is))) = absurd (cc)
 stops_not given left what changes (inr (inr is)) = absurd (cc)
 
-behind_not : (given : Given) (left : ChaCha) (rows : Rows) (words : ChaCha) (r : Request) (reply : Reply) → EndsBehind rows words r reply (answered given left) → ⊥
+pub behind_not : (given : Given) (left : ChaCha) (rows : Rows) (words : ChaCha) (r : Request) (reply : Reply) → EndsBehind rows words r reply (answered given left) → ⊥
 behind_not given left rows words r reply (inl (why, fails, is)) = unrefused given left why is
 behind_not given left rows words r reply (inr (inl is)) = absurd (cc)
 behind_not given left rows words r reply (inr (inr (g, said_so, inl (why, unapplied, is)))) = unrefused given left why is
 behind_not given left rows words r reply (inr (inr (g, said_so, inr (changes, rest, step, stops)))) = stops_not given left (applies r g) changes stops
 
-exchange_not : (given : Given) (left words : ChaCha) (numbers : List ℕ) (posted : List Change) (r : Request) (ready : Rows) (acts : List Act)
+pub exchange_not : (given : Given) (left words : ChaCha) (numbers : List ℕ) (posted : List Change) (r : Request) (ready : Rows) (acts : List Act)
     → EndsExchange words numbers posted r ready acts (answered given left) → ⊥
 exchange_not given left words numbers posted r ready acts (inl (some, none, stops)) = stops_not given left _ posted stops
 exchange_not given left words numbers posted r ready acts (inr (batch, inl (is, ends))) = absurd (cc)
 exchange_not given left words numbers posted r ready acts (inr (batch, inr (reply, is, ends))) = behind_not given left ready words r reply ends
 
-all_done : (given : Given) (left : ChaCha) (count : ℕ) (at : Standing) (acts : List Act) → EndsAlone count at acts (answered given left)
+pub all_done : (given : Given) (left : ChaCha) (count : ℕ) (at : Standing) (acts : List Act) → EndsAlone count at acts (answered given left)
     → IsDone at.rows at.last × (acts ≡ [])
 all_done given left count at acts (inl (done, none, is)) = (done, none)
 all_done given left count at acts (inr (inl (all, due, (none, is)))) = absurd (unrefused given left _ is)
@@ -157,7 +161,7 @@ all_done given left count at acts (inr (inr (inl (few, ends)))) =
     absurd (exchange_not given left at.words ends.numbers ends.posted ends.request ends.ready acts ends.ends_so)
 all_done given left count at acts (inr (inr (inr (none, is)))) = absurd (unrefused given left _ is)
 
-exchanges_of : (least : ℕ) (rows : Rows) (words left : ChaCha) (acts : List Act) (given : Given)
+pub exchanges_of : (least : ℕ) (rows : Rows) (words left : ChaCha) (acts : List Act) (given : Given)
     → ((owner : OwnerRow) (sets : Sets) → HasSets rows owner sets → sets.asked ≡ None) → Run least sync rows words acts (answered given left)
     → ExchangesAlone rows words acts (answered given left)
 exchanges_of least rows words left acts given unasked_so (inl (none, is)) = absurd (unrefused given left _ is)
@@ -166,15 +170,15 @@ exchanges_of least rows words left acts given unasked_so (inr (inr (owner, sets,
     synced_alone rows words owner sets acts (answered given left) (unasked_so owner sets has) syncs
 
 -- its last answer has no cursor, and nothing waits
-record IsWhole (rows : Rows) (last : Option Answer) : Type 0 where
-  conflicts : List Conflict
-  retrieved : List Item
-  saved : List Item
-  token : Bytes
-  is : last ≡ Some (answer.Sync conflicts None retrieved saved token)
-  none_waits : NoneWaits rows
+pub record IsWhole (rows : Rows) (last : Option Answer) : Type 0 where
+  pub conflicts : List Conflict
+  pub retrieved : List Item
+  pub saved : List Item
+  pub token : Bytes
+  pub is : last ≡ Some (answer.Sync conflicts None retrieved saved token)
+  pub none_waits : NoneWaits rows
 
-is_whole : (rows : Rows) (last : Option Answer) → IsDone rows last → IsWhole rows last
+pub is_whole : (rows : Rows) (last : Option Answer) → IsDone rows last → IsWhole rows last
 is_whole rows None done = absurd done
 is_whole rows (Some (answer.Sync conflicts cursor retrieved saved token)) (none, none_waits) = record {
   conflicts = conflicts;
@@ -190,7 +194,7 @@ is_whole rows (Some (answer.Refused status tag more)) done = absurd done
 
 -- ---- the device's rows
 
-no_draft : (rows : Rows) (s : Ideal) (name : Bytes) (d : Device) (a : Account) → ShowsHolder rows s name d a → NoneWaits rows
+pub no_draft : (rows : Rows) (s : Ideal) (name : Bytes) (d : Device) (a : Account) → ShowsHolder rows s name d a → NoneWaits rows
     → (uuid : Bytes) → draft_at s name uuid ≡ None
 no_draft rows s name d a holder none_waits uuid = by (draft_at s name uuid) refl
   where
@@ -223,15 +227,16 @@ module _ (synced : SyncedRows) (secret : Bytes) (w : World) (s : Ideal) (h : Hol
         stand = synced secret w s name d a h has undrafted all;
       }
 
-  is_synced : IsSynced (w.devices name) s name
+  pub is_synced : IsSynced (w.devices name) s name
   is_synced = by_device (device_named s name) refl (h.devices name)
 
 -- ---- the call
 
 module _ (whole : AppliedWhole) (synced : SyncedRows) (keeps : Keeps) (secret : Bytes) (differ : TokensDiffer secret) (w : World) (s : Ideal) (h : Holds secret w s)
-    (name : Bytes) (words left : ChaCha) (acts : List Act) (fates : List Fate) (given : Given) (over : AreServed w.server acts fates)
+    (name : Bytes) (begins : Request → Option KeySet) (words left : ChaCha) (acts : List Act) (fates : List Fate) (given : Given)
+    (over : AreServed w.server acts fates)
     (x : ExchangesAlone (w.devices name) words acts (answered given left))
-    (leads : Leads secret w s name (call_steps name None acts fates) (rows_served w.server fates) (rows_done (w.devices name) acts)) where
+    (leads : Leads secret w s name (call_steps name begins acts fates) (rows_served w.server fates) (rows_done (w.devices name) acts)) where
   done : IsDone x.at.rows x.at.last × (x.later ≡ [])
   done = all_done given left _ x.at x.later x.ends
 
@@ -255,26 +260,42 @@ module _ (whole : AppliedWhole) (synced : SyncedRows) (keeps : Keeps) (secret : 
   all : HasAll (leads.next.devices name) (end_from s leads.moves) name
   all =
       let as_ends : acts ≡ ends.before ++ committed (applies ends.request given_last) ends.applied ∷ [] = acts_are ∙ ends.is in
-      let steps = commit_last name (applies ends.request given_last) ends.applied ends.before w.server fates
+      let steps = commit_last name begins (applies ends.request given_last) ends.applied ends.before w.server fates
       (subst (λ (xs : List Act). AreServed w.server xs fates) as_ends over) in
-      let steps_are = ap (λ (xs : List Act). call_steps name None xs fates) as_ends ∙ steps.1 in
+      let steps_are = ap (λ (xs : List Act). call_steps name begins xs fates) as_ends ∙ steps.1 in
       has_all whole keeps secret differ name ends.request last.conflicts last.retrieved last.saved last.token ends.applied steps.0 leads.moves w leads.next s h
       (subst (λ (xs : List Happens). Trace secret w s xs leads.moves leads.next) steps_are leads.goes)
 
-  synced_there : IsSynced (leads.next.devices name) (end_from s leads.moves) name
+  pub synced_there : IsSynced (leads.next.devices name) (end_from s leads.moves) name
   synced_there =
       is_synced synced secret leads.next (end_from s leads.moves)
-      (trace_from keeps secret differ (call_steps name None acts fates) leads.moves w leads.next s h leads.goes).1 name
+      (trace_from keeps secret differ (call_steps name begins acts fates) leads.moves w leads.next s h leads.goes).1 name
       (subst (λ (r : Rows). NoneWaits r) (sym rows_are) last.none_waits) all
+
+-- where no request begins a set, the steps are of none
+pub none_steps : (name : Bytes) (begins : Request → Option KeySet) (acts : List Act) (fates : List Fate) → ((r : Request) → begins r ≡ None)
+    → call_steps name begins acts fates ≡ call_steps name begins_none acts fates
+none_steps name begins [] fates none = refl
+none_steps name begins (committed what changes ∷ acts) fates none =
+    ap (λ (xs : List Happens). commits name what changes true ∷ xs) (none_steps name begins acts fates none)
+none_steps name begins (asked r reply ∷ acts) [] none = refl
+none_steps name begins (asked r reply ∷ acts) (fate ∷ fates) none =
+    ap (λ (set : Option KeySet). makes (made_of name set r) ∷ fate_steps (made_of name set r) fate ++ call_steps name begins acts fates) (none r)
+    ∙ ap (λ (xs : List Happens). makes (made_of name None r) ∷ fate_steps (made_of name None r) fate ++ xs) (none_steps name begins acts fates none)
+
+-- a sync of a device that asks for no set begins none
+pub sync_begins : (device : Rows) (found : Option KeySet) → AsksNoSet device → IsNoneOr (MayBeginBy device sync) found → found ≡ None
+sync_begins device None none may = refl
+sync_begins device (Some set) none (owner, has, in_slot) = none_in device owner.identifier Asked (Some set) none in_slot
 
 pub syncs_end : AppliedWhole → SyncedRows → Keeps → SyncsGo → SyncsEnd
 syncs_end whole synced keeps go secret w s name least words left acts fates given differ h none runs over =
     let g = go secret w s name least words acts fates (answered given left) differ h none runs over in
-    let leads : Leads secret w s name (call_steps name None acts fates) (rows_served w.server fates) (rows_done (w.devices name) acts) =
-    subst (λ (begins : Option KeySet). Leads secret w s name (call_steps name begins acts fates) (rows_served w.server fates) (rows_done (w.devices name) acts))
-    g.of_call g.leads in
+    let leads : Leads secret w s name (call_steps name begins_none acts fates) (rows_served w.server fates) (rows_done (w.devices name) acts) =
+    subst (λ (steps : List Happens). Leads secret w s name steps (rows_served w.server fates) (rows_done (w.devices name) acts))
+    (none_steps name g.begins acts fates (λ r. sync_begins (w.devices name) (g.begins r) none (g.of_call r))) g.leads in
     record {
       leads = leads;
-      synced = synced_there whole synced keeps secret differ w s h name words left acts fates given over
+      synced = synced_there whole synced keeps secret differ w s h name begins_none words left acts fates given over
           (exchanges_of least (w.devices name) words left acts given (λ owner sets has. unasked (w.devices name) owner sets none has) runs) leads;
     }

@@ -1,5 +1,5 @@
 -- All that an answer tells, one version after another.
-use Rattle.std.proofs.Common.{◌≡◌, ◌≢◌, ◌⊎◌, ℕ, List, [], ◌∷◌, None, Bool, true, false, refl, sym, subst, inl, inr}
+use Rattle.std.proofs.Common.{◌≡◌, ◌≢◌, ◌⊎◌, ℕ, List, [], ◌∷◌, Bool, true, false, refl, sym, subst, inl, inr}
 use Rattle.std.specs.List.{Contains}
 use Rattle.sn_account.specs.Tells.{IsOthers, IsSavedOf, IsStored}
 use Rattle.sn_client.specs.Laws.{AreStanding, IsChecked}

@@ -3,7 +3,7 @@ use Rattle.std.proofs.Common.{◌≡◌, ◌≢◌, ◌<◌, ℕ, List, [], ◌�
 use Rattle.std.specs.Prelude.{IsTrue}
 use Rattle.sn_account.specs.Tells.{IsStored}
 use Rattle.sn_client.specs.Laws.{AreStanding}
-use Rattle.sn_client.specs.States.{Columns, HasItem}
+use Rattle.sn_client.specs.States.{HasItem}
 use Rattle.sn_client.specs.Taking.{Copies, Progress, TakesBody}
 use Rattle.sn_conflict.specs.Meetings.{MeetsText}
 use Rattle.sn_laws.proofs.Facts.{found_passes, one_there}

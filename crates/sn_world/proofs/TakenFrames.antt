@@ -42,7 +42,7 @@ use Rattle.sn_string.specs.declared.params.KeySet.{KeySet}
 use Rattle.sn_world.proofs.DeviceRows.{one_local, past_key}
 use Rattle.sn_world.proofs.DeviceSets.{local_of_kind}
 use Rattle.sn_world.proofs.Frames.{KeepsPosted}
-use Rattle.sn_world.proofs.Items.{legal_both}
+use Rattle.sn_world.proofs.LegalMoves.{legal_joined}
 use Rattle.sn_world.specs.Live.{LiveItem}
 
 -- where the applying of an answer stands: the invariant of one device's rows, and of the ideal state
@@ -118,7 +118,7 @@ module _ (server : Rows) (name : Bytes) (n : ℕ) (a : Account) (d : Device) (ow
   took_both p q r s first later x y =
       let joined : end_from s (first ++ later) ≡ end_from (end_from s first) later = end_from-append s first later in
       record {
-        legal = legal_both s first later x.legal y.legal;
+        legal = legal_joined s first later x.legal y.legal;
         along = subst (λ (t : Ideal). AlongHere r t) (sym joined) y.along;
         accounts = subst (λ (t : Ideal). t.accounts ≡ s.accounts) (sym joined) (y.accounts ∙ x.accounts);
         devices = subst (λ (t : Ideal). t.devices ≡ s.devices) (sym joined) (y.devices ∙ x.devices);

@@ -6,7 +6,7 @@ use Rattle.sn_account.specs.Tells.{IsOthers}
 use Rattle.sn_client.specs.Draws.{DrawsFresh}
 use Rattle.sn_client.specs.Laws.{AreStanding}
 use Rattle.sn_client.specs.Sending.{PutsColumns}
-use Rattle.sn_client.specs.States.{Columns, HasLocal}
+use Rattle.sn_client.specs.States.{HasLocal}
 use Rattle.sn_client.specs.Taking.{Progress, Renames, new_columns}
 use Rattle.sn_laws.proofs.Facts.{allowed_to, last_among, one_there}
 use Rattle.sn_laws.specs.Each.{One}

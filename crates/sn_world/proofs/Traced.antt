@@ -5,7 +5,7 @@ use Rattle.sn_laws.specs.Lookups.{Bytes, empty}
 use Rattle.sn_laws.specs.Runs.{end_from}
 use Rattle.sn_laws.specs.declared.ideal.Ideal.{Ideal}
 use Rattle.sn_laws.specs.declared.moves.Move.{Move}
-use Rattle.sn_world.proofs.PlainSets.{legal_joined}
+use Rattle.sn_world.proofs.LegalMoves.{legal_joined}
 use Rattle.sn_world.specs.Happens.{Happens, Trace, commits, makes, serves, starts}
 use Rattle.sn_world.specs.Holds.{Holds, TokensDiffer}
 use Rattle.sn_world.specs.Laws.{HoldsFirst, Keeps, KeepsCommitting, KeepsMaking, KeepsServing, KeepsStarting, KeptBy, TraceKeeps}

@@ -3,6 +3,7 @@ use Rattle.std.specs.Prelude.{◌≡◌, ◌⊎◌, ℕ, List, [], ◌∷◌, �
 use Rattle.sn_account.specs.Rule.{Rule}
 use Rattle.sn_client.specs.Asking.{Reply, lost, said, unheard, unread}
 use Rattle.sn_client.specs.Runs.{Act, Call, Halt, Run, answered, asked, broken, commits as committed, content, delete, edit, list, passwd, put, refused, register, rows_done, sign_in, sync}
+use Rattle.sn_client.specs.States.{HasOwner, IsInSlot}
 use Rattle.sn_keys.specs.Keys.{AreKeysOf}
 use Rattle.sn_laws.specs.Lookups.{Bytes}
 use Rattle.sn_laws.specs.declared.ideal.Ideal.{Ideal}
@@ -10,6 +11,8 @@ use Rattle.sn_laws.specs.declared.moves.Move.{Move}
 use Rattle.rand_chacha.specs.ChaCha.{ChaCha}
 use Rattle.sn_rows.specs.Table.{Rows, rows_after}
 use Rattle.sn_rows.specs.declared.change.Change.{Change}
+use Rattle.sn_rows.specs.declared.device_rows.OwnerRow.{OwnerRow}
+use Rattle.sn_rows.specs.declared.key.Slot.TheVariants.{Asked}
 use Rattle.sn_string.specs.declared.params.KeySet.{KeySet}
 use Rattle.sn_sync.specs.Fits.{FitsRequest}
 use Rattle.sn_sync.specs.declared.answer.Answer.{Answer}
@@ -74,14 +77,18 @@ fate_steps m undelivered = []
 fate_steps m (served now changes given arrives) = serves m now changes given true ∷ []
 fate_steps m (crashed now changes given) = serves m now changes given false ∷ []
 
--- of all acts of a device; a registration among them would begin this set
-abbrev pub call_steps : Bytes → Option KeySet → List Act → List Fate → List Happens
+-- no request begins a set
+abbrev pub begins_none : Request → Option KeySet
+begins_none r = None
+
+-- of all acts of a device; each request among them would begin the set that is said of it
+abbrev pub call_steps : Bytes → (Request → Option KeySet) → List Act → List Fate → List Happens
 call_steps name begins [] fates = []
 call_steps name begins (committed what changes ∷ acts) fates = commits name what changes true ∷ call_steps name begins acts fates
 call_steps name begins (asked r reply ∷ acts) [] = []
 call_steps name begins (asked r reply ∷ acts) (fate ∷ fates) =
-    makes (record { device = name; request = r; begins = begins })
-    ∷ fate_steps (record { device = name; request = r; begins = begins }) fate ++ call_steps name begins acts fates
+    makes (record { device = name; request = r; begins = begins r })
+    ∷ fate_steps (record { device = name; request = r; begins = begins r }) fate ++ call_steps name begins acts fates
 
 -- ---- where they lead
 
@@ -101,22 +108,36 @@ LeadsTo secret w s name steps server device (broken what changes) =
     Leads secret w s name (steps ++ commits name what changes true ∷ []) server (rows_after device changes)
     × Leads secret w s name (steps ++ commits name what changes false ∷ []) server device
 
--- a registration would begin the keys of its password; no other call begins a set by its request
-abbrev pub BeginsBy : Call → Option KeySet → Type 0
-BeginsBy (register identifier password cost) begins = (begins ≡ None) ⊎ ((set : KeySet) × (begins ≡ Some set) × AreKeysOf password set.params set)
-BeginsBy (sign_in identifier password) begins = begins ≡ None
-BeginsBy (put kind text) begins = begins ≡ None
-BeginsBy (edit uuid text) begins = begins ≡ None
-BeginsBy (delete uuid) begins = begins ≡ None
-BeginsBy list begins = begins ≡ None
-BeginsBy (content uuid) begins = begins ≡ None
-BeginsBy sync begins = begins ≡ None
-BeginsBy (passwd password cost) begins = begins ≡ None
+-- ---- the sets that a call's requests would begin
+
+-- the device's rows keep this set as asked for
+abbrev pub IsAskedFor : Rows → KeySet → Type 0
+IsAskedFor device set = (owner : OwnerRow) × HasOwner device owner × IsInSlot device owner.identifier Asked (Some set)
+
+-- a registration the keys of its password; a change of password these too, or the set that was asked for before; a sync that set; no other call begins one
+abbrev pub MayBeginBy : Rows → Call → KeySet → Type 0
+MayBeginBy device (register identifier password cost) set = AreKeysOf password set.params set
+MayBeginBy device (sign_in identifier password) set = ⊥
+MayBeginBy device (put kind text) set = ⊥
+MayBeginBy device (edit uuid text) set = ⊥
+MayBeginBy device (delete uuid) set = ⊥
+MayBeginBy device list set = ⊥
+MayBeginBy device (content uuid) set = ⊥
+MayBeginBy device sync set = IsAskedFor device set
+MayBeginBy device (passwd password cost) set = AreKeysOf password set.params set ⊎ IsAskedFor device set
+
+abbrev pub IsNoneOr : (KeySet → Type 0) → Option KeySet → Type 0
+IsNoneOr P None = Unit {0}
+IsNoneOr P (Some set) = P set
+
+-- each request begins none, or such a set
+abbrev pub BeginsBy : Rows → Call → (Request → Option KeySet) → Type 0
+BeginsBy device call begins = (r : Request) → IsNoneOr (MayBeginBy device call) (begins r)
 
 -- the call's acts, with these fates of its requests, are steps that leave the rows which the acts and the fates leave
 pub record GoesCall (secret : Bytes) (w : World) (s : Ideal) (name : Bytes) (call : Call) (acts : List Act) (fates : List Fate) (halt : Halt) : Type 0 where
-  pub begins : Option KeySet
-  pub of_call : BeginsBy call begins
+  pub begins : Request → Option KeySet
+  pub of_call : BeginsBy (w.devices name) call begins
   pub leads : LeadsTo secret w s name (call_steps name begins acts fates) (rows_served w.server fates) (rows_done (w.devices name) acts) halt
 
 -- ---- the laws
@@ -128,7 +149,7 @@ LeadsKeep = (secret : Bytes) (w : World) (s : Ideal) (name : Bytes) (steps : Lis
 
 -- a device may be stopped behind any act of a call: its first acts alone, with the fates of their requests, are such steps too
 abbrev pub FrontsGo : Type 0
-FrontsGo = (secret : Bytes) (w : World) (s : Ideal) (name : Bytes) (begins : Option KeySet) (front later : List Act) (fates : List Fate)
+FrontsGo = (secret : Bytes) (w : World) (s : Ideal) (name : Bytes) (begins : Request → Option KeySet) (front later : List Act) (fates : List Fate)
     (last : List Happens) (server device : Rows) → AreServed w.server (front ++ later) fates
     → Leads secret w s name (call_steps name begins (front ++ later) fates ++ last) server device
     → (met : List Fate) × (others : List Fate) × (fates ≡ met ++ others) × AreServed w.server front met

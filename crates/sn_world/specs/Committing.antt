@@ -5,8 +5,8 @@ use Rattle.rand_chacha.specs.ChaCha.{ChaCha}
 use Rattle.sn_account.specs.Sessions.{account_uuid, session_token}
 use Rattle.sn_adopted.specs.Moves.{adopting, reposting}
 use Rattle.sn_laws.specs.Each.{Each}
-use Rattle.sn_laws.specs.Lookups.{Bytes, account_named, device_named, greatest, held_by}
-use Rattle.sn_laws.specs.Relation.{IsOnLast}
+use Rattle.sn_laws.specs.Lookups.{Bytes, account_named, device_named, greatest, held_by, last_of}
+use Rattle.sn_laws.specs.Relation.{IsBased}
 use Rattle.sn_laws.specs.declared.ideal.Account.{Account}
 use Rattle.sn_laws.specs.declared.ideal.Content.{Content}
 use Rattle.sn_laws.specs.declared.ideal.Content.TheVariants as content
@@ -107,18 +107,19 @@ SaysDeletion rows name uuid moves = (number : ℕ) × (local : LocalItem) × Has
 abbrev pub IsPostOf : Rows → Bytes → ℕ → Move → Type 0
 IsPostOf rows name number move = (local : LocalItem) × HasLocal rows number local × (move ≡ Post name local.uuid)
 
--- something was sent of the row's draft, which stands on its item's last version, or on none where there is none
-abbrev pub IsReposted : Ideal → Account → LocalItem → Type 0
-IsReposted s a local = (local.posted ≢ None) × IsOnLast s a local.uuid local.base
+-- something was sent of the row's draft, which stands on its item's last version in the account, or on none where the account has none. Whether
+-- another account has the item isn't asked
+abbrev pub IsReposted : Account → LocalItem → Type 0
+IsReposted a local = (local.posted ≢ None) × IsBased local.base (last_of local.uuid a.versions)
 
--- the items of the rows of which that is so, in order
-abbrev pub AreReposted : Ideal → Account → List Numbered → List Bytes → Type 0
-AreReposted s a [] uuids = uuids ≡ []
-AreReposted s a (item ∷ items) uuids =
-    (IsReposted s a item.1 × ((later : List Bytes) × (uuids ≡ item.1.uuid ∷ later) × AreReposted s a items later))
-    ⊎ (¬ (IsReposted s a item.1) × AreReposted s a items uuids)
+-- the uuids of the rows' items of which that is so, in order
+abbrev pub AreRepostedUuids : Account → List Numbered → List Bytes → Type 0
+AreRepostedUuids a [] uuids = uuids ≡ []
+AreRepostedUuids a (item ∷ items) uuids =
+    (IsReposted a item.1 × ((later : List Bytes) × (uuids ≡ item.1.uuid ∷ later) × AreRepostedUuids a items later))
+    ⊎ (¬ (IsReposted a item.1) × AreRepostedUuids a items uuids)
 
--- the former older set ends, the account's last set is joined, and what was sent is sent again where it may still be accepted, in local order
+-- the former older set ends, the account's last set is joined, and what was sent of these items is sent again, in local order
 pub record SaysAdoption (rows : Rows) (s : Ideal) (name : Bytes) (moves : List Move) : Type 0 where
   pub device : Device
   pub account : Account
@@ -126,7 +127,7 @@ pub record SaysAdoption (rows : Rows) (s : Ideal) (name : Bytes) (moves : List M
   pub items : List Numbered
   pub items_are : AreItems rows items
   pub uuids : List Bytes
-  pub reposted : AreReposted s account items uuids
+  pub reposted : AreRepostedUuids account items uuids
   pub moves_are : moves ≡ adopting name account.identifier (length account.sets) device.held ++ reposting name uuids
 
 -- by what is done

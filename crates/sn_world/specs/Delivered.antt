@@ -1,5 +1,5 @@
 -- Calls over a server that answers each request that is delivered by its rule: nothing is asked of the request, since it is within its bounds.
-use Rattle.std.specs.Prelude.{◌≡◌, ℕ, List, [], ◌∷◌, ◌++◌, Option, None}
+use Rattle.std.specs.Prelude.{◌≡◌, ℕ, List, [], ◌∷◌, ◌++◌, Option}
 use Rattle.rand_chacha.specs.ChaCha.{ChaCha}
 use Rattle.sn_account.specs.Lookups.{HasStore}
 use Rattle.sn_account.specs.Rule.{Rule}
@@ -15,7 +15,7 @@ use Rattle.sn_rows.specs.declared.server_rows.StoreRow.{StoreRow}
 use Rattle.sn_string.specs.declared.params.KeySet.{KeySet}
 use Rattle.sn_sync.specs.Fits.{FitsRequest}
 use Rattle.sn_sync.specs.declared.request.Request.{Request}
-use Rattle.sn_world.specs.Calls.{AreServed, ComesBack, Fate, GoesCall, IsUnheard, call_steps, crashed, rows_behind, rows_served, served, undelivered}
+use Rattle.sn_world.specs.Calls.{AreServed, ComesBack, Fate, GoesCall, IsUnheard, begins_none, call_steps, crashed, rows_behind, rows_served, served, undelivered}
 use Rattle.sn_world.specs.First.{IsFirst}
 use Rattle.sn_world.specs.Fitting.{FitsCall, FitsUuids}
 use Rattle.sn_world.specs.Happens.{Does, Happens, Trace}
@@ -96,7 +96,7 @@ SyncsEndBy = (secret : Bytes) (w : World) (s : Ideal) (name : Bytes) (least : �
     → TokensDiffer secret → Holds secret w s → AsksNoSet (w.devices name) → FitsUuids (w.devices name)
     → Run least sync (w.devices name) words acts (answered given left)
     → AreServedBy w.server acts fates
-    → LeadsSynced secret w s name (call_steps name None acts fates) (rows_served w.server fates) (rows_done (w.devices name) acts)
+    → LeadsSynced secret w s name (call_steps name begins_none acts fates) (rows_served w.server fates) (rows_done (w.devices name) acts)
 
 -- ---- what happens, one thing after another
 

@@ -1,12 +1,12 @@
 -- What each step keeps.
-use Rattle.std.specs.Prelude.{◌≡◌, ◌≢◌, ℕ, List, [], ◌∷◌, length, true, Option, Some, None}
+use Rattle.std.specs.Prelude.{◌≡◌, ◌≢◌, ℕ, List, [], ◌∷◌, length, Option, Some, None}
 use Rattle.sn_account.specs.Tells.{AreApart, IsSavedOf, uuids}
 use Rattle.sn_laws.specs.Each.{Each}
 use Rattle.sn_account.specs.Lookups.{IsNamed}
 use Rattle.sn_account.specs.Rule.{Rule}
 use Rattle.sn_account.specs.Rules.{IsPresent}
 use Rattle.sn_keys.specs.Keys.{check_value}
-use Rattle.sn_laws.specs.Lookups.{Bytes, device_named, draft_at, empty}
+use Rattle.sn_laws.specs.Lookups.{Bytes, draft_at, empty}
 use Rattle.sn_shows.specs.Laws.{HasAccount}
 use Rattle.sn_shows.specs.Servers.{account_at}
 use Rattle.sn_shows.specs.Sets.{set_at}

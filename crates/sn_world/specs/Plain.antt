@@ -1,5 +1,5 @@
 -- Worlds in which no password has been changed, and none is being changed.
-use Rattle.std.specs.Prelude.{◌≡◌, ◌≢◌, ℕ, List, [], ◌∷◌, length, false, Option, Some, None}
+use Rattle.std.specs.Prelude.{◌≡◌, ℕ, List, [], ◌∷◌, length, false, Option, Some, None}
 use Rattle.std.specs.List.{flat_map}
 use Rattle.sn_laws.specs.Lookups.{Bytes, empty}
 use Rattle.sn_laws.specs.Runs.{LegalFrom, end_from}
@@ -47,7 +47,7 @@ KeepsSet (request.ChangePw token current pw cost nonce) = ⊥
 KeepsSet (request.Sync token items limit sync_token cursor_token) = Unit {0}
 
 -- each account has one set, no device asks for another, and no request that was made does
-pub record IsPlain (w : World) (s : Ideal) : Type 0 where
+pub record IsPlainWorld (w : World) (s : Ideal) : Type 0 where
   pub one_set : HaveOneSet s.accounts
   pub unasked : (name : Bytes) → AsksNoSet (w.devices name)
   pub no_change : (m : Made) → IsMade w m → KeepsSet m.request
@@ -55,7 +55,7 @@ pub record IsPlain (w : World) (s : Ideal) : Type 0 where
 -- and the invariant holds
 pub record HoldsPlain (secret : Bytes) (w : World) (s : Ideal) : Type 0 where
   pub holds : Holds secret w s
-  pub plain : IsPlain w s
+  pub plain : IsPlainWorld w s
 
 -- ---- steps that keep it so
 

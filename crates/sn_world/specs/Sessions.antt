@@ -81,12 +81,12 @@ with_end name (answered given left) stands steps = steps
 with_end name (refused why) stands steps = steps
 with_end name (broken what changes) stands steps = steps ++ commits name what changes stands ∷ []
 
--- a registration among them, or a request that is one, would begin this set
-abbrev pub line_steps : Option KeySet → Line → List Happens
+-- each request among them would begin the set that is said of it
+abbrev pub line_steps : (Request → Option KeySet) → Line → List Happens
 line_steps begins (opens changes stands) = starts changes stands ∷ []
 line_steps begins (calls name least call words acts fates halt stands) = with_end name halt stands (call_steps name begins acts fates)
 line_steps begins (stops name least call words front met) = call_steps name begins front met
-line_steps begins (again name r fate) = fate_steps (record { device = name; request = r; begins = begins }) fate
+line_steps begins (again name r fate) = fate_steps (record { device = name; request = r; begins = begins r }) fate
 
 -- the server's rows
 abbrev pub server_behind : Rows → Line → Rows
@@ -118,16 +118,16 @@ made_behind made (makes m ∷ steps) = made_behind (m ∷ made) steps
 made_behind made (serves m now changes given stands ∷ steps) = made_behind made steps
 made_behind made (commits name what changes stands ∷ steps) = made_behind made steps
 
--- the set that a registration of the line would begin: that of the call's password; of a request that comes again, the one of that request
-abbrev pub BeginsLine : World → Line → Option KeySet → Type 0
+-- the sets that the requests of the line would begin: by its call; of a request that comes again, the one of that request
+abbrev pub BeginsLine : World → Line → (Request → Option KeySet) → Type 0
 BeginsLine w (opens changes stands) begins = Unit {0}
-BeginsLine w (calls name least call words acts fates halt stands) begins = BeginsBy call begins
-BeginsLine w (stops name least call words front met) begins = BeginsBy call begins
-BeginsLine w (again name r fate) begins = IsMade w (record { device = name; request = r; begins = begins })
+BeginsLine w (calls name least call words acts fates halt stands) begins = BeginsBy (w.devices name) call begins
+BeginsLine w (stops name least call words front met) begins = BeginsBy (w.devices name) call begins
+BeginsLine w (again name r fate) begins = IsMade w (record { device = name; request = r; begins = begins r })
 
 -- its steps can be made one after another, and leave these
 pub record LeadsLine (secret : Bytes) (w : World) (s : Ideal) (line : Line) : Type 0 where
-  pub begins : Option KeySet
+  pub begins : Request → Option KeySet
   pub of_line : BeginsLine w line begins
   pub moves : List Move
   pub next : World
@@ -146,7 +146,7 @@ MayFollow secret w s (line ∷ lines) = MayCome secret w s line × ((x : LeadsLi
 abbrev pub AreStepsOf : List Line → List Happens → Type 0
 AreStepsOf [] steps = steps ≡ []
 AreStepsOf (line ∷ lines) steps =
-    (begins : Option KeySet) × (others : List Happens) × (steps ≡ line_steps begins line ++ others) × AreStepsOf lines others
+    (begins : Request → Option KeySet) × (others : List Happens) × (steps ≡ line_steps begins line ++ others) × AreStepsOf lines others
 
 abbrev pub server_behind_all : Rows → List Line → Rows
 server_behind_all server [] = server
@@ -173,7 +173,7 @@ pub record LinesLead (secret : Bytes) (w : World) (s : Ideal) (lines : List Line
 -- a request that was made leads on with the set that it would begin
 abbrev pub AgainLeads : Type 0
 AgainLeads = (secret : Bytes) (w : World) (s : Ideal) (m : Made) (fate : Fate) → Holds secret w s → IsMade w m → IsServed w.server m.request unheard fate
-    → (x : LeadsLine secret w s (again m.device m.request fate)) × (x.begins ≡ m.begins)
+    → (x : LeadsLine secret w s (again m.device m.request fate)) × (x.begins m.request ≡ m.begins)
 
 -- from a world in which the invariant holds, and no password is changed
 abbrev pub LinesGo : Type 0

@@ -9,7 +9,7 @@ use Rattle.sn_laws.specs.declared.ideal.Device.{Device}
 use Rattle.sn_laws.specs.declared.ideal.Ideal.{Ideal}
 use Rattle.sn_rows.specs.Table.{Rows}
 use Rattle.sn_shows.specs.Laws.{HasAccount}
-use Rattle.sn_world.specs.Calls.{AreServed, Fate, Leads, call_steps, rows_served}
+use Rattle.sn_world.specs.Calls.{AreServed, Fate, Leads, begins_none, call_steps, rows_served}
 use Rattle.sn_world.specs.Happens.{Happens}
 use Rattle.sn_world.specs.Holds.{Holds, TokensDiffer}
 use Rattle.sn_world.specs.Plain.{AsksNoSet}
@@ -35,4 +35,4 @@ abbrev pub SyncsEnd : Type 0
 SyncsEnd = (secret : Bytes) (w : World) (s : Ideal) (name : Bytes) (least : ℕ) (words left : ChaCha) (acts : List Act) (fates : List Fate) (given : Given)
     → TokensDiffer secret → Holds secret w s → AsksNoSet (w.devices name) → Run least sync (w.devices name) words acts (answered given left)
     → AreServed w.server acts fates
-    → LeadsSynced secret w s name (call_steps name None acts fates) (rows_served w.server fates) (rows_done (w.devices name) acts)
+    → LeadsSynced secret w s name (call_steps name begins_none acts fates) (rows_served w.server fates) (rows_done (w.devices name) acts)

@@ -19,7 +19,7 @@ use sn_changed::leaving_laws::{
 use sn_client::{fresh_is_sound, stay_standing, steps_stay_sound};
 use sn_items::one_content;
 use sn_laws::laws::versions_rise;
-use sn_laws::state_laws::deletions_stay;
+use sn_laws::state_laws::{deletions_stay, numbers_held};
 use sn_shows::device_laws::{
     edit_keeps, edited_shows, join_keeps, joined_shows, post_keeps, posted_shows, settle_keeps,
     settled_shows, tokens_show,
@@ -163,6 +163,7 @@ pub fn keeps_committing()
     versions_rise();
     one_content();
     deletions_stay();
+    numbers_held();
     applies_live();
     settle_keeps();
     settled_shows();

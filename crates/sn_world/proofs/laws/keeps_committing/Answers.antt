@@ -12,6 +12,7 @@ returns c = keeps_committing (record {
   posted = c.posted_shows.ensures;
   post_keeps = c.post_keeps.ensures;
   sound = c.steps_stay_sound.ensures;
+  numbers = c.numbers_held.ensures;
   taking = record {
     one_stamp = c.one_stamp.ensures;
     one_token = c.one_token.ensures;
