@@ -92,7 +92,7 @@ pub record CameAgain (secret : Bytes) (c : Course) (r : Reported) (device : Byte
   pub given : Answer
   pub comes : MayCome secret c.world (end c.moves) (again m.device m.request (served r.settings.clock changes given false))
   pub leads : LeadsLine secret c.world (end c.moves) (again m.device m.request (served r.settings.clock changes given false))
-  pub begins_is : leads.begins ≡ m.begins
+  pub begins_is : leads.begins m.request ≡ m.begins
   pub next_is : next ≡ leads.next
   pub moves_are : e.moves ≡ leads.moves
   pub ended : e.last ≡ last.Answer (status_of given)

@@ -14,6 +14,7 @@ use Rattle.sn_laws.specs.declared.ideal.Ideal.{Ideal}
 use Rattle.sn_laws.specs.declared.moves.Move.{Move}
 use Rattle.sn_rows.specs.Table.{Rows}
 use Rattle.sn_string.specs.declared.params.KeySet.{KeySet}
+use Rattle.sn_sync.specs.declared.request.Request.{Request}
 use Rattle.sn_world.proofs.Facts.{CallLaws, calls_plain, keeps_password, trace_plain}
 use Rattle.sn_world.specs.Calls.{Fate, GoesCall, Leads, LeadsTo, call_steps, crashed, rows_served, served, undelivered}
 use Rattle.sn_world.specs.Happens.{Happens, Trace, commits, makes, serves, starts}
@@ -66,7 +67,7 @@ others_stay secret other (commits name what changes false ∷ steps) moves w nex
     others_stay secret other steps later mid next (end_from s first) each.1 rest ∙ ap (λ (x : World). x.devices other) does
 
 -- the commits of a call are its device's
-own_steps : (other name : Bytes) (begins : Option KeySet) (acts : List Act) (fates : List Fate) → other ≢ name → Each (IsNotOf other) (call_steps name begins acts fates)
+own_steps : (other name : Bytes) (begins : Request → Option KeySet) (acts : List Act) (fates : List Fate) → other ≢ name → Each (IsNotOf other) (call_steps name begins acts fates)
 own_steps other name begins [] fates apart = tt
 own_steps other name begins (committed what changes ∷ acts) fates apart = (apart, own_steps other name begins acts fates apart)
 own_steps other name begins (asked r reply ∷ acts) [] apart = tt

@@ -30,9 +30,10 @@ use Rattle.sn_server.specs.Loads.{IsFirst, Opens, kept_of}
 use Rattle.sn_server.specs.Stores.{Kept, after, batch_of}
 use Rattle.sn_table.specs.Batches.{IsBatch, IsStore}
 use Rattle.sn_tail.specs.Places.{place_behind}
+use Rattle.sn_world.specs.Calls.{begins_none}
 use Rattle.sn_world.specs.First.{IsFirst as IsWorldFirst, Starts}
 use Rattle.sn_world.specs.Laws.{KeepsStarting}
-use Rattle.sn_world.specs.Plain.{HoldsPlain, IsPlain, PlainFirst}
+use Rattle.sn_world.specs.Plain.{HoldsPlain, IsPlainWorld, PlainFirst}
 use Rattle.sn_world.specs.Sessions.{LeadsLine, opens}
 use Rattle.sn_world.specs.World.{World, at_first}
 
@@ -90,10 +91,10 @@ begun plain_first keeps words left secret changes given drew first is holds plac
     let starts : Starts at_first next secret changes = record { none = no_store; is = is_first; on = record { server = refl; devices = refl; made = refl } } in
     let before : HoldsPlain secret at_first empty = plain_first secret in
     let kept = keeps secret at_first next empty changes before.holds starts in
-    let plain : IsPlain next empty =
+    let plain : IsPlainWorld next empty =
     record { one_set = before.plain.one_set; unasked = before.plain.unasked; no_change = before.plain.no_change } in
     let leads : LeadsLine secret at_first empty (opens changes true) = record {
-      begins = None;
+      begins = begins_none;
       of_line = tt;
       moves = [];
       next = next;

@@ -74,7 +74,7 @@ pub record AgainCame (secret : Bytes) (w : World) (s : Ideal) (m : Made) (now : 
   pub given : Answer
   pub comes : MayCome secret w s (again m.device m.request (served now changes given false))
   pub leads : LeadsLine secret w s (again m.device m.request (served now changes given false))
-  pub begins_is : leads.begins ≡ m.begins
+  pub begins_is : leads.begins m.request ≡ m.begins
   pub legal : LegalFrom s leads.moves
   pub stands : Stands again_made.ends secret leads.next (end_from s leads.moves)
   pub gained : again_made.batches ≡ batch_of changes

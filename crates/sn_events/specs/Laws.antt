@@ -74,7 +74,7 @@ pub record AgainLine (secret : Bytes) (w : World) (s : Ideal) (m : Made) (now : 
   pub given : Answer
   pub comes : MayCome secret w s (again m.device m.request (served now changes given false))
   pub leads : LeadsLine secret w s (again m.device m.request (served now changes given false))
-  pub begins_is : leads.begins ≡ m.begins
+  pub begins_is : leads.begins m.request ≡ m.begins
   pub keeps : KeptPlain secret leads.next s leads.moves
   pub rows_are : next.rows ≡ leads.next.server
   pub sound : IsSound next.rows

@@ -5,6 +5,7 @@ use Rattle.sn_laws.specs.Each.{Each, One}
 use Rattle.sn_link.specs.Laws.{AreReadable, IsReadable}
 use Rattle.sn_string.specs.declared.params.KeySet.{KeySet}
 use Rattle.sn_sync.specs.Members.{Bytes}
+use Rattle.sn_sync.specs.declared.request.Request.{Request}
 use Rattle.sn_world.proofs.Facts.{each_both}
 use Rattle.sn_world.specs.Calls.{Fate, call_steps, crashed, fate_steps, served, undelivered}
 use Rattle.sn_world.specs.Happens.{Happens, commits, makes, serves, starts}
@@ -35,15 +36,15 @@ module _ (host : Bytes) where
   fate_good m (served now changes given arrives) = (tt, tt)
   fate_good m (crashed now changes given) = (tt, tt)
 
-  call_good : (name : Bytes) (begins : Option KeySet) (acts : List Act) (fates : List Fate) → AreReadable host acts
+  call_good : (name : Bytes) (begins : Request → Option KeySet) (acts : List Act) (fates : List Fate) → AreReadable host acts
       → Each MakesGood (call_steps name begins acts fates)
   call_good name begins [] fates readable = tt
   call_good name begins (committed what changes ∷ acts) fates readable = (tt, call_good name begins acts fates readable)
   call_good name begins (asked r reply ∷ acts) [] readable = tt
   call_good name begins (asked r reply ∷ acts) (fate ∷ fates) (one, rest) = (
     one,
-    each_both MakesGood (fate_steps (record { device = name; request = r; begins = begins }) fate) (call_steps name begins acts fates)
-        (fate_good (record { device = name; request = r; begins = begins }) fate) (call_good name begins acts fates rest),
+    each_both MakesGood (fate_steps (record { device = name; request = r; begins = begins r }) fate) (call_steps name begins acts fates)
+        (fate_good (record { device = name; request = r; begins = begins r }) fate) (call_good name begins acts fates rest),
   )
 
   end_good : (name : Bytes) (halt : Halt) (stands : Bool) (steps : List Happens) → Each MakesGood steps → Each MakesGood (with_end name halt stands steps)
@@ -51,12 +52,12 @@ module _ (host : Bytes) where
   end_good name (refused why) stands steps each = each
   end_good name (broken what changes) stands steps each = each_both MakesGood steps (commits name what changes stands ∷ []) each (tt, tt)
 
-  line_good : (begins : Option KeySet) (line : Line) → IsReadableLine host line → Each MakesGood (line_steps begins line)
+  line_good : (begins : Request → Option KeySet) (line : Line) → IsReadableLine host line → Each MakesGood (line_steps begins line)
   line_good begins (opens changes stands) readable = (tt, tt)
   line_good begins (calls name least call words acts fates halt stands) readable =
       end_good name halt stands (call_steps name begins acts fates) (call_good name begins acts fates readable)
   line_good begins (stops name least call words front met) readable = call_good name begins front met readable
-  line_good begins (again name r fate) readable = fate_good (record { device = name; request = r; begins = begins }) fate
+  line_good begins (again name r fate) readable = fate_good (record { device = name; request = r; begins = begins r }) fate
 
   one_good : (made : List Made) (m : Made) → Each IsGood made → One (λ x. x ≡ m) made → IsGood m
   one_good [] m good among = absurd among

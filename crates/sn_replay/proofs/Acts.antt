@@ -24,7 +24,7 @@ use Rattle.sn_world.specs.Plain.{HoldsPlain}
 use Rattle.sn_world.specs.World.{World}
 use Rattle.sn_replay.specs.Playing.{AreAskedSo}
 
-module _ (b : Option KeySet) (a : Asked) where
+module _ (b : Request → Option KeySet) (a : Asked) where
   abbrev Good : List Act → Type 0
   Good acts = AreAskedSo b a acts
 
@@ -41,13 +41,13 @@ module _ (b : Option KeySet) (a : Asked) where
   once_asked rows words what given acts halt (changes, left, step, inl (batch, is, ends)) = subst Good (sym is) tt
   once_asked rows words what given acts halt (changes, left, step, inr (none, stops)) = none_asked acts none
 
-  pub first_asked : (r : Request) (P : Answer → List Act → Halt → Type 0) (acts : List Act) (halt : Halt) → IsAskedOf r b a
+  pub first_asked : (r : Request) (P : Answer → List Act → Halt → Type 0) (acts : List Act) (halt : Halt) → IsAskedOf r (b r) a
       → ((given : Answer) (later : List Act) (h : Halt) → P given later h → Good later) → AsksFirst r P acts halt → Good acts
   first_asked r P acts halt one on (reply, later, is, inl (why, fails, refuses)) = subst Good (sym is) (one, none_asked later refuses.0)
   first_asked r P acts halt one on (reply, later, is, inr (inl wants)) = subst Good (sym is) (one, none_asked later wants.0)
   first_asked r P acts halt one on (reply, later, is, inr (inr (given, said_so, goes))) = subst Good (sym is) (one, on given later halt goes)
 
-  pub account_asked : (rows : Rows) (words : ChaCha) (r : Request) (what : Bytes → Bytes → What) (acts : List Act) (halt : Halt) → IsAskedOf r b a
+  pub account_asked : (rows : Rows) (words : ChaCha) (r : Request) (what : Bytes → Bytes → What) (acts : List Act) (halt : Halt) → IsAskedOf r (b r) a
       → AsksAccount rows words r what acts halt → Good acts
   account_asked rows words r what acts halt one asks_so =
       first_asked r (KeepsAccount rows words what) acts halt one
@@ -89,7 +89,7 @@ module _ (b : Option KeySet) (a : Asked) where
 
 -- ---- a sign-in
 
-module _ (b : Option KeySet) (identifier password : Bytes) (rows : Rows) (words : ChaCha) where
+module _ (b : Request → Option KeySet) (identifier password : Bytes) (rows : Rows) (words : ChaCha) where
   abbrev Other : List Act → Type 0
   Other acts = AreAskedSo b asks.Other acts
 
@@ -118,12 +118,12 @@ module _ (b : Option KeySet) (identifier password : Bytes) (rows : Rows) (words 
 
 -- ---- a sync
 
-module _ (b : Option KeySet) where
+module _ (b : Request → Option KeySet) where
   abbrev Syncs : List Act → Type 0
   Syncs acts = AreAskedSo b asks.Sync acts
 
-  sync_so : (owner : OwnerRow) (chosen : List Numbered) (r : Request) → IsSyncOf owner chosen r → IsAskedOf r b asks.Sync
-  sync_so owner chosen r is = subst (λ (q : Request). IsAskedOf q b asks.Sync) (sym is.request_is) tt
+  sync_so : (owner : OwnerRow) (chosen : List Numbered) (r : Request) → IsSyncOf owner chosen r → IsAskedOf r (b r) asks.Sync
+  sync_so owner chosen r is = subst (λ (q : Request). IsAskedOf q (b q) asks.Sync) (sym is.request_is) tt
 
   posting_so : (numbers : List ℕ) (posted : List Change) (later : List Act) → Syncs later → Syncs (posting numbers posted ++ later)
   posting_so [] posted later h = h

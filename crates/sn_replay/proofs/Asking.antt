@@ -1,29 +1,31 @@
 -- Each line that asks a device for a call: what its event is, whatever the call does.
-use Rattle.std.proofs.Common.{◌≡◌, ◌≢◌, ℕ, List, [], ◌++◌, Option, Some, None, true, refl, sym, ap, ◌∙◌, subst, inl, inr}
+use Rattle.std.proofs.Common.{◌≡◌, ◌≢◌, ℕ, List, [], ◌++◌, Option, Some, None, true, refl, sym, ap, ◌∙◌, subst}
 use Rattle.std.specs.Option.{option_map}
 use Rattle.rand_chacha.specs.ChaCha.{ChaCha}
 use Rattle.sn_client.specs.Runs.{Act, Call, Halt, delete, edit, put, register, sign_in, sync}
 use Rattle.sn_course.specs.Courses.{Course, Reported}
 use Rattle.sn_course.specs.Fits.{CallsOf, Called, EndsSo, EndsWell}
 use Rattle.sn_course.specs.Headline.{IsPasswordOf}
+use Rattle.sn_course.specs.Laws.{IsSetOf}
 use Rattle.sn_course.specs.Lines.{call_of, labelled_item, note_kind}
 use Rattle.sn_course.specs.Settings.{words_of}
 use Rattle.sn_course.specs.declared.settings.Settings.{Settings}
-use Rattle.sn_keys.specs.Keys.{AreKeysOf}
 use Rattle.sn_laws.specs.Lookups.{Bytes}
 use Rattle.sn_laws.specs.Runs.{end}
 use Rattle.sn_report.specs.declared.report.Event.{Event}
 use Rattle.sn_report.specs.declared.report.Last.{Last}
+use Rattle.sn_rows.specs.Table.{Rows}
 use Rattle.sn_script.specs.declared.script.Fate.{Fate}
 use Rattle.sn_script.specs.declared.script.Line.{Line}
 use Rattle.sn_script.specs.declared.script.Line.TheVariants as line
 use Rattle.sn_script.specs.declared.script.Ordinal.{Ordinal}
 use Rattle.sn_script.specs.declared.script.Script.{Script}
 use Rattle.sn_string.specs.declared.params.KeySet.{KeySet}
+use Rattle.sn_sync.specs.declared.request.Request.{Request}
 use Rattle.sn_telling.specs.Laws.{TracesTell}
 use Rattle.sn_telling.specs.declared.calling.Calling.{Calling}
 use Rattle.sn_telling.specs.declared.calling.Calling.TheVariants as calling
-use Rattle.sn_world.specs.Calls.{BeginsBy}
+use Rattle.sn_world.specs.Calls.{BeginsBy, IsNoneOr, MayBeginBy}
 use Rattle.sn_world.specs.Holds.{TokensDiffer}
 use Rattle.sn_world.specs.Plain.{HoldsPlain}
 use Rattle.sn_world.specs.Synced.{SyncsEnd}
@@ -31,20 +33,18 @@ use Rattle.sn_world.specs.World.{World}
 use Rattle.sn_replay.specs.Lines.{DrawsSet}
 use Rattle.sn_replay.specs.Playing.{IsBeginsOf, IsLineOf}
 use Rattle.sn_replay.proofs.Acts.{delete_asked, edit_asked, put_asked, sign_in_asked, sync_asked}
-use Rattle.sn_replay.proofs.Registering.{makes_first, register_asked}
-use Rattle.sn_replay.proofs.Syncing.{sync_well}
+use Rattle.sn_replay.proofs.Registering.{all_begin, makes_first, register_asked}
+use Rattle.sn_replay.proofs.Syncing.{no_set, sync_well}
 use Rattle.sn_telling.specs.declared.calling.Asked.TheVariants as asks
 
-none_of_script : (script : Script) (b : Option KeySet) → b ≡ None → IsBeginsOf script b
-none_of_script script b none = subst (IsBeginsOf script) (sym none) tt
-
-register_of_script : (script : Script) (identifier password : Bytes) (cost : ℕ) (b : Option KeySet) → IsPasswordOf script password
-    → BeginsBy (register identifier password cost) b → IsBeginsOf script b
-register_of_script script identifier password cost b of begins = at begins
+-- the sets that a call's requests may begin are of the script
+sets_of_script : (script : Script) (rows : Rows) (call : Call) → ((set : KeySet) → MayBeginBy rows call set → IsSetOf script set)
+    → (b : Request → Option KeySet) → BeginsBy rows call b → (q : Request) → IsBeginsOf script (b q)
+sets_of_script script rows call so b begins q = at (b q) (begins q)
   where
-    at : BeginsBy (register identifier password cost) b → IsBeginsOf script b
-    at (inl none) = none_of_script script b none
-    at (inr (set, is, keys)) = subst (IsBeginsOf script) (sym is) (password, of, keys)
+    at : (found : Option KeySet) → IsNoneOr (MayBeginBy rows call) found → IsBeginsOf script found
+    at None h = tt
+    at (Some set) h = so set h
 
 module _ (script : Script) (secret : Bytes) (c : Course) (number : ℕ) (settings : Settings) (device : Bytes) where
   abbrev reported_so : Line → Reported
@@ -62,11 +62,11 @@ module _ (script : Script) (secret : Bytes) (c : Course) (number : ℕ) (setting
     happens = λ e next h. h;
     shows = refl;
     puts = refl;
-    of_script = λ b begins. register_of_script script identifier password settings.cost b of begins;
+    of_script = sets_of_script script (c.world.devices device) (register identifier password settings.cost) (λ set keys. (password, of, keys));
     calls_so = λ acts lost halt comes x whole.
-        let so = register_asked x.begins words identifier password settings.cost set draws x.of_line (c.world.devices device) acts halt comes.runs
+        let so = register_asked x.begins words identifier password settings.cost set draws (c.world.devices device) x.of_line acts halt comes.runs
         (makes_first secret c.world x.next (end c.moves) device x.begins acts lost halt x.moves whole comes.over x.goes) in
-        ((refl, so.0), so.1);
+        ((refl, all_begin x.begins identifier (Some set) acts so), so);
     well = λ acts lost halt comes x l ended. tt;
   }
 
@@ -77,7 +77,7 @@ module _ (script : Script) (secret : Bytes) (c : Course) (number : ℕ) (setting
     happens = λ e next h. h;
     shows = refl;
     puts = refl;
-    of_script = λ b none. none_of_script script b none;
+    of_script = sets_of_script script (c.world.devices device) (sign_in identifier password) (λ set none. absurd none);
     calls_so = λ acts lost halt comes x whole.
         (is, sign_in_asked x.begins identifier password (c.world.devices device) words acts halt comes.runs);
     well = λ acts lost halt comes x l ended. tt;
@@ -90,7 +90,7 @@ module _ (script : Script) (secret : Bytes) (c : Course) (number : ℕ) (setting
     happens = λ e next h. h;
     shows = refl;
     puts = refl;
-    of_script = λ b none. none_of_script script b none;
+    of_script = sets_of_script script (c.world.devices device) (put note_kind text) (λ set none. absurd none);
     calls_so = λ acts lost halt comes x whole.
         ((kind_is, text_is), put_asked x.begins asks.Other note_kind text (c.world.devices device) words acts halt comes.runs);
     well = λ acts lost halt comes x l ended. tt;
@@ -105,7 +105,7 @@ module _ (script : Script) (secret : Bytes) (c : Course) (number : ℕ) (setting
         (sym found) h;
     shows = refl;
     puts = refl;
-    of_script = λ b none. none_of_script script b none;
+    of_script = sets_of_script script (c.world.devices device) (edit uuid text) (λ set none. absurd none);
     calls_so = λ acts lost halt comes x whole.
         (text_is, edit_asked x.begins asks.Other uuid text (c.world.devices device) words acts halt comes.runs);
     well = λ acts lost halt comes x l ended. tt;
@@ -119,7 +119,7 @@ module _ (script : Script) (secret : Bytes) (c : Course) (number : ℕ) (setting
         subst (λ (o : Option Bytes). CallsOf secret c (reported_so (line.Delete device label fates)) (Some device) (option_map delete o) e next) (sym found) h;
     shows = refl;
     puts = refl;
-    of_script = λ b none. none_of_script script b none;
+    of_script = sets_of_script script (c.world.devices device) (delete uuid) (λ set none. absurd none);
     calls_so = λ acts lost halt comes x whole.
         (tt, delete_asked x.begins asks.Other uuid (c.world.devices device) words acts halt comes.runs);
     well = λ acts lost halt comes x l ended. tt;
@@ -132,7 +132,8 @@ module _ (script : Script) (secret : Bytes) (c : Course) (number : ℕ) (setting
     happens = λ e next k. k;
     shows = refl;
     puts = refl;
-    of_script = λ b none. none_of_script script b none;
+    of_script = sets_of_script script (c.world.devices device) sync
+        (λ set asked. absurd (no_set (c.world.devices device) set (h.plain.unasked device) asked));
     calls_so = λ acts lost halt comes x whole.
         (tt, sync_asked x.begins secret c.world (end c.moves) device words acts halt h comes.runs);
     well = λ acts lost halt comes x l ended. sync_well synced tell secret differ c.world c.moves h device words acts lost halt comes x l ended;

@@ -30,6 +30,7 @@ use Rattle.sn_script.specs.declared.script.Ordinal.{Ordinal}
 use Rattle.sn_script.specs.declared.script.Ordinal.TheVariants as ordinal
 use Rattle.sn_script.specs.declared.script.Script.{Script}
 use Rattle.sn_string.specs.declared.params.KeySet.{KeySet}
+use Rattle.sn_sync.specs.declared.request.Request.{Request}
 use Rattle.sn_tail.specs.Shelves.{SlotReads}
 use Rattle.sn_telling.specs.Laws.{AgainsTell}
 use Rattle.sn_telling.specs.Telling.{fate_moves}
@@ -124,6 +125,10 @@ module _ (tell : AgainsTell) (fit : TracesFit) (script : Script) (secret : Bytes
   abbrev m : Made
   m = meant.m
 
+  -- whatever the request, the set that this one would begin
+  abbrev begins : Request → Option KeySet
+  begins q = m.begins
+
   abbrev fate : Fate
   fate = served settings.clock x.changes x.given false
 
@@ -178,8 +183,8 @@ module _ (tell : AgainsTell) (fit : TracesFit) (script : Script) (secret : Bytes
   moves_ours : Each (IsMoveOf script c.names) (c.moves ++ moves)
   moves_ours =
       each_append (IsMoveOf script c.names) c.moves moves at.moves_are
-      (of_script script c.names m.device m.begins moves of_made.begins of_made.among
-      (subst (Each (IsMoveBy m.device m.begins)) (sym moves_here) (fate_by w.server m.device m.begins m.request fate)))
+      (of_script script c.names m.device begins moves (λ q. of_made.begins) of_made.among
+      (subst (Each (IsMoveBy m.device begins)) (sym moves_here) (fate_by w.server m.device begins m.request fate)))
 
   slot_same : (name : Bytes) → device_slot gave.ends name ≡ device_slot known.ends name
   slot_same name = ap slot_of_device (x.devices name)

@@ -100,9 +100,9 @@ behind_fate m undelivered steps made = refl
 behind_fate m (served now changes given arrives) steps made = refl
 behind_fate m (crashed now changes given) steps made = refl
 
-module _ (name : Bytes) (begins : Option KeySet) where
+module _ (name : Bytes) (begins : Request → Option KeySet) where
   abbrev made_of : Request → Made
-  made_of r = record { device = name; request = r; begins = begins }
+  made_of r = record { device = name; request = r; begins = begins r }
 
   pub others_made : (other : Bytes) → other ≢ name → (acts : List Act) (fates : List Fate) (made : List Made)
       → made_by other (made_behind made (call_steps name begins acts fates)) ≡ made_by other made
@@ -123,7 +123,7 @@ module _ (name : Bytes) (begins : Option KeySet) where
 
   module _ (call : Calling) where
     kept_more : (made : List Made) (kept : List Kept) (r : Request) (reply : Reply) (fate : Fate) (e : Exchanged) → IsToldOf host r reply fate e
-        → IsReadable host r → IsAskedOf r begins (asked_of call) → AllZip IsKeptOf (made_by name made) kept
+        → IsReadable host r → IsAskedOf r (begins r) (asked_of call) → AllZip IsKeptOf (made_by name made) kept
         → AllZip IsKeptOf (made_by name (made_of r ∷ made)) (kept ++ kept_of call e ∷ [])
     kept_more made kept r reply fate e told readable so h =
         subst (λ (ms : List Made). AllZip IsKeptOf ms (kept ++ kept_of call e ∷ [])) (sym (made_own name (made_of r) made refl))

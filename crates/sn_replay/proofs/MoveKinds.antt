@@ -36,14 +36,14 @@ use Rattle.sn_script.specs.declared.script.Script.{Script}
 use Rattle.sn_replay.specs.Playing.{IsBeginsOf, IsMoveOf}
 use Rattle.sn_replay.proofs.Lists.{each_append, each_flat, each_with}
 
--- an account begins with this set; a version is of this device; no account gets another set
-abbrev pub IsMoveBy : Bytes → Option KeySet → Move → Type 0
-IsMoveBy name begins (Register identifier set) = begins ≡ Some set
+-- an account begins with the set of a request; a version is of this device; no account gets another set
+abbrev pub IsMoveBy : Bytes → (Request → Option KeySet) → Move → Type 0
+IsMoveBy name begins (Register identifier set) = (r : Request) × (begins r ≡ Some set)
 IsMoveBy name begins (Accept device uuid stamp under) = device ≡ name
 IsMoveBy name begins (Change identifier number set) = ⊥
 IsMoveBy name begins m = Unit {0}
 
-module _ (name : Bytes) (begins : Option KeySet) where
+module _ (name : Bytes) (begins : Request → Option KeySet) where
   abbrev Good : Move → Type 0
   Good m = IsMoveBy name begins m
 
@@ -132,28 +132,33 @@ module _ (name : Bytes) (begins : Option KeySet) where
   put_by server (Put r) = accept_by server r.key r.value
   put_by server (Remove at) = tt
 
-pub registers_by : (name identifier : Bytes) (begins : Option KeySet) (changes : List RowChange) → Each (IsMoveBy name begins) (registers_in identifier begins changes)
-registers_by name identifier None changes = tt
-registers_by name identifier (Some set) [] = tt
-registers_by name identifier (Some set) (change ∷ changes) = (refl, tt)
+registers_by : (name identifier : Bytes) (begins : Request → Option KeySet) (r : Request) (changes : List RowChange)
+    → Each (IsMoveBy name begins) (registers_in identifier (begins r) changes)
+registers_by name identifier begins r changes = at (begins r) refl changes
+  where
+    at : (found : Option KeySet) → begins r ≡ found → (cs : List RowChange) → Each (IsMoveBy name begins) (registers_in identifier found cs)
+    at None is cs = tt
+    at (Some set) is [] = tt
+    at (Some set) is (change ∷ cs) = ((r, is), tt)
 
-request_by : (server : Rows) (name : Bytes) (begins : Option KeySet) (r : Request) (changes : List RowChange)
-    → Each (IsMoveBy name begins) (moves_for server name begins r changes)
-request_by server name begins (request.Register params pw) changes = registers_by name params.identifier begins changes
+request_by : (server : Rows) (name : Bytes) (begins : Request → Option KeySet) (r : Request) (changes : List RowChange)
+    → Each (IsMoveBy name begins) (moves_for server name (begins r) r changes)
+request_by server name begins (request.Register params pw) changes = registers_by name params.identifier begins (request.Register params pw) changes
 request_by server name begins (request.Params identifier) changes = tt
 request_by server name begins (request.SignIn identifier pw) changes = tt
 request_by server name begins (request.ChangePw token current pw cost nonce) changes = tt
 request_by server name begins (request.Sync token items limit sync_token cursor_token) changes =
     each_flat (IsMoveBy name begins) (move_of server name) (λ (x : RowChange). put_by name begins server x) changes
 
-pub fate_by : (server : Rows) (name : Bytes) (begins : Option KeySet) (r : Request) (fate : Fate) → Each (IsMoveBy name begins) (fate_moves server name begins r fate)
+pub fate_by : (server : Rows) (name : Bytes) (begins : Request → Option KeySet) (r : Request) (fate : Fate)
+    → Each (IsMoveBy name begins) (fate_moves server name (begins r) r fate)
 fate_by server name begins r undelivered = tt
 fate_by server name begins r (served now changes given arrives) = request_by server name begins r changes
 fate_by server name begins r (crashed now changes given) = tt
 
 -- ---- a whole call
 
-pub told_by : (server rows : Rows) (name : Bytes) (begins : Option KeySet) (acts : List Act) (fates : List Fate)
+pub told_by : (server rows : Rows) (name : Bytes) (begins : Request → Option KeySet) (acts : List Act) (fates : List Fate)
     → Each (IsMoveBy name begins) (told_moves server rows name begins acts fates)
 told_by server rows name begins [] fates = tt
 told_by server rows name begins (committed what changes ∷ acts) fates =
@@ -161,20 +166,20 @@ told_by server rows name begins (committed what changes ∷ acts) fates =
     (commit_by name begins rows (done_of what) changes) (told_by server (rows_after rows changes) name begins acts fates)
 told_by server rows name begins (asked r reply ∷ acts) [] = tt
 told_by server rows name begins (asked r reply ∷ acts) (fate ∷ fates) =
-    each_append (IsMoveBy name begins) (fate_moves server name begins r fate) (told_moves (rows_behind server fate) rows name begins acts fates)
+    each_append (IsMoveBy name begins) (fate_moves server name (begins r) r fate) (told_moves (rows_behind server fate) rows name begins acts fates)
     (fate_by server name begins r fate) (told_by (rows_behind server fate) rows name begins acts fates)
 
 -- ---- of the script
 
-move_of_script : (script : Script) (names : List Bytes) (name : Bytes) (begins : Option KeySet) → IsBeginsOf script begins → One (λ n. n ≡ name) names
-    → (m : Move) → IsMoveBy name begins m → IsMoveOf script names m
-move_of_script script names name begins of among (Register identifier set) is = subst (λ (b : Option KeySet). IsBeginsOf script b) is of
+move_of_script : (script : Script) (names : List Bytes) (name : Bytes) (begins : Request → Option KeySet)
+    → ((q : Request) → IsBeginsOf script (begins q)) → One (λ n. n ≡ name) names → (m : Move) → IsMoveBy name begins m → IsMoveOf script names m
+move_of_script script names name begins of among (Register identifier set) (q, is) = subst (λ (b : Option KeySet). IsBeginsOf script b) is (of q)
 move_of_script script names name begins of among (Accept device uuid stamp under) is =
     subst (λ (n : Bytes). One (λ x. x ≡ n) names) (sym is) among
 move_of_script script names name begins of among (Change identifier number set) is = absurd is
 move_of_script script names name begins of among m is = tt
 
-pub of_script : (script : Script) (names : List Bytes) (name : Bytes) (begins : Option KeySet) (moves : List Move) → IsBeginsOf script begins
-    → One (λ n. n ≡ name) names → Each (IsMoveBy name begins) moves → Each (IsMoveOf script names) moves
+pub of_script : (script : Script) (names : List Bytes) (name : Bytes) (begins : Request → Option KeySet) (moves : List Move)
+    → ((q : Request) → IsBeginsOf script (begins q)) → One (λ n. n ≡ name) names → Each (IsMoveBy name begins) moves → Each (IsMoveOf script names) moves
 of_script script names name begins moves of among each =
     each_with (IsMoveBy name begins) (IsMoveOf script names) (move_of_script script names name begins of among) moves each

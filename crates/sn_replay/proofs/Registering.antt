@@ -1,9 +1,9 @@
 -- A registration begins the set that its line's words give.
-use Rattle.std.proofs.Common.{◌≡◌, ◌⊎◌, ℕ, List, [], ◌∷◌, Option, Some, None, true, sym, ap, ◌∙◌, subst, inl, inr}
+use Rattle.std.proofs.Common.{◌≡◌, ℕ, List, [], ◌∷◌, Option, Some, true, sym, ap, ◌∙◌, subst, inl, inr}
 use Rattle.hex.specs.Hex.{encode_lower}
 use Rattle.rand_chacha.specs.ChaCha.{ChaCha}
 use Rattle.sn_client.specs.Asking.{Reply}
-use Rattle.sn_client.specs.Runs.{Act, Halt, IsNewSet, Run, asked, register}
+use Rattle.sn_client.specs.Runs.{Act, Halt, IsNewSet, Run, asked, commits as committed, register}
 use Rattle.sn_items.specs.Draws.{drawn}
 use Rattle.sn_keys.specs.Keys.{AreKeysOf, derived, third}
 use Rattle.sn_laws.specs.Lookups.{Bytes}
@@ -15,9 +15,11 @@ use Rattle.sn_string.specs.declared.params.KeySet.{KeySet}
 use Rattle.sn_string.specs.declared.params.Params.{Params}
 use Rattle.sn_sync.specs.declared.request.Request.{Request}
 use Rattle.sn_sync.specs.declared.request.Request.TheVariants as request
+use Rattle.sn_telling.specs.Calling.{IsAskedOf}
 use Rattle.sn_telling.specs.Laws.{IsWhole}
+use Rattle.sn_telling.specs.Telling.{AllBegin}
 use Rattle.sn_telling.specs.declared.calling.Asked.TheVariants as asks
-use Rattle.sn_world.specs.Calls.{AreServed, BeginsBy, Fate, call_steps}
+use Rattle.sn_world.specs.Calls.{AreServed, BeginsBy, Fate, IsNoneOr, MayBeginBy, call_steps}
 use Rattle.sn_world.specs.Happens.{Happens, Trace}
 use Rattle.sn_world.specs.Making.{MakesOf, MakesRegister}
 use Rattle.sn_world.specs.Sessions.{with_end}
@@ -45,49 +47,56 @@ params_one words left rest identifier password cost x y h k =
     let spelled : x.params.pw_nonce ≡ y.params.pw_nonce = h.nonce_is.spelled ∙ ap encode_lower same ∙ sym k.nonce_is.spelled in
     same_params x.params y.params (h.identifier_is ∙ sym k.identifier_is) (h.cost_is ∙ sym k.cost_is) spelled
 
-module _ (b : Option KeySet) (words : ChaCha) (identifier password : Bytes) (cost : ℕ) (mine : KeySet) (draws : DrawsSet words identifier password cost mine)
-    (begins : BeginsBy (register identifier password cost) b) where
-  -- what is asked for is the set that would begin, of this password
-  begins_mine : (set : KeySet) (left : ChaCha) → IsNewSet words identifier password cost set left → MakesRegister b (request.Register set.params set.pw)
-      → b ≡ Some mine
-  begins_mine set left new makes = at begins
-    where
-      at : BeginsBy (register identifier password cost) b → b ≡ Some mine
-      at (inl none) = let some : b ≡ Some makes.set = makes.is in absurd (cc)
-      at (inr (other, is, keys)) =
-          let some : b ≡ Some makes.set = makes.is in
-          let same : other ≡ makes.set = cc in
-          let asked_so : request.Register set.params set.pw ≡ request.Register makes.set.params makes.set.pw = makes.request_is in
-          let params : set.params ≡ makes.set.params = cc in
-          let drawn_so : other.params ≡ mine.params =
-          ap (λ (k : KeySet). k.params) same ∙ sym params ∙ params_one words left draws.0 identifier password cost set mine new draws.1 in
-          is ∙ ap Some (keys_one password other mine keys draws.1.keys drawn_so)
+-- each request of a registration would begin its set
+asked_begins : (r : Request) (begins : Option KeySet) (identifier : Bytes) (set : Option KeySet) → IsAskedOf r begins (asks.Register identifier set) → begins ≡ set
+asked_begins (request.Register params pw) begins identifier set h = h.1
+asked_begins (request.Params found) begins identifier set h = absurd h
+asked_begins (request.SignIn found pw) begins identifier set h = absurd h
+asked_begins (request.ChangePw token current pw cost nonce) begins identifier set h = absurd h
+asked_begins (request.Sync token items limit sync_token cursor_token) begins identifier set h = absurd h
 
-  pub register_asked : (rows : Rows) (acts : List Act) (halt : Halt) → Run 1 (register identifier password cost) rows words acts halt
-      → ((r : Request) (reply : Reply) (later : List Act) → acts ≡ asked r reply ∷ later → MakesOf rows b r)
-      → ((acts ≡ []) ⊎ (b ≡ Some mine)) × AreAskedSo b (asks.Register identifier (Some mine)) acts
-  register_asked rows acts halt (inl wants) makes = (inl wants.0, none_asked b (asks.Register identifier (Some mine)) acts wants.0)
-  register_asked rows acts halt (inr (inl (owner, has, refuses))) makes =
-      (inl refuses.0, none_asked b (asks.Register identifier (Some mine)) acts refuses.0)
-  register_asked rows acts halt (inr (inr (none, inl (bad, refuses)))) makes =
-      (inl refuses.0, none_asked b (asks.Register identifier (Some mine)) acts refuses.0)
-  register_asked rows acts halt (inr (inr (none, inr (fine, (set, left, new, asks_so))))) makes =
-      let same : b ≡ Some mine = begins_mine set left new (makes (request.Register set.params set.pw) asks_so.0 asks_so.1 asks_so.2) in
-      (inr same, account_asked b (asks.Register identifier (Some mine)) rows left (request.Register set.params set.pw) _ acts halt (new.identifier_is, same) asks_so)
+pub all_begin : (b : Request → Option KeySet) (identifier : Bytes) (set : Option KeySet) (acts : List Act) → AreAskedSo b (asks.Register identifier set) acts
+    → AllBegin b set acts
+all_begin b identifier set [] h = tt
+all_begin b identifier set (committed what changes ∷ acts) h = all_begin b identifier set acts h
+all_begin b identifier set (asked r reply ∷ acts) h = (asked_begins r (b r) identifier set h.0, all_begin b identifier set acts h.1)
+
+module _ (b : Request → Option KeySet) (words : ChaCha) (identifier password : Bytes) (cost : ℕ) (mine : KeySet)
+    (draws : DrawsSet words identifier password cost mine) (rows : Rows) (begins : BeginsBy rows (register identifier password cost) b) where
+  -- what is asked for is the set that would begin, of this password
+  begins_mine : (set : KeySet) (left : ChaCha) → IsNewSet words identifier password cost set left
+      → MakesRegister (b (request.Register set.params set.pw)) (request.Register set.params set.pw) → b (request.Register set.params set.pw) ≡ Some mine
+  begins_mine set left new makes =
+      let keys : AreKeysOf password makes.set.params makes.set =
+      subst (IsNoneOr (MayBeginBy rows (register identifier password cost))) makes.is (begins (request.Register set.params set.pw)) in
+      let asked_so : request.Register set.params set.pw ≡ request.Register makes.set.params makes.set.pw = makes.request_is in
+      let params : set.params ≡ makes.set.params = cc in
+      makes.is
+      ∙ ap Some (keys_one password makes.set mine keys draws.1.keys (sym params ∙ params_one words left draws.0 identifier password cost set mine new draws.1))
+
+  pub register_asked : (acts : List Act) (halt : Halt) → Run 1 (register identifier password cost) rows words acts halt
+      → ((r : Request) (reply : Reply) (later : List Act) → acts ≡ asked r reply ∷ later → MakesOf rows (b r) r)
+      → AreAskedSo b (asks.Register identifier (Some mine)) acts
+  register_asked acts halt (inl wants) makes = none_asked b (asks.Register identifier (Some mine)) acts wants.0
+  register_asked acts halt (inr (inl (owner, has, refuses))) makes = none_asked b (asks.Register identifier (Some mine)) acts refuses.0
+  register_asked acts halt (inr (inr (none, inl (bad, refuses)))) makes = none_asked b (asks.Register identifier (Some mine)) acts refuses.0
+  register_asked acts halt (inr (inr (none, inr (fine, (set, left, new, asks_so))))) makes =
+      account_asked b (asks.Register identifier (Some mine)) rows left (request.Register set.params set.pw) _ acts halt
+      (new.identifier_is, begins_mine set left new (makes (request.Register set.params set.pw) asks_so.0 asks_so.1 asks_so.2)) asks_so
 
 -- ---- the trace of a call
 
-first_makes : (secret : Bytes) (w next : World) (s : Ideal) (name : Bytes) (b : Option KeySet) (server : Rows) (r : Request) (reply : Reply) (later : List Act)
-    (fates : List Fate) (moves : List Move) → AreServed server (asked r reply ∷ later) fates
-    → Trace secret w s (call_steps name b (asked r reply ∷ later) fates) moves next → MakesOf (w.devices name) b r
+first_makes : (secret : Bytes) (w next : World) (s : Ideal) (name : Bytes) (b : Request → Option KeySet) (server : Rows) (r : Request)
+    (reply : Reply) (later : List Act) (fates : List Fate) (moves : List Move) → AreServed server (asked r reply ∷ later) fates
+    → Trace secret w s (call_steps name b (asked r reply ∷ later) fates) moves next → MakesOf (w.devices name) (b r) r
 first_makes secret w next s name b server r reply later [] moves over t = absurd over
 first_makes secret w next s name b server r reply later (fate ∷ fates) moves over (mid, first, others, does, says, rest, is) = does.of
 
 -- the first request of a whole call is one that the device's rows give
-pub makes_first : (secret : Bytes) (w next : World) (s : Ideal) (name : Bytes) (b : Option KeySet) (acts : List Act) (fates : List Fate) (halt : Halt)
-    (moves : List Move) → IsWhole halt → AreServed w.server acts fates
+pub makes_first : (secret : Bytes) (w next : World) (s : Ideal) (name : Bytes) (b : Request → Option KeySet) (acts : List Act) (fates : List Fate)
+    (halt : Halt) (moves : List Move) → IsWhole halt → AreServed w.server acts fates
     → Trace secret w s (with_end name halt true (call_steps name b acts fates)) moves next
-    → (r : Request) (reply : Reply) (later : List Act) → acts ≡ asked r reply ∷ later → MakesOf (w.devices name) b r
+    → (r : Request) (reply : Reply) (later : List Act) → acts ≡ asked r reply ∷ later → MakesOf (w.devices name) (b r) r
 makes_first secret w next s name b acts fates halt moves whole over t r reply later is =
     first_makes secret w next s name b w.server r reply later fates moves (subst (λ (xs : List Act). AreServed w.server xs fates) is over)
     (subst (λ (xs : List Act). Trace secret w s (call_steps name b xs fates) moves next) is

@@ -31,6 +31,7 @@ use Rattle.sn_row_map.specs.RowMaps.{row_in}
 use Rattle.sn_rows.specs.Table.{Rows}
 use Rattle.sn_script.specs.declared.script.Script.{Script}
 use Rattle.sn_string.specs.declared.params.KeySet.{KeySet}
+use Rattle.sn_sync.specs.declared.request.Request.{Request}
 use Rattle.sn_tail.specs.Shelves.{SlotReads}
 use Rattle.sn_telling.specs.Calling.{IsCallingOf}
 use Rattle.sn_telling.specs.Laws.{CallsTell, IsWhole}
@@ -81,7 +82,7 @@ module _ (tell : CallsTell) (fit : TracesFit) (script : Script) (secret : Bytes)
     (call : Call) (calling : Calling) (old : Ends) (seen behind : Seen) (came : Came) (moves : List Move) (e : Event)
     (at : IsAt script secret (record { ends = old; seen = seen }) c) (l : IsLineOf script secret c r name call calling)
     (x : HasCame secret c.world (end c.moves) name call (words_of r.settings r.number) (setting_at r.settings (fates_of r.asks)) old came)
-    (sees : (begins : Option KeySet) → IsCallingOf call begins x.acts calling
+    (sees : (begins : Request → Option KeySet) → IsCallingOf call begins x.acts calling
     → Run 1 call (mirrored seen.devices name) (words_of r.settings r.number) x.acts x.halt → IsWhole x.halt
     → AreTold host x.acts x.fates came.batches came.exchanged
     → SeesMoves (row_in seen.server) (row_in behind.server) (mirrored seen.devices name) (mirrored behind.devices name) name begins x.acts x.fates moves)
@@ -93,7 +94,7 @@ module _ (tell : CallsTell) (fit : TracesFit) (script : Script) (secret : Bytes)
   abbrev words : ChaCha
   words = words_of r.settings r.number
 
-  abbrev begins : Option KeySet
+  abbrev begins : Request → Option KeySet
   begins = x.leads.begins
 
   abbrev w : World
@@ -191,14 +192,14 @@ module _ (tell : CallsTell) (fit : TracesFit) (script : Script) (secret : Bytes)
       (subst (λ (ms : List Made). AllZip IsKeptOf ms (requests_of behind.requests other)) (sym (others_made name begins other apart x.acts x.fates w.made))
       (subst (λ (ks : List Kept). AllZip IsKeptOf (made_by other w.made) ks) (sym (others_keep other apart)) (at.requests_are other))))
 
-  begins_so : IsBeginsOf script begins
+  begins_so : (q : Request) → IsBeginsOf script (begins q)
   begins_so = l.of_script begins x.leads.of_line
 
   made_ours : Each (IsMadeOf script now.names) next.made
   made_ours =
       subst (λ (d : Option Bytes). Each (IsMadeOf script (names_with c.names d)) next.made) (sym l.named)
       (subst (Each (IsMadeOf script (names_with c.names (Some name)))) (sym made_now)
-      (each_made name begins (IsMadeOf script (names_with c.names (Some name))) (λ q. record { among = names_among c.names name; begins = begins_so })
+      (each_made name begins (IsMadeOf script (names_with c.names (Some name))) (λ q. record { among = names_among c.names name; begins = begins_so q })
       x.acts x.fates w.made (made_grow script c.names (Some name) w.made at.made_are)))
 
   moves_ours : Each (IsMoveOf script now.names) (c.moves ++ e.moves)

@@ -23,6 +23,7 @@ use Rattle.sn_report.specs.declared.report.Event.{Event}
 use Rattle.sn_report.specs.declared.report.Last.{Last}
 use Rattle.sn_rows.specs.Table.{Rows}
 use Rattle.sn_string.specs.declared.params.KeySet.{KeySet}
+use Rattle.sn_sync.specs.declared.request.Request.{Request}
 use Rattle.sn_tail.specs.Shelves.{SlotReads}
 use Rattle.sn_telling.specs.Laws.{IsWhole}
 use Rattle.sn_telling.specs.Telling.{told_moves}
@@ -52,8 +53,8 @@ pub record HasCame (secret : Bytes) (w : World) (s : Ideal) (name : Bytes) (call
   pub grow : EndsGrow old came.ends
 
 -- its moves, by the rows of both ends before it, and the rows behind it
-pub record SeesMoves (server server_behind rows rows_behind : Rows) (name : Bytes) (begins : Option KeySet) (acts : List Act) (fates : List Fate) (moves : List Move)
-    : Type 0 where
+pub record SeesMoves (server server_behind rows rows_behind : Rows) (name : Bytes) (begins : Request → Option KeySet) (acts : List Act) (fates : List Fate)
+    (moves : List Move) : Type 0 where
   pub moves_are : moves ≡ told_moves server rows name begins acts fates
   pub server_is : server_behind ≡ rows_served server fates
   pub rows_are : rows_behind ≡ rows_done rows acts

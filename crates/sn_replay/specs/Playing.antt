@@ -26,6 +26,7 @@ use Rattle.sn_row_map.specs.RowMaps.{row_in}
 use Rattle.sn_script.specs.declared.script.Line.{Line}
 use Rattle.sn_script.specs.declared.script.Script.{Script}
 use Rattle.sn_string.specs.declared.params.KeySet.{KeySet}
+use Rattle.sn_sync.specs.declared.request.Request.{Request}
 use Rattle.sn_tail.specs.Shelves.{SlotReads}
 use Rattle.sn_telling.specs.Calling.{IsAskedOf, IsCallingOf}
 use Rattle.sn_telling.specs.Laws.{IsWhole}
@@ -97,11 +98,11 @@ pub record Tells (script : Script) (secret : Bytes) (known : Known) (c : Course)
   pub server_mark : told.event.server_mark ≡ slot_mark (server_slot told.known.ends)
   pub server_reads : SlotReads (server_slot told.known.ends) ServerOwner told.event.server_mark next.server
 
--- each request among the acts is this, where a registration would begin this set
-abbrev pub AreAskedSo : Option KeySet → Asked → List Act → Type 0
+-- each request among the acts is this, where a registration would begin the set that is said of it
+abbrev pub AreAskedSo : (Request → Option KeySet) → Asked → List Act → Type 0
 AreAskedSo begins a [] = Unit {0}
 AreAskedSo begins a (committed what changes ∷ acts) = AreAskedSo begins a acts
-AreAskedSo begins a (asked r reply ∷ acts) = IsAskedOf r begins a × AreAskedSo begins a acts
+AreAskedSo begins a (asked r reply ∷ acts) = IsAskedOf r (begins r) a × AreAskedSo begins a acts
 
 -- the line asks this device for this call: what the event of such a line is, whatever the call
 pub record IsLineOf (script : Script) (secret : Bytes) (c : Course) (r : Reported) (name : Bytes) (call : Call) (calling : Calling) : Type 0 where
@@ -109,7 +110,7 @@ pub record IsLineOf (script : Script) (secret : Bytes) (c : Course) (r : Reporte
   pub happens : (e : Event) (next : World) → Called secret c r name call e next → HappensAs r.asks secret c r e next
   pub shows : shown_by r.asks c.labels c.names (end c.moves) ≡ []
   pub puts : puts_item r.asks ≡ puts_of calling
-  pub of_script : (begins : Option KeySet) → BeginsBy call begins → IsBeginsOf script begins
+  pub of_script : (begins : Request → Option KeySet) → BeginsBy (c.world.devices name) call begins → (q : Request) → IsBeginsOf script (begins q)
   pub calls_so : (acts : List Act) (fates : List Fate) (halt : Halt)
       → MayCome secret c.world (end c.moves) (calls name 1 call (words_of r.settings r.number) acts fates halt true)
       → (leads : LeadsLine secret c.world (end c.moves) (calls name 1 call (words_of r.settings r.number) acts fates halt true)) → IsWhole halt

@@ -12,6 +12,7 @@ ghost use Rattle.sn_replay.specs.Mirrored.{mirrored};
 ghost use Rattle.sn_report.specs.Labels.{labels_of};
 ghost use Rattle.sn_row_map.specs.RowMaps.{row_in};
 ghost use Rattle.sn_string.specs.declared.params.KeySet.{KeySet};
+ghost use Rattle.sn_sync.specs.declared.request.Request.{Request};
 ghost use Rattle.sn_telling.specs.Calling.{IsCallingOf};
 ghost use Rattle.sn_telling.specs.Laws.{IsWhole};
 ghost use Rattle.sn_world.specs.Calls.{Fate};
@@ -35,7 +36,7 @@ pub(crate) fn see(
     calling: &Calling,
     came: &Came,
 ) -> Result<Many<Move>, AllocError>
-    ensures moves { (call : Call) (begins : Option KeySet) (words : ChaCha) (acts : List Act) (fates : List Fate) (halt : Halt) →
+    ensures moves { (call : Call) (begins : Request → Option KeySet) (words : ChaCha) (acts : List Act) (fates : List Fate) (halt : Halt) →
         IsCallingOf call begins acts calling.now → Run 1 call (mirrored seen.old.devices name.now) words acts halt → IsWhole halt
         → AreTold host acts fates came.now.batches came.now.exchanged
         → IfOk result (SeesMoves (row_in seen.old.server) (row_in seen.new.server) (mirrored seen.old.devices name.now) (mirrored seen.new.devices name.now) name.now begins acts fates) }
@@ -66,7 +67,7 @@ fn moves_of(
     calling: &Calling,
     came: &Came,
 ) -> Result<Many<Move>, AllocError>
-    ensures moves { (call : Call) (begins : Option KeySet) (words : ChaCha) (acts : List Act) (fates : List Fate) (halt : Halt) →
+    ensures moves { (call : Call) (begins : Request → Option KeySet) (words : ChaCha) (acts : List Act) (fates : List Fate) (halt : Halt) →
         IsCallingOf call begins acts calling.now → Run 1 call (mirrored devices.old name.now) words acts halt → IsWhole halt
         → AreTold host acts fates came.now.batches came.now.exchanged
         → IfOk result (SeesMoves (row_in server.old) (row_in server.new) (mirrored devices.old name.now) (mirrored devices.new name.now) name.now begins acts fates) }

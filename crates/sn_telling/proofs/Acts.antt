@@ -24,19 +24,19 @@ use Rattle.sn_sync.specs.declared.answer.Answer.{Answer}
 use Rattle.sn_sync.specs.declared.request.Request.{Request}
 use Rattle.sn_sync.specs.declared.request.Request.TheVariants as request
 use Rattle.sn_telling.specs.Calling.{IsAskedOf, IsCallingOf}
-use Rattle.sn_telling.specs.Telling.{done_of, only_set}
+use Rattle.sn_telling.specs.Telling.{AllBegin, done_of, only_set}
 use Rattle.sn_telling.specs.Walking.{asked_by, done_by, first_item, put_done, signed_done}
 use Rattle.sn_telling.specs.declared.calling.Calling.{Calling}
 use Rattle.sn_telling.specs.declared.calling.Calling.TheVariants as calling
 
 -- ---- a call that is no sync: its requests, and then one commit at most
 
-abbrev pub ArePlain : Rows → Calling → Option KeySet → List Act → Type 0
+abbrev pub ArePlain : Rows → Calling → (Request → Option KeySet) → List Act → Type 0
 ArePlain rows what begun [] = Unit {0}
-ArePlain rows what begun (asked r reply ∷ acts) = IsAskedOf r begun (asked_by what) × ArePlain rows what begun acts
+ArePlain rows what begun (asked r reply ∷ acts) = IsAskedOf r (begun r) (asked_by what) × ArePlain rows what begun acts
 ArePlain rows what begun (committed did changes ∷ acts) = (done_of did ≡ done_by rows what changes) × (acts ≡ [])
 
-module _ (rows : Rows) (what : Calling) (begun : Option KeySet) where
+module _ (rows : Rows) (what : Calling) (begun : Request → Option KeySet) where
   none : (acts : List Act) → acts ≡ [] → ArePlain rows what begun acts
   none acts is = subst (λ (xs : List Act). ArePlain rows what begun xs) (sym is) tt
 
@@ -47,13 +47,13 @@ module _ (rows : Rows) (what : Calling) (begun : Option KeySet) where
       subst (λ (xs : List Act). ArePlain rows what begun xs) (sym is) (same changes left step, refl)
   once words did given acts halt (changes, left, step, inr (is, stops)) same = none acts is
 
-  with_ask : (r : Request) (reply : Reply) (later acts : List Act) → acts ≡ asked r reply ∷ later → IsAskedOf r begun (asked_by what)
+  with_ask : (r : Request) (reply : Reply) (later acts : List Act) → acts ≡ asked r reply ∷ later → IsAskedOf r (begun r) (asked_by what)
       → ArePlain rows what begun later → ArePlain rows what begun acts
   with_ask r reply later acts is fits rest = subst (λ (xs : List Act). ArePlain rows what begun xs) (sym is) (fits, rest)
 
   -- a request, and what is done with its answer
   asks_first : (r : Request) (P : Answer → List Act → Halt → Type 0) (acts : List Act) (halt : Halt) → AsksFirst r P acts halt
-      → ((reply : Reply) (later : List Act) → acts ≡ asked r reply ∷ later → IsAskedOf r begun (asked_by what))
+      → ((reply : Reply) (later : List Act) → acts ≡ asked r reply ∷ later → IsAskedOf r (begun r) (asked_by what))
       → ((given : Answer) (later : List Act) → P given later halt → ArePlain rows what begun later) → ArePlain rows what begun acts
   asks_first r P acts halt (reply, later, is, inl (why, fails, (no_more, stops))) fits goes =
       with_ask r reply later acts is (fits reply later is) (none later no_more)
@@ -72,8 +72,8 @@ module _ (rows : Rows) (what : Calling) (begun : Option KeySet) where
 abbrev begins_as : Bytes → Done
 begins_as identifier = done.Begins identifier only_set
 
-plain_register : (least : ℕ) (identifier password : Bytes) (cost : ℕ) (name : Bytes) (set begun : Option KeySet) (rows : Rows) (words : ChaCha) (acts : List Act)
-    (halt : Halt) → identifier ≡ name → (acts ≡ []) ⊎ (begun ≡ set) → RunsRegister least identifier password cost rows words acts halt
+plain_register : (least : ℕ) (identifier password : Bytes) (cost : ℕ) (name : Bytes) (set : Option KeySet) (begun : Request → Option KeySet) (rows : Rows)
+    (words : ChaCha) (acts : List Act) (halt : Halt) → identifier ≡ name → AllBegin begun set acts → RunsRegister least identifier password cost rows words acts halt
     → ArePlain rows (calling.Register name set) begun acts
 plain_register least identifier password cost name set begun rows words acts halt same set_is (inl (owner, has, (no_more, stops))) =
     none rows (calling.Register name set) begun acts no_more
@@ -81,17 +81,13 @@ plain_register least identifier password cost name set begun rows words acts hal
     none rows (calling.Register name set) begun acts no_more
 plain_register least identifier password cost name set begun rows words acts halt same set_is (inr (no_account, inr (good, (new, left, is_new, asks)))) =
     asks_first rows (calling.Register name set) begun (request.Register new.params new.pw) (KeepsAccount rows left (begins new)) acts halt asks
-    (λ reply later is. (is_new.identifier_is ∙ same, begun_as reply later is set_is))
+    (λ reply later is. (is_new.identifier_is ∙ same, (subst (AllBegin begun set) is set_is).0))
     (λ given later keeps. keeps_account rows (calling.Register name set) begun left (begins new) given later halt keeps
     (λ uuid token changes. ap begins_as (is_new.identifier_is ∙ same)))
-  where
-    begun_as : (reply : Reply) (later : List Act) → acts ≡ asked (request.Register new.params new.pw) reply ∷ later → (acts ≡ []) ⊎ (begun ≡ set) → begun ≡ set
-    begun_as reply later is (inl none_asked) = absurd (let impossible : ⊥ = cc in impossible)
-    begun_as reply later is (inr e) = e
 
 -- ---- a sign-in
 
-module _ (rows : Rows) (words : ChaCha) (identifier name : Bytes) (same : identifier ≡ name) (begun : Option KeySet) (halt : Halt) where
+module _ (rows : Rows) (words : ChaCha) (identifier name : Bytes) (same : identifier ≡ name) (begun : Request → Option KeySet) (halt : Halt) where
   abbrev Plain : List Act → Type 0
   Plain acts = ArePlain rows (calling.SignIn name) begun acts
 
@@ -145,7 +141,7 @@ put_is rows words uuid kind text changes left new =
     ap (λ (u : Bytes). done.Puts u kind text) (sym (ap (λ (c : Columns). c.uuid) new.item_is.columns_are))
     ∙ ap (put_done kind text) (sym (ap first_item new.changes_are ∙ put_item new.item new.owner.next new.item_is.local new.item_is.puts))
 
-module _ (rows : Rows) (what : Calling) (begun : Option KeySet) (words : ChaCha) (acts : List Act) (halt : Halt) where
+module _ (rows : Rows) (what : Calling) (begun : Request → Option KeySet) (words : ChaCha) (acts : List Act) (halt : Halt) where
   abbrev Ends : Type 0
   Ends = ArePlain rows what begun acts
 
@@ -165,7 +161,7 @@ module _ (rows : Rows) (what : Calling) (begun : Option KeySet) (words : ChaCha)
   with_item sets uuid P so (inr (number, local, stood, undeleted, inl (nonce, closed, refuses))) = none rows what begun acts refuses.0
   with_item sets uuid P so (inr (number, local, stood, undeleted, inr (shown, shows, p))) = so shown p
 
-plain_put : (rows : Rows) (kind text type content : Bytes) (begun : Option KeySet) (words : ChaCha) (acts : List Act) (halt : Halt) → kind ≡ type → text ≡ content
+plain_put : (rows : Rows) (kind text type content : Bytes) (begun : Request → Option KeySet) (words : ChaCha) (acts : List Act) (halt : Halt) → kind ≡ type → text ≡ content
     → RunsPut kind text rows words acts halt → ArePlain rows (calling.Put type content) begun acts
 plain_put rows kind text type content begun words acts halt same_kind same_text runs =
     with_account rows (calling.Put type content) begun words acts halt (λ owner sets. WithContent text (PutsItem rows words owner kind text))
@@ -179,7 +175,7 @@ plain_put rows kind text type content begun words acts halt same_kind same_text 
         (λ changes left step. put_is rows words uuid kind text changes left step
         ∙ ap (λ (k : Bytes). put_done k text (first_item changes)) same_kind ∙ ap (λ (t : Bytes). put_done type t (first_item changes)) same_text)
 
-plain_edit : (rows : Rows) (uuid text content : Bytes) (begun : Option KeySet) (words : ChaCha) (acts : List Act) (halt : Halt) → text ≡ content
+plain_edit : (rows : Rows) (uuid text content : Bytes) (begun : Request → Option KeySet) (words : ChaCha) (acts : List Act) (halt : Halt) → text ≡ content
     → RunsEdit uuid text rows words acts halt → ArePlain rows (calling.Edit content) begun acts
 plain_edit rows uuid text content begun words acts halt same runs =
     with_account rows (calling.Edit content) begun words acts halt
@@ -189,7 +185,7 @@ plain_edit rows uuid text content begun words acts halt same runs =
     (λ commit. once rows (calling.Edit content) begun words (edits uuid text) nothing acts halt commit (λ changes left step. ap (λ (t : Bytes). done.Edits t) same))
     q) p) runs
 
-plain_delete : (rows : Rows) (uuid : Bytes) (begun : Option KeySet) (words : ChaCha) (acts : List Act) (halt : Halt)
+plain_delete : (rows : Rows) (uuid : Bytes) (begun : Request → Option KeySet) (words : ChaCha) (acts : List Act) (halt : Halt)
     → RunsDelete uuid rows words acts halt → ArePlain rows calling.Delete begun acts
 plain_delete rows uuid begun words acts halt runs =
     with_account rows calling.Delete begun words acts halt (DeletesItem uuid rows words) (λ owner sets p. deletes_it owner sets p) runs
@@ -201,7 +197,7 @@ plain_delete rows uuid begun words acts halt runs =
 
 -- ---- each of them
 
-pub plain_acts : (least : ℕ) (call : Call) (what : Calling) (begun : Option KeySet) (rows : Rows) (words : ChaCha) (acts : List Act) (halt : Halt)
+pub plain_acts : (least : ℕ) (call : Call) (what : Calling) (begun : Request → Option KeySet) (rows : Rows) (words : ChaCha) (acts : List Act) (halt : Halt)
     → (what ≡ calling.Sync → ⊥) → IsCallingOf call begun acts what → RunsCall least call rows words acts halt → ArePlain rows what begun acts
 plain_acts least (register identifier password cost) (calling.Register name set) begun rows words acts halt other (same, set_is) runs =
     plain_register least identifier password cost name set begun rows words acts halt same set_is runs

@@ -24,7 +24,7 @@ use Rattle.sn_telling.proofs.PlainTold.{Plain, changes_told, plain_told, rows_ch
 use Rattle.sn_telling.proofs.ResolvedTold.{nothing_done, sync_told}
 use Rattle.sn_telling.proofs.SyncTold.{Synced}
 
-module _ (host name : Bytes) (begun : Option KeySet) (words : ChaCha) (acts : List Act) (fates : List Fate) (halt : Halt) (server rows server_end rows_end : Rows)
+module _ (host name : Bytes) (begun : Request → Option KeySet) (words : ChaCha) (acts : List Act) (fates : List Fate) (halt : Halt) (server rows server_end rows_end : Rows)
     (batches : List (List Change)) (exchanged : List Exchanged) (told : AreTold host acts fates batches exchanged) (moves : List Move) where
   abbrev pub IsTold : Type 0
   IsTold = (moves ≡ told_moves server rows name begun acts fates) × (server_end ≡ rows_served server fates) × (rows_end ≡ rows_done rows acts)

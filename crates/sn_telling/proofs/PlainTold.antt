@@ -74,14 +74,14 @@ module _ (host : Bytes) (r : Request) (reply : Reply) (e : Exchanged) (server : 
 -- ---- a call that is no sync
 
 -- no commit is among no batches, and no exchange is left
-pub record Plain (server rows : Rows) (name : Bytes) (what : Calling) (begun : Option KeySet) (acts : List Act) (fates : List Fate) (batches : List (List Change))
+pub record Plain (server rows : Rows) (name : Bytes) (what : Calling) (begun : Request → Option KeySet) (acts : List Act) (fates : List Fate) (batches : List (List Change))
     (exchanged : List Exchanged) : Type 0 where
   pub moves_are : exchanged_moves server name (asked_by what) exchanged ++ committed_moves rows name what batches
       ≡ told_moves server rows name begun acts fates
   pub server_is : rows_exchanged server exchanged ≡ rows_served server fates
   pub device_is : rows_behind_all rows batches ≡ rows_done rows acts
 
-module _ (host name : Bytes) (what : Calling) (begun : Option KeySet) where
+module _ (host name : Bytes) (what : Calling) (begun : Request → Option KeySet) where
   nothing_told : (server rows : Rows) (fates : List Fate) (batches : List (List Change)) (exchanged : List Exchanged) → fates ≡ [] → batches ≡ []
       → exchanged ≡ [] → Plain server rows name what begun [] fates batches exchanged
   nothing_told server rows fates batches exchanged no_fates no_batches no_exchanges = record {
@@ -120,15 +120,15 @@ module _ (host name : Bytes) (what : Calling) (begun : Option KeySet) where
       let behind : rows_behind_all server e.batches ≡ rows_behind server fate = rows_told host r reply e server fate one in
       let rest : Plain (rows_behind server fate) rows name what begun acts fates batches exchanged =
       plain_told (rows_behind server fate) rows acts fates batches exchanged plain told in
-      let first : gained_moves server name (asked_by what) e.batches ≡ fate_moves server name begun r fate =
-      fate_told host r reply e server fate name begun (asked_by what) is one in
+      let first : gained_moves server name (asked_by what) e.batches ≡ fate_moves server name (begun r) r fate =
+      fate_told host r reply e server fate name (begun r) (asked_by what) is one in
       record {
         moves_are = ap (λ (z : Rows). (gained_moves server name (asked_by what) e.batches ++ exchanged_moves z name (asked_by what) exchanged)
             ++ committed_moves rows name what batches) behind
             ∙ append_assoc (gained_moves server name (asked_by what) e.batches) (exchanged_moves (rows_behind server fate) name (asked_by what) exchanged)
             (committed_moves rows name what batches)
             ∙ ap (λ (m : List Move). m ++ (exchanged_moves (rows_behind server fate) name (asked_by what) exchanged ++ committed_moves rows name what batches)) first
-            ∙ ap (λ (m : List Move). fate_moves server name begun r fate ++ m) rest.moves_are;
+            ∙ ap (λ (m : List Move). fate_moves server name (begun r) r fate ++ m) rest.moves_are;
         server_is = ap (λ (z : Rows). rows_exchanged z exchanged) behind ∙ rest.server_is;
         device_is = rest.device_is;
       }

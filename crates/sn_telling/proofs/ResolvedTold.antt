@@ -50,10 +50,10 @@ other_of (request.ChangePw token current pw cost nonce) set is = tt
 other_of (request.Register params pw) set is = absurd is
 other_of (request.Sync token items limit sync_token cursor_token) set is = absurd is
 
-dropped_plain : (rows : Rows) (set : Option KeySet) (acts : List Act) → AreDropped acts → ArePlain rows calling.Sync set acts
-dropped_plain rows set [] dropped = tt
-dropped_plain rows set (asked r reply ∷ acts) (of, dropped) = (other_of r set of, dropped_plain rows set acts dropped)
-dropped_plain rows set (committed did changes ∷ acts) (is, other, last) = (renews did is, last)
+dropped_plain : (rows : Rows) (begins : Request → Option KeySet) (acts : List Act) → AreDropped acts → ArePlain rows calling.Sync begins acts
+dropped_plain rows begins [] dropped = tt
+dropped_plain rows begins (asked r reply ∷ acts) (of, dropped) = (other_of r (begins r) of, dropped_plain rows begins acts dropped)
+dropped_plain rows begins (committed did changes ∷ acts) (is, other, last) = (renews did is, last)
   where
     renews : (what : What) → what ≡ forgets → done_of what ≡ done.Renews
     renews what e = ap done_of e
@@ -117,17 +117,17 @@ module _ (host : Bytes) where
     rest_told = told;
   }
 
-  module _ (name : Bytes) (set : Option KeySet) (server_end rows_end : Rows) where
+  module _ (name : Bytes) (begins : Request → Option KeySet) (server_end rows_end : Rows) where
     -- a request of which nothing is told
     quiet : (r : Request) (reply : Reply) (fate : Fate) (e : Exchanged) (server : Rows) → IsAskedOf r None ask.Other → IsToldOf host r reply fate e
-        → fate_moves server name set r fate ≡ []
+        → fate_moves server name (begins r) r fate ≡ []
     quiet r reply fate e server of told =
-        sym (fate_told host r reply e server fate name set ask.Other (other_of r set of) told) ∙ gained_none server name e.batches
+        sym (fate_told host r reply e server fate name (begins r) ask.Other (other_of r (begins r) of) told) ∙ gained_none server name e.batches
 
     adopted_told : (server rows : Rows) (acts later : List Act) (fates : List Fate) (batches : List (List Change)) (exchanged : List Exchanged) (moves : List Move)
         → IsAdopted acts later → AreSynced starts later → AreTold host acts fates batches exchanged
         → SaysResolved true server rows name batches exchanged moves server_end rows_end
-        → Synced server rows name set acts fates moves server_end rows_end
+        → Synced server rows name begins acts fates moves server_end rows_end
     adopted_told server rows acts later fates batches exchanged moves a synced told says =
         let x : Parts a.first a.second a.first_reply a.second_reply a.changes later fates batches exchanged =
         parts a.first a.second a.first_reply a.second_reply (adopts a.set a.token) a.changes later fates batches exchanged
@@ -139,7 +139,7 @@ module _ (host : Bytes) where
       where
         by : (x : Parts a.first a.second a.first_reply a.second_reply a.changes later fates batches exchanged)
             → SaysResolved true server rows name (x.batch ∷ x.more) (x.e ∷ x.f ∷ x.rest) moves server_end rows_end
-            → Synced server rows name set acts fates moves server_end rows_end
+            → Synced server rows name begins acts fates moves server_end rows_end
         by x (said, on, all) =
             let mid : Rows = rows_behind server x.one in
             let far : Rows = rows_behind mid x.two in
@@ -148,21 +148,21 @@ module _ (host : Bytes) where
             ap (λ (z : Rows). rows_behind_all z x.f.batches) server_one ∙ rows_told host a.second a.second_reply x.f mid x.two x.two_told in
             let on_so : SaysSynced far (rows_after rows x.batch) name x.more x.rest said server_end rows_end =
             subst (λ (z : Rows). SaysSynced z (rows_after rows x.batch) name x.more x.rest said server_end rows_end) server_two on in
-            let rest : Synced far (rows_after rows x.batch) name set later x.others said server_end rows_end =
-            synced_told host name set server_end rows_end starts far (rows_after rows x.batch) None later x.others x.more x.rest said tt synced x.rest_told on_so in
+            let rest : Synced far (rows_after rows x.batch) name begins later x.others said server_end rows_end =
+            synced_told host name begins server_end rows_end starts far (rows_after rows x.batch) None later x.others x.more x.rest said tt synced x.rest_told on_so in
             let none : exchanged_moves server name ask.Other (x.e ∷ x.f ∷ []) ++ committed_moves rows name calling.Sync (x.batch ∷ []) ≡ [] =
             ap (λ (m : List Move). m ++ []) (exchanged_none server name (x.e ∷ x.f ∷ [])) in
-            let acts_so : told_moves server rows name set acts fates ≡ told_moves far (rows_after rows a.changes) name set later x.others =
-            ap (λ (xs : List Act). told_moves server rows name set xs fates) a.acts_are
-            ∙ ap (λ (fs : List Fate). told_moves server rows name set
+            let acts_so : told_moves server rows name begins acts fates ≡ told_moves far (rows_after rows a.changes) name begins later x.others =
+            ap (λ (xs : List Act). told_moves server rows name begins xs fates) a.acts_are
+            ∙ ap (λ (fs : List Fate). told_moves server rows name begins
             (asked a.first a.first_reply ∷ asked a.second a.second_reply ∷ committed (adopts a.set a.token) a.changes ∷ later) fs) x.fates_are
-            ∙ ap (λ (m : List Move). m ++ (fate_moves mid name set a.second x.two ++ told_moves far (rows_after rows a.changes) name set later x.others))
+            ∙ ap (λ (m : List Move). m ++ (fate_moves mid name (begins a.second) a.second x.two ++ told_moves far (rows_after rows a.changes) name begins later x.others))
             (quiet a.first a.first_reply x.one x.e server a.first_is x.one_told)
-            ∙ ap (λ (m : List Move). m ++ told_moves far (rows_after rows a.changes) name set later x.others)
+            ∙ ap (λ (m : List Move). m ++ told_moves far (rows_after rows a.changes) name begins later x.others)
             (quiet a.second a.second_reply x.two x.f mid a.second_is x.two_told) in
             record {
               moves_are = all ∙ ap (λ (m : List Move). m ++ said) none ∙ rest.moves_are
-                  ∙ ap (λ (b : List Change). told_moves far (rows_after rows b) name set later x.others) x.batch_is ∙ sym acts_so;
+                  ∙ ap (λ (b : List Change). told_moves far (rows_after rows b) name begins later x.others) x.batch_is ∙ sym acts_so;
               server_is = rest.server_is ∙ sym (ap (rows_served server) x.fates_are);
               device_is = rest.device_is ∙ ap (λ (b : List Change). rows_done (rows_after rows b) later) x.batch_is ∙ sym (ap (rows_done rows) a.acts_are);
             }
@@ -170,13 +170,13 @@ module _ (host : Bytes) where
     dropped_told : (server rows : Rows) (acts : List Act) (fates : List Fate) (batches : List (List Change)) (exchanged : List Exchanged) (moves : List Move)
         → AreDropped acts → AreTold host acts fates batches exchanged
         → SaysResolved (owner_first batches) server rows name batches exchanged moves server_end rows_end
-        → Synced server rows name set acts fates moves server_end rows_end
+        → Synced server rows name begins acts fates moves server_end rows_end
     dropped_told server rows acts fates batches exchanged moves dropped told says =
         let says_so : SaysResolved false server rows name batches exchanged moves server_end rows_end =
         subst (λ (b : Bool). SaysResolved b server rows name batches exchanged moves server_end rows_end)
         (dropped_first acts fates batches exchanged dropped told) says in
-        let plain : Plain server rows name calling.Sync set acts fates batches exchanged =
-        plain_told host name calling.Sync set server rows acts fates batches exchanged (dropped_plain rows set acts dropped) told in
+        let plain : Plain server rows name calling.Sync begins acts fates batches exchanged =
+        plain_told host name calling.Sync begins server rows acts fates batches exchanged (dropped_plain rows begins acts dropped) told in
         record {
           moves_are = says_so.0 ∙ plain.moves_are;
           server_is = says_so.1 ∙ plain.server_is;
@@ -195,7 +195,7 @@ module _ (host : Bytes) where
     resolved_told : (server rows : Rows) (acts : List Act) (fates : List Fate) (batches : List (List Change)) (exchanged : List Exchanged) (moves : List Move)
         → AreResolved acts → AreTold host acts fates batches exchanged
         → SaysResolved (owner_first batches) server rows name batches exchanged moves server_end rows_end
-        → Synced server rows name set acts fates moves server_end rows_end
+        → Synced server rows name begins acts fates moves server_end rows_end
     resolved_told server rows acts fates batches exchanged moves (inl dropped) told says =
         dropped_told server rows acts fates batches exchanged moves dropped told says
     resolved_told server rows acts fates batches exchanged moves (inr (later, a, synced)) told says =
@@ -221,29 +221,29 @@ unasked_acts : (owner : OwnerRow) (sets : Sets) (rows : Rows) (words : ChaCha) (
 unasked_acts owner sets rows words acts turn none (inl (is, x)) = exchanges_synced (begun rows words) acts turn x
 unasked_acts owner sets rows words acts turn none (inr (set, some, x)) = absurd (let impossible : ⊥ = cc in impossible)
 
-module _ (host name : Bytes) (set : Option KeySet) (server rows server_end rows_end : Rows) (acts : List Act) (fates : List Fate) (batches : List (List Change))
+module _ (host name : Bytes) (begins : Request → Option KeySet) (server rows server_end rows_end : Rows) (acts : List Act) (fates : List Fate) (batches : List (List Change))
     (exchanged : List Exchanged) (moves : List Move) (told : AreTold host acts fates batches exchanged)
     (says : SaysSync (asks_set rows) server rows name batches exchanged moves server_end rows_end) where
   -- before anything is done it is all the same whether a set is asked for
-  pub nothing_done : acts ≡ [] → Synced server rows name set acts fates moves server_end rows_end
+  pub nothing_done : acts ≡ [] → Synced server rows name begins acts fates moves server_end rows_end
   nothing_done none = by (asks_set rows) says
     where
-      by : (b : Bool) → SaysSync b server rows name batches exchanged moves server_end rows_end → Synced server rows name set acts fates moves server_end rows_end
-      by false said = synced_told host name set server_end rows_end starts server rows None acts fates batches exchanged moves tt
+      by : (b : Bool) → SaysSync b server rows name batches exchanged moves server_end rows_end → Synced server rows name begins acts fates moves server_end rows_end
+      by false said = synced_told host name begins server_end rows_end starts server rows None acts fates batches exchanged moves tt
           (subst (AreSynced starts) (sym none) tt) told said
-      by true said = resolved_told host name set server_end rows_end server rows acts fates batches exchanged moves (inl (subst AreDropped (sym none) tt)) told said
+      by true said = resolved_told host name begins server_end rows_end server rows acts fates batches exchanged moves (inl (subst AreDropped (sym none) tt)) told said
 
-  pub sync_told : (words : ChaCha) (halt : Halt) → RunsSync rows words acts halt → Synced server rows name set acts fates moves server_end rows_end
+  pub sync_told : (words : ChaCha) (halt : Halt) → RunsSync rows words acts halt → Synced server rows name begins acts fates moves server_end rows_end
   sync_told words halt (inl (no_account, refuses)) = nothing_done refuses.0
   sync_told words halt (inr (owner, sets, holds, syncs)) = by (in_slot rows owner.identifier sets.asked holds.wanted) (turn_of owner sets rows words acts halt syncs)
     where
       by : ((sets.asked ≡ None) × (asks_set rows ≡ false)) ⊎ ((asks : KeySet) × (sets.asked ≡ Some asks) × (asks_set rows ≡ true))
-          → (turn : Turn) × SyncsUnder owner sets (begun rows words) acts turn → Synced server rows name set acts fates moves server_end rows_end
+          → (turn : Turn) × SyncsUnder owner sets (begun rows words) acts turn → Synced server rows name begins acts fates moves server_end rows_end
       by (inl (none, unasked)) (turn, x) =
-          synced_told host name set server_end rows_end starts server rows None acts fates batches exchanged moves tt
+          synced_told host name begins server_end rows_end starts server rows None acts fates batches exchanged moves tt
           (unasked_acts owner sets rows words acts turn none x) told
           (subst (λ (b : Bool). SaysSync b server rows name batches exchanged moves server_end rows_end) unasked says)
       by (inr (asks, some, is_asked)) (turn, x) =
-          resolved_told host name set server_end rows_end server rows acts fates batches exchanged moves
+          resolved_told host name begins server_end rows_end server rows acts fates batches exchanged moves
           (resolved_acts owner sets asks (begun rows words) acts turn some x) told
           (subst (λ (b : Bool). SaysSync b server rows name batches exchanged moves server_end rows_end) is_asked says)

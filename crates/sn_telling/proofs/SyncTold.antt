@@ -159,7 +159,7 @@ hearing rows name server server_end rows_end answer reply did batch batches exch
 
 -- ---- all of it
 
-pub record Synced (server rows : Rows) (name : Bytes) (begun : Option KeySet) (acts : List Act) (fates : List Fate) (moves : List Move) (server_end rows_end : Rows)
+pub record Synced (server rows : Rows) (name : Bytes) (begun : Request → Option KeySet) (acts : List Act) (fates : List Fate) (moves : List Move) (server_end rows_end : Rows)
     : Type 0 where
   pub moves_are : moves ≡ told_moves server rows name begun acts fates
   pub server_is : server_end ≡ rows_served server fates
@@ -179,7 +179,7 @@ sync_route (request.Params identifier) is = absurd is
 sync_route (request.SignIn identifier pw) is = absurd is
 sync_route (request.ChangePw token current pw cost nonce) is = absurd is
 
-module _ (host name : Bytes) (begun : Option KeySet) (server_end rows_end : Rows) where
+module _ (host name : Bytes) (begun : Request → Option KeySet) (server_end rows_end : Rows) where
   -- nothing is done any more
   ended : (phase : Phase) (server rows : Rows) (answer : Option Bytes) (fates : List Fate) (batches : List (List Change)) (exchanged : List Exchanged)
       (moves : List Move) → fates ≡ [] → batches ≡ [] → exchanged ≡ [] → SaysFrom phase server rows name answer batches exchanged moves server_end rows_end
@@ -223,10 +223,10 @@ module _ (host name : Bytes) (begun : Option KeySet) (server_end rows_end : Rows
       let says_so : SaysBehind (rows_behind server fate) rows name e.answer batches exchanged behind server_end rows_end =
       subst (λ (v : Rows). SaysBehind v rows name e.answer batches exchanged behind server_end rows_end) server_is says in
       let rest : Synced (rows_behind server fate) rows name begun acts fates behind server_end rows_end = then_on (rows_behind server fate) behind came says_so in
-      let first : gained_moves server name ask.Sync e.batches ≡ fate_moves server name begun r fate =
-      fate_told host r reply e server fate name begun ask.Sync (sync_of r begun is_sync) one in
+      let first : gained_moves server name ask.Sync e.batches ≡ fate_moves server name (begun r) r fate =
+      fate_told host r reply e server fate name (begun r) ask.Sync (sync_of r (begun r) is_sync) one in
       record {
-        moves_are = all ∙ ap (λ (m : List Move). m ++ behind) first ∙ ap (λ (m : List Move). fate_moves server name begun r fate ++ m) rest.moves_are;
+        moves_are = all ∙ ap (λ (m : List Move). m ++ behind) first ∙ ap (λ (m : List Move). fate_moves server name (begun r) r fate ++ m) rest.moves_are;
         server_is = rest.server_is;
         device_is = rest.device_is;
       }

@@ -20,6 +20,7 @@ use Rattle.sn_rows.specs.declared.key.Key.TheVariants as key
 use Rattle.sn_rows.specs.declared.key.Slot.TheVariants.{Asked}
 use Rattle.sn_rows.specs.declared.value.Value.TheVariants as value
 use Rattle.sn_string.specs.declared.params.KeySet.{KeySet}
+use Rattle.sn_sync.specs.declared.request.Request.{Request}
 use Rattle.sn_world.proofs.Facts.{calls_plain, keeps_password, made_of, named_at}
 use Rattle.sn_world.specs.Calls.{Fate, call_steps, crashed, fate_steps, served, undelivered}
 use Rattle.sn_world.specs.Committing.{Commits, MayCommit, SaysCommit}
@@ -56,7 +57,7 @@ is_done secret w s name words left forgets changes moves h plain may step says =
 both : (moves first later one other : List Move) → moves ≡ first ++ later → first ≡ one → later ≡ other → moves ≡ one ++ other
 both moves first later one other is a b = is ∙ ap (λ (m : List Move). m ++ later) a ∙ ap (λ (m : List Move). one ++ m) b
 
-module _ (law : DeletionsStay) (one : SaysOne) (keeps : KeepsPlain) (none : PlainRows) (says_plain : PlainSays) (secret : Bytes) (differ : TokensDiffer secret) (name : Bytes) (begun : Option KeySet) where
+module _ (law : DeletionsStay) (one : SaysOne) (keeps : KeepsPlain) (none : PlainRows) (says_plain : PlainSays) (secret : Bytes) (differ : TokensDiffer secret) (name : Bytes) (begun : Request → Option KeySet) where
   -- of a commit
   commit_tells : (w next : World) (s : Ideal) (what : What) (changes : List Change) (moves : List Move) → HoldsPlain secret w s → IsPlainCommit what
       → Commits w next name what changes → MayCommit secret w.server (w.devices name) s name what → SaysCommit (w.devices name) s name what changes moves
@@ -81,7 +82,7 @@ module _ (law : DeletionsStay) (one : SaysOne) (keeps : KeepsPlain) (none : Plai
       ∙ ap (λ (r : Rows). told_moves w.server r name begun acts fates) does.0.on.own)
   trace_tells (asked r reply ∷ acts) [] w next s moves h plain t = t.0
   trace_tells (asked r reply ∷ acts) (undelivered ∷ fates) w next s moves h plain (mid, first, later, does, says, rest, is) =
-      let kept : KeptPlain secret mid s first = keeps secret w mid s (makes (made_of name begun r)) first differ h plain.0 does says in
+      let kept : KeptPlain secret mid s first = keeps secret w mid s (makes (made_of name (begun r) r)) first differ h plain.0 does says in
       let others : later ≡ told_moves mid.server (mid.devices name) name begun acts fates =
       trace_tells acts fates mid next (end_from s first) later kept.1 plain.1 rest in
       both moves first later [] (told_moves w.server (w.devices name) name begun acts fates) is says
@@ -89,25 +90,25 @@ module _ (law : DeletionsStay) (one : SaysOne) (keeps : KeepsPlain) (none : Plai
       ∙ ap (λ (d : Bytes → Rows). told_moves w.server (d name) name begun acts fates) does.devices)
   trace_tells (asked r reply ∷ acts) (served now changes given arrives ∷ fates) w next s moves h plain
       (mid, first, later, does, says, (behind, second, third, serves_so, said, rest, are), is) =
-      let kept : KeptPlain secret mid s first = keeps secret w mid s (makes (made_of name begun r)) first differ h plain.0 does says in
+      let kept : KeptPlain secret mid s first = keeps secret w mid s (makes (made_of name (begun r) r)) first differ h plain.0 does says in
       let kept_so : KeptPlain secret behind (end_from s first) second =
-      keeps secret mid behind (end_from s first) (serves (made_of name begun r) now changes given true) second differ kept.1 plain.1.0 serves_so said in
+      keeps secret mid behind (end_from s first) (serves (made_of name (begun r) r) now changes given true) second differ kept.1 plain.1.0 serves_so said in
       let others : third ≡ told_moves behind.server (behind.devices name) name begun acts fates =
       trace_tells acts fates behind next (end_from (end_from s first) second) third kept_so.1 plain.1.1 rest in
-      let behind_it : later ≡ moves_for w.server name begun r changes ++ told_moves (rows_after w.server changes) (w.devices name) name begun acts fates =
-      both later second third (moves_for w.server name begun r changes) (told_moves (rows_after w.server changes) (w.devices name) name begun acts fates) are
-      (says_plain secret mid behind (end_from s first) (made_of name begun r) now changes given second differ kept.1 serves_so said
-      ∙ ap (λ (z : Rows). moves_for z name begun r changes) does.server)
+      let behind_it : later ≡ moves_for w.server name (begun r) r changes ++ told_moves (rows_after w.server changes) (w.devices name) name begun acts fates =
+      both later second third (moves_for w.server name (begun r) r changes) (told_moves (rows_after w.server changes) (w.devices name) name begun acts fates) are
+      (says_plain secret mid behind (end_from s first) (made_of name (begun r) r) now changes given second differ kept.1 serves_so said
+      ∙ ap (λ (z : Rows). moves_for z name (begun r) r changes) does.server)
       (others ∙ ap (λ (z : Rows). told_moves z (behind.devices name) name begun acts fates)
       (serves_so.on.server ∙ ap (λ (z : Rows). rows_after z changes) does.server)
       ∙ ap (λ (d : Bytes → Rows). told_moves (rows_after w.server changes) (d name) name begun acts fates) (serves_so.on.devices ∙ does.devices)) in
       both moves first later []
-      (moves_for w.server name begun r changes ++ told_moves (rows_after w.server changes) (w.devices name) name begun acts fates) is says behind_it
+      (moves_for w.server name (begun r) r changes ++ told_moves (rows_after w.server changes) (w.devices name) name begun acts fates) is says behind_it
   trace_tells (asked r reply ∷ acts) (crashed now changes given ∷ fates) w next s moves h plain
       (mid, first, later, does, says, (behind, second, third, same, said, rest, are), is) =
-      let kept : KeptPlain secret mid s first = keeps secret w mid s (makes (made_of name begun r)) first differ h plain.0 does says in
+      let kept : KeptPlain secret mid s first = keeps secret w mid s (makes (made_of name (begun r) r)) first differ h plain.0 does says in
       let kept_so : KeptPlain secret behind (end_from s first) second =
-      keeps secret mid behind (end_from s first) (serves (made_of name begun r) now changes given false) second differ kept.1 plain.1.0 same said in
+      keeps secret mid behind (end_from s first) (serves (made_of name (begun r) r) now changes given false) second differ kept.1 plain.1.0 same said in
       let others : third ≡ told_moves behind.server (behind.devices name) name begun acts fates =
       trace_tells acts fates behind next (end_from (end_from s first) second) third kept_so.1 plain.1.1 rest in
       let behind_it : later ≡ told_moves w.server (w.devices name) name begun acts fates =
@@ -123,7 +124,7 @@ traces_tell law one keeps none says secret w next s name begun acts fates moves 
 
 -- a whole call that may be made changes no password
 call_plain : (w : World) (s : Ideal) (name : Bytes) (least : ℕ) (call : Call) (words : ChaCha) (acts : List Act) (fates : List Fate) (halt : Halt)
-    (begun : Option KeySet) → AsksNoSet (w.devices name) → IsCalled w s name least call words acts fates halt → Each IsPlainStep (call_steps name begun acts fates)
+    (begun : Request → Option KeySet) → AsksNoSet (w.devices name) → IsCalled w s name least call words acts fates halt → Each IsPlainStep (call_steps name begun acts fates)
 call_plain w s name least call words acts fates halt begun none x =
     calls_plain name begun least call (w.devices name) words acts fates halt none (keeps_password s call x.may) x.runs
 
@@ -141,13 +142,13 @@ agains_tell says_plain secret w s name r undelivered differ h x = x.goes.0
 agains_tell says_plain secret w s name r (served now changes given arrives) differ h x =
     agains_served x.moves x.goes
   where
-    agains_served : (moves : List Move) → Trace secret w s (fate_steps (made_of name x.begins r) (served now changes given arrives)) moves x.next
-        → moves ≡ moves_for w.server name x.begins r changes
+    agains_served : (moves : List Move) → Trace secret w s (fate_steps (made_of name (x.begins r) r) (served now changes given arrives)) moves x.next
+        → moves ≡ moves_for w.server name (x.begins r) r changes
     agains_served moves (mid, first, later, does, says, rest, is) =
         is ∙ ap (λ (m : List Move). first ++ m) rest.0 ∙ append-nil first
-        ∙ says_plain secret w mid s (made_of name x.begins r) now changes given first differ h does says
+        ∙ says_plain secret w mid s (made_of name (x.begins r) r) now changes given first differ h does says
 agains_tell says_plain secret w s name r (crashed now changes given) differ h x = agains_crashed x.moves x.goes
   where
-    agains_crashed : (moves : List Move) → Trace secret w s (fate_steps (made_of name x.begins r) (crashed now changes given)) moves x.next
+    agains_crashed : (moves : List Move) → Trace secret w s (fate_steps (made_of name (x.begins r) r) (crashed now changes given)) moves x.next
         → moves ≡ []
     agains_crashed moves (mid, first, later, does, says, rest, is) = is ∙ ap (λ (m : List Move). first ++ m) rest.0 ∙ append-nil first ∙ says

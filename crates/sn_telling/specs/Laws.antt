@@ -24,7 +24,7 @@ IsWhole (broken what changes) = ⊥
 
 -- whichever trace the steps of a call are, its moves are one list
 abbrev pub TracesTell : Type 0
-TracesTell = (secret : Bytes) (w next : World) (s : Ideal) (name : Bytes) (begins : Option KeySet) (acts : List Act) (fates : List Fate) (moves : List Move)
+TracesTell = (secret : Bytes) (w next : World) (s : Ideal) (name : Bytes) (begins : Request → Option KeySet) (acts : List Act) (fates : List Fate) (moves : List Move)
     → TokensDiffer secret → HoldsPlain secret w s → AreServed w.server acts fates → Each IsPlainStep (call_steps name begins acts fates)
     → Trace secret w s (call_steps name begins acts fates) moves next
     → moves ≡ told_moves w.server (w.devices name) name begins acts fates
@@ -39,4 +39,4 @@ CallsTell = (secret : Bytes) (w : World) (s : Ideal) (name : Bytes) (least : ℕ
 -- a request that comes late or again
 abbrev pub AgainsTell : Type 0
 AgainsTell = (secret : Bytes) (w : World) (s : Ideal) (name : Bytes) (r : Request) (fate : Fate) → TokensDiffer secret → HoldsPlain secret w s
-    → (x : LeadsLine secret w s (again name r fate)) → x.moves ≡ fate_moves w.server name x.begins r fate
+    → (x : LeadsLine secret w s (again name r fate)) → x.moves ≡ fate_moves w.server name (x.begins r) r fate

@@ -1,5 +1,5 @@
 -- The moves that a call says: of its commits by the device's rows before each, of its requests by the server's.
-use Rattle.std.specs.Prelude.{ℕ, List, [], ◌∷◌, ◌++◌, Option}
+use Rattle.std.specs.Prelude.{◌≡◌, ℕ, List, [], ◌∷◌, ◌++◌, Option}
 use Rattle.sn_client.specs.Runs.{Act, asked, commits as committed}
 use Rattle.sn_client.specs.Steps.{What, adopts, applies, asks, begins, deletes, edits, forgets, posts, puts, renews}
 use Rattle.sn_laws.specs.Lookups.{Bytes}
@@ -37,11 +37,17 @@ fate_moves server name begun r undelivered = []
 fate_moves server name begun r (served now changes given arrives) = moves_for server name begun r changes
 fate_moves server name begun r (crashed now changes given) = []
 
--- of all acts, with the fates of their requests, from these rows of the server and the device on
-abbrev pub told_moves : Rows → Rows → Bytes → Option KeySet → List Act → List Fate → List Move
+-- of all acts, with the fates of their requests, from these rows of the server and the device on; each request would begin the set that is said of it
+abbrev pub told_moves : Rows → Rows → Bytes → (Request → Option KeySet) → List Act → List Fate → List Move
 told_moves server rows name begun [] fates = []
 told_moves server rows name begun (committed what changes ∷ acts) fates =
     moves_of rows name (done_of what) changes ++ told_moves server (rows_after rows changes) name begun acts fates
 told_moves server rows name begun (asked r reply ∷ acts) [] = []
 told_moves server rows name begun (asked r reply ∷ acts) (fate ∷ fates) =
-    fate_moves server name begun r fate ++ told_moves (rows_behind server fate) rows name begun acts fates
+    fate_moves server name (begun r) r fate ++ told_moves (rows_behind server fate) rows name begun acts fates
+
+-- each request among these acts would begin this set
+abbrev pub AllBegin : (Request → Option KeySet) → Option KeySet → List Act → Type 0
+AllBegin begun set [] = Unit {0}
+AllBegin begun set (committed what changes ∷ acts) = AllBegin begun set acts
+AllBegin begun set (asked r reply ∷ acts) = (begun r ≡ set) × AllBegin begun set acts

@@ -39,7 +39,7 @@ pub fn call_moves(
     batches: &[Many<Change>],
     exchanged: &[Exchanged],
 ) -> Result<Many<Move>, AllocError>
-    ensures { (host : Bytes) (call : Call) (begins : Option KeySet) (words : ChaCha) (acts : List Act) (fates : List Fate) (halt : Halt) →
+    ensures { (host : Bytes) (call : Call) (begins : Request → Option KeySet) (words : ChaCha) (acts : List Act) (fates : List Fate) (halt : Halt) →
         IsCallingOf call begins acts calling.now → Run 1 call (row_in device.old) words acts halt → IsWhole halt
         → AreTold host acts fates batches.now exchanged.now
         → IfOk result (λ moves. (moves ≡ told_moves (row_in server.old) (row_in device.old) name.now begins acts fates)
