@@ -1,0 +1,14 @@
+pub mod Pieces
+pub mod Points
+pub mod KeysKept
+pub mod NotDenied
+pub mod Resolving
+pub mod RoundKeys
+pub mod LastHeld
+pub mod Exchanging
+pub mod Asking
+pub mod Begins
+pub mod Together
+pub mod Ends
+pub mod Going
+pub mod Ending
