@@ -1,0 +1,11 @@
+pub mod AskedKept
+pub mod Facts
+pub mod FitsAlong
+pub mod LineSteps
+pub mod LinesGo
+pub mod PasswordLines
+pub mod PlainLines
+pub mod RunCalls
+pub mod RunSets
+pub mod SetMoves
+pub mod WithPasswords
