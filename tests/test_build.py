@@ -122,7 +122,7 @@ class Builds(unittest.TestCase):
         process = self.clone.start("word")
         self.clone.wait_for(lambda: self.clone.builds() > before)
         process.send_signal(how)
-        process.wait(timeout=30)
+        process.wait(timeout=120)
         self.assertEqual([name for name in self.clone.kept() if name != "building"], [])
         self.clone.remove("hold")
         return process.returncode
@@ -147,7 +147,7 @@ class Builds(unittest.TestCase):
         process = self.clone.start("word")
         self.clone.wait_for(lambda: os.path.exists(os.path.join(self.clone.scratch, "half")))
         os.killpg(process.pid, signal.SIGKILL)
-        process.wait(timeout=30)
+        process.wait(timeout=120)
         self.assertFalse([name for name in self.clone.kept() if name.startswith("sn-")])
         self.clone.remove("bin/cp")
         os.symlink(shutil.which("cp"), copy)
