@@ -1,0 +1,4 @@
+pub mod Adopted
+pub mod Laws
+pub mod Retired
+pub mod Sent

@@ -1,0 +1,205 @@
+//! The moves of a batch of the server.
+
+ghost use Rattle.std.specs.Prelude.{◌≡◌, ◌∷◌, ◌++◌, [], IfOk, OnOk};
+ghost use Rattle.std.specs.Option.{option_copied, option_to_list};
+ghost use Rattle.sn_row_map.specs.RowMaps.{row_in};
+ghost use Rattle.sn_rows.specs.Table.{rows_after};
+ghost use Rattle.sn_world.specs.Serving.{SaysChange, SaysChanges, SaysItem, SaysServed, change_of, changes_in, generation_of, number_of};
+
+use crate::sent::is_sent;
+use sn_laws::Move;
+use sn_moves::registers_in;
+use sn_row_map::RowMap;
+use sn_rows::{Change, ItemRow, Key, Row, Value};
+use sn_string::{KeySet, Many, Text, Twin};
+use sn_sync::Request;
+use std::alloc::{AllocError, Global};
+use uuid::Uuid;
+
+/// The moves of a batch by which a server answers a request of the device of this name, which is applied to the server's
+/// rows: `begins` is the set that the request would begin, and `device` are the rows of the device as they are now. After
+/// an error some changes may be applied.
+pub fn served(
+    alloc: Global,
+    server: &mut RowMap,
+    device: &RowMap,
+    name: &Text,
+    begins: Option<&KeySet>,
+    request: &Request,
+    changes: &[Change],
+) -> Result<Many<Move>, AllocError>
+    ensures moves { IfOk result (λ moves. SaysServed (row_in server.old) (row_in device.now)
+        (record { device = name.now; request = request.now; begins = option_copied begins.entry }) changes.now moves) }
+    ensures rows { OnOk result (row_in server.new ≡ rows_after (row_in server.old) changes.now) }
+{
+    match request {
+        Request::Sync { .. } => items_served(alloc, server, device, name, changes),
+        Request::Register { params, .. } => {
+            let moves = registers_in(alloc, &params.identifier, begins, changes)?;
+            apply_all(alloc, server, changes)?;
+            Ok(moves)
+        }
+        Request::ChangePw { .. } => {
+            let moves = changes_in(alloc, begins, changes)?;
+            apply_all(alloc, server, changes)?;
+            Ok(moves)
+        }
+        Request::Params { .. } | Request::SignIn { .. } => {
+            apply_all(alloc, server, changes)?;
+            Ok(Many::new(alloc))
+        }
+    }
+}
+
+// Applies changes.
+fn apply_all(alloc: Global, server: &mut RowMap, changes: &[Change]) -> Result<(), AllocError>
+    ensures { OnOk result (row_in server.new ≡ rows_after (row_in server.old) changes.now) }
+{
+    'changes: for change in changes {
+        apply(alloc, server, change)?;
+    }
+    Ok(())
+}
+
+// Applies a change.
+fn apply(alloc: Global, server: &mut RowMap, change: &Change) -> Result<(), AllocError>
+    ensures { OnOk result (row_in server.new ≡ rows_after (row_in server.old) (change.now ∷ [])) }
+{
+    let mut changes = Vec::new(alloc);
+    changes.push(change.twin(alloc)?)?;
+    server.add_all(changes)
+}
+
+// The move of a batch that answers a change of password: the account has this set more.
+fn changes_in(
+    alloc: Global,
+    begins: Option<&KeySet>,
+    changes: &[Change],
+) -> Result<Many<Move>, AllocError>
+    ensures { IfOk result (λ moves. moves ≡ changes_in (option_copied begins.entry) changes.now) }
+{
+    let mut moves = Many::new(alloc);
+    let Some(set) = begins else {
+        return Ok(moves);
+    };
+    let Some(Change::Put(row)) = changes.first() else {
+        return Ok(moves);
+    };
+    let said = change_of(alloc, set, row)?;
+    push_said(&mut moves, said)?;
+    Ok(moves)
+}
+
+// The row of an account gives it the set.
+fn change_of(alloc: Global, set: &KeySet, row: &Row) -> Result<Option<Move>, AllocError>
+    ensures { IfOk result (λ said. option_to_list said ≡ change_of set.now row.now.key row.now.value) }
+{
+    match (&row.key, &row.value) {
+        (Key::Account(_), Value::Account(account)) => {
+            let account = account.get();
+            Ok(Some(Move::Change {
+                identifier: account.identifier.twin(alloc)?,
+                number: account.generation,
+                set: set.twin(alloc)?,
+            }))
+        }
+        _ => Ok(None),
+    }
+}
+
+// The moves of a batch that answers a sync, which is applied.
+fn items_served(
+    alloc: Global,
+    server: &mut RowMap,
+    device: &RowMap,
+    name: &Text,
+    changes: &[Change],
+) -> Result<Many<Move>, AllocError>
+    ensures moves { IfOk result (SaysChanges (row_in server.old) (row_in device.now) name.now changes.now) }
+    ensures rows { OnOk result (row_in server.new ≡ rows_after (row_in server.old) changes.now) }
+{
+    let mut moves = Many::new(alloc);
+    'changes: for change in changes {
+        let said = change_said(alloc, server, device, name, change)?;
+        push_said(&mut moves, said)?;
+        apply(alloc, server, change)?;
+    }
+    Ok(moves)
+}
+
+// The move of a change, if it has one.
+fn change_said(
+    alloc: Global,
+    server: &RowMap,
+    device: &RowMap,
+    name: &Text,
+    change: &Change,
+) -> Result<Option<Move>, AllocError>
+    ensures { IfOk result (λ said. SaysChange (row_in server.now) (row_in device.now) name.now change.now (option_to_list said)) }
+{
+    let Change::Put(row) = change else {
+        return Ok(None);
+    };
+    match (&row.key, &row.value) {
+        (Key::Item(uuid), Value::Item(item)) => {
+            let said = item_said(alloc, server, device, name, *uuid, item)?;
+            Ok(Some(said))
+        }
+        _ => Ok(None),
+    }
+}
+
+// An item that the device has sent is accepted, and any other is sealed again, both under the last set of the account.
+fn item_said(
+    alloc: Global,
+    server: &RowMap,
+    device: &RowMap,
+    name: &Text,
+    uuid: Uuid,
+    item: &ItemRow,
+) -> Result<Move, AllocError>
+    ensures { IfOk result (λ said. SaysItem (row_in server.now) (row_in device.now) name.now uuid item.now (said ∷ [])) }
+{
+    let generation = generation_of(server.get(&Key::Account(item.account())));
+    let stamp = item.updated();
+    if is_sent(device, server.get(&Key::Item(uuid)), uuid, item) {
+        return Ok(Move::Accept {
+            device: name.twin(alloc)?,
+            uuid,
+            stamp,
+            under: number_of(item.is_deleted(), generation),
+        });
+    }
+    Ok(Move::Rewrap {
+        uuid,
+        stamp,
+        under: generation,
+    })
+}
+
+// The number of an account's last set, by its row.
+fn generation_of(found: Option<&Value>) -> u64
+    ensures { result ≡ generation_of (option_copied found.entry) }
+{
+    match found {
+        Some(Value::Account(account)) => account.get().generation,
+        _ => 0,
+    }
+}
+
+// The number of the set that a version is under.
+fn number_of(deleted: bool, number: u64) -> Option<u64>
+    ensures { result ≡ number_of deleted number }
+{
+    if deleted { None } else { Some(number) }
+}
+
+// Adds a move, if there is one.
+fn push_said(moves: &mut Many<Move>, said: Option<Move>) -> Result<(), AllocError>
+    ensures { OnOk result (moves.new ≡ moves.old ++ option_to_list said) }
+{
+    match said {
+        Some(said) => moves.push(said),
+        None => Ok(()),
+    }
+}
