@@ -10,19 +10,20 @@ use Rattle.sn_client.specs.Steps.{applies}
 use Rattle.sn_laws.specs.Lookups.{Bytes}
 use Rattle.sn_laws.specs.Runs.{end_from}
 use Rattle.sn_laws.specs.declared.ideal.Ideal.{Ideal}
-use Rattle.sn_passwd.proofs.LastHeld.{holds_last}
+use Rattle.sn_passwd.proofs.LastHeld.{holds_last, last_applied}
+use Rattle.sn_passwd.proofs.OlderGone.{applied_alone}
 use Rattle.sn_passwd.proofs.Pieces.{NeverAnswers, PieceGoes}
-use Rattle.sn_passwd.proofs.Points.{Brought, HasKeys, HoldsLast, Unasked}
+use Rattle.sn_passwd.proofs.Points.{Brought, HasKeys, HoldsAlone, HoldsLast, Unasked}
 use Rattle.sn_passwd.proofs.RoundKeys.{KeepsKeys, keys_kept, rounds_keep}
 use Rattle.sn_rows.specs.Table.{Rows}
 use Rattle.sn_string.specs.declared.params.KeySet.{KeySet}
 use Rattle.sn_sync.specs.declared.answer.Answer.{Answer}
 use Rattle.sn_sync.specs.declared.answer.Answer.TheVariants as answer
 use Rattle.sn_sync.specs.declared.request.Request.{Request}
-use Rattle.sn_world.proofs.Facts.{Goes, IsWhole, LastApplies, RoundLaws, Stands, commit_last, end_goes, exchange_not, has_all, is_whole, last_applies, rounds_on, rounds_rows}
+use Rattle.sn_world.proofs.Facts.{Goes, IsWhole, LastApplies, RoundLaws, Stands, commit_last, end_goes, exchange_not, has_all, is_whole, last_applies, rounds_on, rounds_rows, trace_from}
 use Rattle.sn_world.specs.Calls.{AreServed, Fate, Leads, call_steps, rows_served}
 use Rattle.sn_world.specs.Happens.{Happens, Trace, commits}
-use Rattle.sn_world.specs.Holds.{TokensDiffer}
+use Rattle.sn_world.specs.Holds.{Holds, TokensDiffer}
 use Rattle.sn_world.specs.Laws.{AppliedWhole, Keeps, SaysSome}
 use Rattle.sn_world.specs.Plain.{AsksNoSet}
 use Rattle.sn_world.specs.Pulled.{HasAll}
@@ -118,6 +119,15 @@ module _ (whole : AppliedWhole) (laws : RoundLaws) (keeps : Keeps) (says : SaysS
       last_left =
           holds_last keeps secret differ name ends.request given_last ends.applied laws.apart last_step.0 leads.moves v leads.next t k.holds trace
 
+      alone_left : HoldsAlone (end_from t leads.moves) name
+      alone_left =
+          let one = last_applied keeps secret differ name ends.request given_last ends.applied last_step.0 leads.moves v leads.next t k.holds trace in
+          let there : Holds secret leads.next (end_from t leads.moves) =
+          (trace_from keeps secret differ (call_steps name begins acts fates) leads.moves v leads.next t k.holds leads.goes).1 in
+          applied_alone (one.before.devices name) one.commits_so.words one.commits_so.left ends.request x.conflicts x.retrieved x.saved x.token ends.applied
+          one.commits_so.step secret leads.next (end_from t leads.moves) there name one.commits_so.on.own
+          (subst (λ (r : Rows). NoneWaits r) (sym device_rows) x.none_waits) last_left
+
       kept : KeepsKeys p.rows at.rows
       kept = rounds_keep rounds (from p) at went
 
@@ -126,7 +136,7 @@ module _ (whole : AppliedWhole) (laws : RoundLaws) (keeps : Keeps) (says : SaysS
       brought identifier token present q pre is = record {
         none_asked = subst (λ (r : Rows). AsksNoSet r) (sym is) (kept.asked ∙ pre.0);
         keys = subst (λ (r : Rows). HasKeys r identifier token present) (sym is) (keys_kept p.rows at.rows identifier token present kept pre.1);
-        last = last_left;
+        alone = alone_left;
         whole = subst (λ (r : Rows). HasAll r (end_from t leads.moves) name) (sym is) all_left;
         none_waits = subst (λ (r : Rows). NoneWaits r) (sym is) x.none_waits;
       }

@@ -5,15 +5,14 @@ use Rattle.sn_client.specs.Runs.{Act, AnswersNothing, AsksFor, Call, ChangesTo, 
 use Rattle.sn_client.specs.States.{HasSets}
 use Rattle.sn_client.specs.declared.error.ClientError.{ClientError}
 use Rattle.sn_client.specs.declared.error.ClientError.TheVariants as refusal
-use Rattle.sn_keys.specs.Keys.{AreKeysOf}
 use Rattle.sn_laws.specs.Lookups.{Bytes}
 use Rattle.sn_laws.specs.declared.ideal.Ideal.{Ideal}
-use Rattle.sn_passwd.proofs.Asking.{AsksDrawn, IsRefused, asks_drawn_never, asks_or_not, drawn_keys, is_refused_never}
+use Rattle.sn_passwd.proofs.Asking.{AsksDrawn, IsRefused, IsSetFor, asks_drawn_never, asks_or_not, drawn_keys, is_refused_never}
 use Rattle.sn_passwd.proofs.Begins.{asked_for, begins_asked, begins_new, begins_past, new_or_asked, none_or}
 use Rattle.sn_passwd.proofs.Ends.{EndsCall, answers_ends, goes_call, refuses_ends}
 use Rattle.sn_passwd.proofs.Exchanging.{exchanges_never}
 use Rattle.sn_passwd.proofs.Pieces.{Known, NeverAnswers, Piece, PieceGoes, known_turn, then_never}
-use Rattle.sn_passwd.proofs.Together.{CallLaws, IsBrought, IsRenewed, MayResolve, Together, changed_goes, refused_goes, syncs_goes, syncs_never}
+use Rattle.sn_passwd.proofs.Together.{CallLaws, IsBrought, IsBroughtAnew, MayChange, MayResolve, Together, changed_goes, refused_goes, syncs_goes, syncs_never}
 use Rattle.sn_passwd.specs.Calls.{EverySyncGoes, IsOnlyAsked, PasswdsGo}
 use Rattle.sn_rows.specs.declared.device_rows.OwnerRow.{OwnerRow}
 use Rattle.sn_sets.specs.declared.sets.Sets.{Sets}
@@ -42,7 +41,7 @@ record Draws (password : Bytes) (cost : ℕ) (owner : OwnerRow) (sets : Sets) (p
   held : Sets
   set : KeySet
   left : ChaCha
-  keys : AreKeysOf password set.params set
+  keys : IsSetFor password cost set
   so : DrawsThis password cost owner sets later held set left p acts turn
 
 -- or it is refused before that
@@ -95,7 +94,7 @@ module _ (password : Bytes) (cost : ℕ) (owner : OwnerRow) (sets : Sets) (p : P
 -- so it is of the whole call
 abbrev ChangesPasswordTo : Bytes → ℕ → OwnerRow → Sets → Point → List Act → Halt → Type 0
 ChangesPasswordTo password cost owner sets p acts halt = AnswersNothing (Then (SyncsUnder owner sets) IsRefused) p acts halt
-    ⊎ ((later : OwnerRow) × (held : Sets) × (set : KeySet) × (left : ChaCha) × AreKeysOf password set.params set
+    ⊎ ((later : OwnerRow) × (held : Sets) × (set : KeySet) × (left : ChaCha) × IsSetFor password cost set
     × AnswersNothing (DrawsThis password cost owner sets later held set left) p acts halt)
 
 changes_or_not : (password : Bytes) (cost : ℕ) (owner : OwnerRow) (sets : Sets) (p : Point) (acts : List Act) (halt : Halt)
@@ -163,42 +162,42 @@ module _ (laws : CallLaws) (secret : Bytes) (differ : TokensDiffer secret) (w : 
 
   module _ (password : Bytes) (cost : ℕ) (owner : OwnerRow) (sets : Sets) (holds : HasSets (w.devices name) owner sets) where
     -- it is refused before a new set is drawn
-    refuses_change : AnswersNothing (Then (SyncsUnder owner sets) IsRefused) first acts halt → call_ends (passwd password cost) (IsRenewed name password)
+    refuses_change : AnswersNothing (Then (SyncsUnder owner sets) IsRefused) first acts halt → call_ends (passwd password cost) (IsBroughtAnew s name password cost)
     refuses_change so = record {
       begins = λ r. sets.asked;
       of_call = λ r. none_or (MayBeginBy (w.devices name) (passwd password cost)) sets.asked
           (λ set is. inr (asked_for (w.devices name) owner sets set holds is));
       ends = answers_ends laws.resolving.keeps laws.resolving.says secret differ name (λ r. sets.asked) w s w.server first acts fates stands over
-          (Then (SyncsUnder owner sets) IsRefused) (MayResolve owner sets) (IsRenewed name password)
-          (refused_goes laws secret differ name (λ r. sets.asked) owner sets (λ set is. is) (IsRenewed name password))
+          (Then (SyncsUnder owner sets) IsRefused) (MayResolve owner sets) (IsBroughtAnew s name password cost)
+          (refused_goes laws secret differ name (λ r. sets.asked) owner sets (λ set is. is) (IsBroughtAnew s name password cost))
           (then_never (SyncsUnder owner sets) IsRefused (syncs_never owner sets) is_refused_never) (may_resolve owner sets holds) halt so;
     }
 
     -- this set is drawn
-    changes_to : (later : OwnerRow) (held : Sets) (set : KeySet) (left : ChaCha) → AreKeysOf password set.params set
-        → AnswersNothing (DrawsThis password cost owner sets later held set left) first acts halt → call_ends (passwd password cost) (IsRenewed name password)
+    changes_to : (later : OwnerRow) (held : Sets) (set : KeySet) (left : ChaCha) → IsSetFor password cost set
+        → AnswersNothing (DrawsThis password cost owner sets later held set left) first acts halt → call_ends (passwd password cost) (IsBroughtAnew s name password cost)
     changes_to later held set left keys so = record {
       begins = begins_new owner.token sets.asked set;
-      of_call = λ r. new_or_asked (MayBeginBy (w.devices name) (passwd password cost)) owner.token sets.asked set (inl keys)
+      of_call = λ r. new_or_asked (MayBeginBy (w.devices name) (passwd password cost)) owner.token sets.asked set (inl keys.0)
           (λ old is. inr (asked_for (w.devices name) owner sets old holds is)) r;
       ends = answers_ends laws.resolving.keeps laws.resolving.says secret differ name (begins_new owner.token sets.asked set) w s w.server first acts fates
-          stands over (DrawsThis password cost owner sets later held set left) (MayResolve owner sets) (IsRenewed name password)
+          stands over (DrawsThis password cost owner sets later held set left) (MayChange s owner sets) (IsBroughtAnew s name password cost)
           (changed_goes laws secret differ name (begins_new owner.token sets.asked set) owner sets
-          (λ old is. begins_asked sets.asked set owner sets.present old is) password cost later held set left
+          (λ old is. begins_asked sets.asked set owner sets.present old is) s password cost later held set left
           (λ past. begins_past sets.asked set owner.token later held.present past) keys)
-          (draws_never password cost owner sets later held set left) (may_resolve owner sets holds) halt so;
+          (draws_never password cost owner sets later held set left) (may_resolve owner sets holds, refl) halt so;
     }
 
-    renews : ChangesPasswordTo password cost owner sets first acts halt → call_ends (passwd password cost) (IsRenewed name password)
+    renews : ChangesPasswordTo password cost owner sets first acts halt → call_ends (passwd password cost) (IsBroughtAnew s name password cost)
     renews (inl so) = refuses_change so
     renews (inr (later, held, set, left, keys, so)) = changes_to later held set left keys so
 
   pub passwd_ends : (least : ℕ) (password : Bytes) (cost : ℕ) → Run least (passwd password cost) (w.devices name) words acts halt
-      → call_ends (passwd password cost) (IsRenewed name password)
-  passwd_ends least password cost (inl wants) = refuses_call (passwd password cost) (IsRenewed name password) refusal.Memory wants
-  passwd_ends least password cost (inr (inl (nobody, refuses))) = refuses_call (passwd password cost) (IsRenewed name password) refusal.NoAccount refuses
+      → call_ends (passwd password cost) (IsBroughtAnew s name password cost)
+  passwd_ends least password cost (inl wants) = refuses_call (passwd password cost) (IsBroughtAnew s name password cost) refusal.Memory wants
+  passwd_ends least password cost (inr (inl (nobody, refuses))) = refuses_call (passwd password cost) (IsBroughtAnew s name password cost) refusal.NoAccount refuses
   passwd_ends least password cost (inr (inr (owner, sets, holds, inl (bad, refuses)))) =
-      refuses_call (passwd password cost) (IsRenewed name password) (refusal.Cost cost) refuses
+      refuses_call (passwd password cost) (IsBroughtAnew s name password cost) (refusal.Cost cost) refuses
   passwd_ends least password cost (inr (inr (owner, sets, holds, inr (good, so)))) =
       renews password cost owner sets holds (changes_or_not password cost owner sets first acts halt so)
 
@@ -210,5 +209,5 @@ every_sync_goes laws secret w s name least words acts fates halt differ h only r
 
 pub passwds_go : CallLaws → PasswdsGo
 passwds_go laws secret w s name least password cost words acts fates halt differ h only runs over =
-    goes_call secret w s name (passwd password cost) acts fates halt (IsRenewed name password)
+    goes_call secret w s name (passwd password cost) acts fates halt (IsBroughtAnew s name password cost)
     (passwd_ends laws secret differ w s h name words acts fates halt only over least password cost runs)

@@ -123,18 +123,18 @@ module _ (apart : AccountsApart) (secret : Bytes) (differ : TokensDiffer secret)
 -- ---- steps whose last one applies an answer
 
 -- the last step, from where those before it lead
-record Applied (secret name : Bytes) (r : Request) (given : Answer) (applied : List Change) (next : World) : Type 0 where
-  before : World
-  state : Ideal
-  holds : Holds secret before state
-  commits_so : Commits before next name (applies r given) applied
-  may : MayApply before.server (before.devices name) state name r given
+pub record Applied (secret name : Bytes) (r : Request) (given : Answer) (applied : List Change) (next : World) : Type 0 where
+  pub before : World
+  pub state : Ideal
+  pub holds : Holds secret before state
+  pub commits_so : Commits before next name (applies r given) applied
+  pub may : MayApply before.server (before.devices name) state name r given
 
 module _ (keeps : Keeps) (secret : Bytes) (differ : TokensDiffer secret) (name : Bytes) (r : Request) (given : Answer) (applied : List Change) where
-  abbrev applying : Happens
+  abbrev pub applying : Happens
   applying = commits name (applies r given) applied true
 
-  last_applied : (steps : List Happens) (moves : List Move) (w next : World) (s : Ideal) → Holds secret w s → Trace secret w s (steps ++ applying ∷ []) moves next
+  pub last_applied : (steps : List Happens) (moves : List Move) (w next : World) (s : Ideal) → Holds secret w s → Trace secret w s (steps ++ applying ∷ []) moves next
       → Applied secret name r given applied next
   last_applied [] moves w next s h (mid, first, later, does, says, (none, same), is) = record {
     before = w;

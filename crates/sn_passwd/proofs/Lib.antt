@@ -5,6 +5,10 @@ pub mod NotDenied
 pub mod Resolving
 pub mod RoundKeys
 pub mod LastHeld
+pub mod Taken
+pub mod OlderGone
+pub mod Retiring
+pub mod Renewed
 pub mod Exchanging
 pub mod Asking
 pub mod Begins

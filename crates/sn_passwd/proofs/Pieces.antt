@@ -9,7 +9,7 @@ use Rattle.sn_client.specs.declared.error.ClientError.{ClientError}
 use Rattle.sn_client.specs.declared.error.ClientError.TheVariants as refusal
 use Rattle.sn_laws.proofs.Facts.{end_from-append}
 use Rattle.sn_laws.specs.Lookups.{Bytes}
-use Rattle.sn_laws.specs.Runs.{end_from}
+use Rattle.sn_laws.specs.Runs.{LegalFrom, end_from}
 use Rattle.sn_laws.specs.declared.ideal.Ideal.{Ideal}
 use Rattle.sn_laws.specs.declared.moves.Move.{Move}
 use Rattle.sn_rows.specs.Table.{Rows, rows_after}
@@ -18,11 +18,11 @@ use Rattle.sn_string.specs.declared.params.KeySet.{KeySet}
 use Rattle.sn_sync.specs.Fits.{FitsRequest}
 use Rattle.sn_sync.specs.declared.answer.Answer.{Answer}
 use Rattle.sn_sync.specs.declared.request.Request.{Request}
-use Rattle.sn_world.proofs.Facts.{Goes, Stands, answered_stands, commit_leads, is_answered, last_asked, leads_to_on, made_of, refuses_goes, said_moves, served_leads, served_world, split, stands_then, stops_goes, trace_append}
+use Rattle.sn_world.proofs.Facts.{Goes, Stands, answered_stands, commit_leads, is_answered, last_asked, leads_to_on, made_of, refuses_goes, said_moves, served_leads, served_world, split, stands_then, stops_goes, trace_append, trace_from}
 use Rattle.sn_world.specs.Calls.{AreServed, Fate, Leads, LeadsTo, call_steps, rows_behind, rows_served}
 use Rattle.sn_world.specs.Committing.{MayCommit}
 use Rattle.sn_world.specs.Happens.{Happens, commits, makes, serves}
-use Rattle.sn_world.specs.Holds.{TokensDiffer}
+use Rattle.sn_world.specs.Holds.{Holds, TokensDiffer}
 use Rattle.sn_world.specs.Laws.{Keeps, SaysSome}
 use Rattle.sn_world.specs.Making.{MakesOf}
 use Rattle.sn_world.specs.Serving.{SaysServed}
@@ -187,6 +187,18 @@ module _ (keeps : Keeps) (says : SaysSome) (secret : Bytes) (differ : TokensDiff
         (sym (done_append p.rows front later ∙ ap (λ (r : Rows). rows_done r later) x.1))
         (turn_on v t (call_steps name begins front z.met) (call_steps name begins later z.others) (rows_served server z.met) (rows_done p.rows front)
         (rows_served (rows_served server z.met) z.others) (rows_done q.rows later) Post turn x.0 y))
+
+    -- ---- more is known by the moves that the piece says
+
+    pub with_moves : (piece : Piece) (Pre Q R : Known)
+        → ((v : World) (t : Ideal) (p : Point) (x : World) (moves : List Move) (q : Point) → Holds secret v t → v.devices name ≡ p.rows → Pre v t p
+        → LegalFrom t moves → Holds secret x (end_from t moves) → x.devices name ≡ q.rows → Q x (end_from t moves) q → R x (end_from t moves) q)
+        → PieceGoes secret name begins piece Pre Q → PieceGoes secret name begins piece Pre R
+    with_moves piece Pre Q R so goes v t server p acts fates (is_over halt) k pre by over = goes v t server p acts fates (is_over halt) k pre by over
+    with_moves piece Pre Q R so goes v t server p acts fates (goes_on q) k pre by over =
+        let x : GoesTurn secret name begins v t server p.rows Q acts fates (goes_on q) = goes v t server p acts fates (goes_on q) k pre by over in
+        let kept = trace_from keeps secret differ (call_steps name begins acts fates) x.0.moves v x.0.next t k.holds x.0.goes in
+        (x.0, x.1, so v t p x.0.next x.0.moves q k.holds k.device_is pre kept.0 kept.1 (x.0.device_is ∙ x.1) x.2)
 
     -- ---- a commit
 

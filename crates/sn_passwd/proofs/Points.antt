@@ -1,5 +1,5 @@
 -- What is known of a device at a point of a call: its account, its session token and its present set; and what exchanges leave it.
-use Rattle.std.specs.Prelude.{◌≡◌, length}
+use Rattle.std.proofs.Common.{◌≡◌, [], ◌∷◌, length, ap, ◌∙◌}
 use Rattle.sn_client.specs.Runs.{Point}
 use Rattle.sn_client.specs.Sending.{NoneWaits}
 use Rattle.sn_client.specs.States.{HasSets}
@@ -10,6 +10,7 @@ use Rattle.sn_laws.specs.declared.ideal.Ideal.{Ideal}
 use Rattle.sn_rows.specs.Table.{Rows}
 use Rattle.sn_rows.specs.declared.device_rows.OwnerRow.{OwnerRow}
 use Rattle.sn_sets.specs.declared.sets.Sets.{Sets}
+use Rattle.sn_shows.proofs.Facts.{greatest_of_one}
 use Rattle.sn_shows.specs.Laws.{HasAccount}
 use Rattle.sn_string.specs.declared.params.KeySet.{KeySet}
 use Rattle.sn_world.specs.Plain.{AsksNoSet}
@@ -29,6 +30,13 @@ pub record HasKeys (rows : Rows) (identifier token : Bytes) (present : KeySet) :
 abbrev pub HoldsLast : Ideal → Bytes → Type 0
 HoldsLast t name = (d : Device) (a : Account) → HasAccount t name d a → greatest 0 d.held ≡ length a.sets
 
+-- it holds that set alone
+abbrev pub HoldsAlone : Ideal → Bytes → Type 0
+HoldsAlone t name = (d : Device) (a : Account) → HasAccount t name d a → d.held ≡ length a.sets ∷ []
+
+pub last_alone : (t : Ideal) (name : Bytes) → HoldsAlone t name → HoldsLast t name
+last_alone t name alone d a has = ap (greatest 0) (alone d a has) ∙ greatest_of_one (length a.sets)
+
 -- it asks for no set, and has these keys
 abbrev pub Unasked : Bytes → Bytes → KeySet → World → Ideal → Point → Type 0
 Unasked identifier token present v t p = AsksNoSet p.rows × HasKeys p.rows identifier token present
@@ -37,6 +45,6 @@ Unasked identifier token present v t p = AsksNoSet p.rows × HasKeys p.rows iden
 pub record Brought (name identifier token : Bytes) (present : KeySet) (v : World) (t : Ideal) (p : Point) : Type 0 where
   pub none_asked : AsksNoSet p.rows
   pub keys : HasKeys p.rows identifier token present
-  pub last : HoldsLast t name
+  pub alone : HoldsAlone t name
   pub whole : HasAll p.rows t name
   pub none_waits : NoneWaits p.rows

@@ -106,7 +106,7 @@ token_differs secret w s name owner set token differ h owned may same =
     absurd (omega arith)
 
 -- what an adoption leaves
-has_adopted : (secret name : Bytes) (v : World) (t : Ideal) (server : Rows) (p : Point) (owner : OwnerRow) (set : KeySet) (token : Bytes) (changes : List Change)
+pub has_adopted : (secret name : Bytes) (v : World) (t : Ideal) (server : Rows) (p : Point) (owner : OwnerRow) (set : KeySet) (token : Bytes) (changes : List Change)
     (left : ChaCha) → TokensDiffer secret → Stands secret name v t server p.rows → CanAdopt secret name owner set token v t p
     → Adopts p.rows p.words set token changes left → (x : World) (u : Ideal)
     → HasAdopted owner set x u (record { made = p.made; rows = rows_after p.rows changes; words = left })

@@ -110,7 +110,7 @@ module _ (rows : Rows) (words left : ChaCha) (sent : List Item) (conflicts : Lis
       ∙ owner_put (rows_after rows s.end.changes) s.counted s.retired (value.Owner s.counted_is.owner) s.counted_is.puts_it
       (retires_older s.end.rows cursor s.sets.older s.retired s.retires)
 
-  sync_keeps : KeepsKeys rows (rows_after rows changes)
+  pub sync_keeps : KeepsKeys rows (rows_after rows changes)
   sync_keeps =
       let kept = parts_keep rows changes (apply_parts rows words left sent conflicts cursor retrieved saved token changes s) in
       record {

@@ -4,13 +4,14 @@
 ghost use Rattle.sn_passwd.specs.Calls.{EverySyncGoes, PasswdsGo};
 ghost use Rattle.sn_passwd.specs.Ends.{EverySyncEnds, PasswdsEnd};
 
+use sn_finished::finished_carries;
 use sn_world::{
     applied_whole, changed_adopts, keeps, keeps_committing, keeps_making, keeps_serving, says_some,
     sends_are_posted, served_tells, signed_in_adopts, synced_rows,
 };
 
-/// Whatever a sync does, a set asked for or not, and whichever of its requests and answers are lost, is such
-/// steps.
+/// Whatever a sync does, a set asked for or not, and whichever of its requests and answers are lost, is steps
+/// of the world one after another.
 pub fn every_sync_goes()
     ensures { EverySyncGoes }
 {
@@ -42,7 +43,7 @@ pub fn passwds_go()
     applied_whole();
 }
 
-/// A sync that is answered leaves its device finished.
+/// A sync that is answered leaves its device at rest, with its account's last set alone.
 pub fn every_sync_ends()
     ensures { EverySyncEnds }
 {
@@ -59,7 +60,8 @@ pub fn every_sync_ends()
     synced_rows();
 }
 
-/// So does a change of password that is answered, and then its account's last set is of that password.
+/// So does a change of password that is answered; and then that set is a new one, the keys of the password,
+/// and each undeleted last version carries it.
 pub fn passwds_end()
     ensures { PasswdsEnd }
 {
@@ -74,4 +76,5 @@ pub fn passwds_end()
     signed_in_adopts();
     applied_whole();
     synced_rows();
+    finished_carries();
 }

@@ -20,4 +20,4 @@ returns c = passwds_end (record {
     sends = c.sends_are_posted.ensures;
     says = c.says_some.ensures;
   };
-}) c.synced_rows.ensures
+}) c.synced_rows.ensures c.finished_carries.ensures
