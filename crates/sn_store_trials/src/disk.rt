@@ -1,11 +1,10 @@
 // A disk in memory and a shelf of them, against values worked out by hand from the model of a disk.
 use sn_disk::{CrashImage, Disk, MemDisk, MemShelf, Shelf, Stop};
 use sn_io::Failed;
-use std::alloc::Global;
-use std::test::Fail;
+use std::alloc::{AllocError, Global};
 
-fn disk_of(alloc: Global, bytes: &[u8], failing: &[u64]) -> Result<MemDisk, Fail> {
-    Ok(MemDisk::new(alloc, bytes.to_vec(alloc)?, failing.to_vec(alloc)?)?)
+fn disk_of(alloc: Global, bytes: &[u8], failing: &[u64]) -> Result<MemDisk, AllocError> {
+    MemDisk::new(alloc, bytes.to_vec(alloc)?, failing.to_vec(alloc)?)
 }
 
 // Writes at a place that the disk has.
@@ -24,28 +23,50 @@ fn shorten(disk: &mut MemDisk, len: u64) -> Result<(), Failed> {
     disk.cut(len)
 }
 
-#[test]
-fn writes_and_reads(rt: HostRuntime) -> Result<(), Fail> {
-    let table: [(&[u8], u64, &[u8], &[u8]); 4] = [
-        (b"", 0, b"ab", b"ab"),
-        (b"abcdef", 2, b"XY", b"abXYef"),
-        (b"abc", 2, b"XYZ", b"abXYZ"),
-        (b"abc", 3, b"", b"abc"),
-    ];
-    for (start, at, bytes, expected) in table {
-        let mut disk = disk_of(rt.alloc(), start, &[])?;
-        put(&mut disk, at, bytes)?;
-        assert_eq!(rt; disk.len()?, expected.len() as u64);
-        assert_eq!(rt; disk.bytes(), expected);
-        if expected.len() < 2 || disk.bytes().len() < 2 {
-            return Err(Failed.into());
-        }
-        let mut pair = [0; 2];
-        disk.read(0, &mut pair)?;
-        assert_eq!(rt; pair.as_slice(), &expected[..2]);
-        assert_eq!(rt; (disk.faults(), disk.wants()), (0, 0));
+fn counts(disk: &MemDisk, faults: u64, wants: u64) -> bool {
+    disk.faults() == faults && disk.wants() == wants
+}
+
+// What a disk begins with, where what is written, and what it has then.
+static WRITES: [(&[u8], u64, &[u8], &[u8]); 4] = [
+    (b"", 0, b"ab", b"ab"),
+    (b"abcdef", 2, b"XY", b"abXYef"),
+    (b"abc", 2, b"XYZ", b"abXYZ"),
+    (b"abc", 3, b"", b"abc"),
+];
+
+fn has(disk: &mut MemDisk, expected: &[u8]) -> bool {
+    disk.len() == Ok(expected.len() as u64) && disk.bytes() == expected
+}
+
+fn reads_two(disk: &mut MemDisk, expected: &[u8]) -> bool {
+    if disk.bytes().len() < 2 {
+        return false;
     }
-    Ok(())
+    let mut pair = [0; 2];
+    disk.read(0, &mut pair).is_ok() && expected.starts_with(&pair)
+}
+
+fn writes(alloc: Global, start: &[u8], at: u64, bytes: &[u8], expected: &[u8]) -> bool {
+    match disk_of(alloc, start, &[]) {
+        Ok(mut disk) => {
+            put(&mut disk, at, bytes).is_ok()
+                && has(&mut disk, expected)
+                && reads_two(&mut disk, expected)
+                && counts(&disk, 0, 0)
+        }
+        Err(_) => false,
+    }
+}
+
+#[test]
+fn writes_and_reads(rt: HostRuntime) {
+    for (start, at, bytes, expected) in &WRITES {
+        assert!(rt;
+            writes(rt.alloc(), start, *at, bytes, expected),
+            "{start:?} {at}"
+        );
+    }
 }
 
 // Four changing calls. From "abcd" reads give "aXYd", the same, "aX" and "aXZ" after them.
@@ -56,81 +77,142 @@ fn four_calls(disk: &mut MemDisk) -> Result<(), Failed> {
     put(disk, 2, b"Z")
 }
 
-#[test]
-fn every_stop(rt: HostRuntime) -> Result<(), Fail> {
-    // What is left of a stop in each call: the old, the new, and the new filled with a byte.
-    let table: [(u64, [&[u8]; 3]); 4] = [
-        (0, [b"abcd", b"aXYd", b"a--d"]),
-        (1, [b"abcd", b"aXYd", b"a--d"]),
-        (2, [b"aXYd", b"aX", b"aX"]),
-        (3, [b"aXYd", b"aXZ", b"aX-"]),
-    ];
-    for (calls, [old, new, filled]) in table {
-        let images = [
-            (CrashImage::Old, old),
-            (CrashImage::New, new),
-            (CrashImage::Filled(b'-'), filled),
-        ];
-        for (image, left) in images {
-            let mut disk = disk_of(rt.alloc(), b"abcd", &[])?;
-            disk.set_stop(Stop::After { calls, image });
-            assert_eq!(rt; four_calls(&mut disk), Err(Failed), "{calls}");
-            assert!(rt; disk.has_stopped());
-            assert_eq!(rt; disk.bytes(), left, "{calls} {image:?}");
-            assert_eq!(rt; disk.sync(), Err(Failed));
-            assert_eq!(rt; (disk.faults(), disk.wants()), (2, 0));
-            disk.set_stop(Stop::Never);
-            assert_eq!(rt; (disk.stop(), disk.has_stopped()), (Stop::Never, false));
-            put(&mut disk, 0, b"!")?;
-            assert_eq!(rt; disk.image(rt.alloc(), CrashImage::Old)?.as_slice(), left);
-        }
+fn has_image(alloc: Global, disk: &MemDisk, expected: &[u8]) -> bool {
+    match disk.image(alloc, CrashImage::Old) {
+        Ok(image) => image.as_slice() == expected,
+        Err(_) => false,
     }
-    Ok(())
+}
+
+// What is left of a stop in each of the four calls: the old, the new, and the new filled with a byte.
+static STOPS: [(u64, CrashImage, &[u8]); 12] = [
+    (0, CrashImage::Old, b"abcd"),
+    (0, CrashImage::New, b"aXYd"),
+    (0, CrashImage::Filled(b'-'), b"a--d"),
+    (1, CrashImage::Old, b"abcd"),
+    (1, CrashImage::New, b"aXYd"),
+    (1, CrashImage::Filled(b'-'), b"a--d"),
+    (2, CrashImage::Old, b"aXYd"),
+    (2, CrashImage::New, b"aX"),
+    (2, CrashImage::Filled(b'-'), b"aX"),
+    (3, CrashImage::Old, b"aXYd"),
+    (3, CrashImage::New, b"aXZ"),
+    (3, CrashImage::Filled(b'-'), b"aX-"),
+];
+
+fn has_stopped(disk: &mut MemDisk, left: &[u8]) -> bool {
+    disk.has_stopped() && disk.bytes() == left && disk.sync() == Err(Failed) && counts(disk, 2, 0)
+}
+
+fn goes_on(alloc: Global, disk: &mut MemDisk, left: &[u8]) -> bool {
+    disk.set_stop(Stop::Never);
+    disk.stop() == Stop::Never
+        && !disk.has_stopped()
+        && put(disk, 0, b"!").is_ok()
+        && has_image(alloc, disk, left)
+}
+
+fn stops(alloc: Global, stop: Stop, left: &[u8]) -> bool {
+    let Ok(mut disk) = disk_of(alloc, b"abcd", &[]) else {
+        return false;
+    };
+    disk.set_stop(stop);
+    four_calls(&mut disk) == Err(Failed)
+        && has_stopped(&mut disk, left)
+        && goes_on(alloc, &mut disk, left)
 }
 
 #[test]
-fn every_listed_call(rt: HostRuntime) -> Result<(), Fail> {
-    // What reads give after the call that failed, and what a crash leaves of the old.
-    let table: [(u64, &[u8], &[u8]); 5] = [
-        (0, b"abcd", b"abcd"),
-        (1, b"aXYd", b"abcd"),
-        (2, b"aXYd", b"aXYd"),
-        (3, b"aX", b"aXYd"),
-        (4, b"aXZ", b"aXYd"),
-    ];
-    for (call, bytes, old) in table {
-        let mut disk = disk_of(rt.alloc(), b"abcd", &[call])?;
-        assert_eq!(rt; four_calls(&mut disk).is_err(), call < 4);
-        assert_eq!(rt; disk.faults(), (call < 4) as u64);
-        assert_eq!(rt; disk.bytes(), bytes, "{call}");
-        assert_eq!(rt;
-            disk.image(rt.alloc(), CrashImage::Old)?.as_slice(),
-            old,
-            "{call}"
-        );
-        assert_eq!(rt; disk.wants(), 0);
+fn every_stop(rt: HostRuntime) {
+    for (calls, image, left) in &STOPS {
+        let stop = Stop::After {
+            calls: *calls,
+            image: *image,
+        };
+        assert!(rt; stops(rt.alloc(), stop, left), "{calls} {image:?}");
     }
-    Ok(())
+}
+
+// What reads give after the call that failed, and what a crash leaves of the old.
+static LISTED: [(u64, &[u8], &[u8]); 5] = [
+    (0, b"abcd", b"abcd"),
+    (1, b"aXYd", b"abcd"),
+    (2, b"aXYd", b"aXYd"),
+    (3, b"aX", b"aXYd"),
+    (4, b"aXZ", b"aXYd"),
+];
+
+fn fails_in(alloc: Global, call: u64, bytes: &[u8], old: &[u8]) -> bool {
+    let Ok(mut disk) = disk_of(alloc, b"abcd", &[call]) else {
+        return false;
+    };
+    let fails = call < 4;
+    four_calls(&mut disk).is_err() == fails
+        && counts(&disk, fails as u64, 0)
+        && disk.bytes() == bytes
+        && has_image(alloc, &disk, old)
 }
 
 #[test]
-fn takes_and_gives(rt: HostRuntime) -> Result<(), Fail> {
-    let mut shelf = MemShelf::new(rt.alloc(), [1].to_vec(rt.alloc())?);
-    let disk = disk_of(rt.alloc(), b"abcd", &[])?;
-    shelf.put("b".to_string(rt.alloc())?, disk)?;
-    let disk = disk_of(rt.alloc(), b"abcd", &[])?;
-    shelf.put("a".to_string(rt.alloc())?, disk)?;
-    // Call 0 is of no disk, call 1 is listed, and from call 2 to 4 the disk stands there, is out, and stands there.
-    assert_eq!(rt; shelf.take("c").is_err(), true);
-    assert_eq!(rt; shelf.take("a").is_err(), true);
-    let mut disk = shelf.take("a")?;
-    assert_eq!(rt; shelf.take("a").is_err(), true);
-    put(&mut disk, 0, b"!")?;
+fn every_listed_call(rt: HostRuntime) {
+    for (call, bytes, old) in &LISTED {
+        assert!(rt; fails_in(rt.alloc(), *call, bytes, old), "{call}");
+    }
+}
+
+fn shelf_of_two(alloc: Global) -> Result<MemShelf, AllocError> {
+    let mut shelf = MemShelf::new(alloc, [1].to_vec(alloc)?);
+    let disk = disk_of(alloc, b"abcd", &[])?;
+    shelf.put("b".to_string(alloc)?, disk)?;
+    let disk = disk_of(alloc, b"abcd", &[])?;
+    shelf.put("a".to_string(alloc)?, disk)?;
+    Ok(shelf)
+}
+
+fn refuses(shelf: &mut MemShelf, name: &str) -> bool {
+    shelf.take(name).is_err()
+}
+
+fn gives_back(shelf: &mut MemShelf) -> bool {
+    let Ok(mut disk) = shelf.take("a") else {
+        return false;
+    };
+    let is_out = shelf.take("a").is_err();
+    let is_put = put(&mut disk, 0, b"!").is_ok();
     shelf.give("a", disk);
-    assert_eq!(rt; shelf.take("a")?.bytes(), b"!bcd".as_slice());
-    assert_eq!(rt; shelf.faults(), 3);
-    let names = shelf.names(rt.alloc())?;
-    assert_eq!(rt; names.len(), 2);
-    assert_eq!(rt; (names[0].as_str(), names[1].as_str()), ("a", "b"));
-    Ok(())
+    is_out && is_put
+}
+
+fn takes(shelf: &mut MemShelf, expected: &[u8]) -> bool {
+    match shelf.take("a") {
+        Ok(disk) => disk.bytes() == expected,
+        Err(_) => false,
+    }
+}
+
+fn names_two(alloc: Global, shelf: &MemShelf) -> bool {
+    match shelf.names(alloc) {
+        Ok(names) => {
+            matches!(names.as_slice(), [first, second] if first.as_str() == "a" && second.as_str() == "b")
+        }
+        Err(_) => false,
+    }
+}
+
+fn lends(alloc: Global) -> bool {
+    let Ok(mut shelf) = shelf_of_two(alloc) else {
+        return false;
+    };
+    // Call 0 is of no disk, call 1 is listed, and from call 2 to 4 the disk stands there, is out, and stands there.
+    refuses(&mut shelf, "c")
+        && refuses(&mut shelf, "a")
+        && gives_back(&mut shelf)
+        && takes(&mut shelf, b"!bcd")
+        && shelf.faults() == 3
+        && names_two(alloc, &shelf)
+}
+
+#[test]
+fn takes_and_gives(rt: HostRuntime) {
+    assert!(rt; lends(rt.alloc()));
 }

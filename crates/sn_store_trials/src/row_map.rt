@@ -2,34 +2,31 @@
 use sn_row_map::RowMap;
 use sn_rows::{Change, GenerationRow, Key, Row, RowKind, Value};
 use sn_string::Text;
-use std::alloc::{AllocError, Global};
-use std::test::Fail;
+use std::alloc::Global;
 
-fn generation(alloc: Global, account: u64, number: u64) -> Result<Change, Fail> {
-    let nonce = Text::of(alloc, "nonce")?;
-    match GenerationRow::new(110_000, nonce) {
-        Some(row) => Ok(Change::Put(Row {
-            key: Key::Generation(account, number),
-            value: Value::Generation(row),
-        })),
-        None => Err(AllocError.into()),
+fn generation(alloc: Global, account: u64, number: u64) -> Option<Change> {
+    let nonce = Text::of(alloc, "nonce").ok()?;
+    let row = GenerationRow::new(110_000, nonce)?;
+    Some(Change::Put(Row {
+        key: Key::Generation(account, number),
+        value: Value::Generation(row),
+    }))
+}
+
+// A put of each of these generations.
+fn puts(alloc: Global, keys: &[(u64, u64)]) -> Option<Vec<Change>> {
+    let mut changes = Vec::new(alloc);
+    for (account, number) in keys {
+        changes.push(generation(alloc, *account, *number)?).ok()?;
     }
+    Some(changes)
 }
 
-fn three(alloc: Global) -> Result<RowMap, Fail> {
+fn three(alloc: Global) -> Option<RowMap> {
+    let changes = puts(alloc, &[(2, 1), (1, 300), (1, 2)])?;
     let mut map = RowMap::new(alloc);
-    let first = generation(alloc, 2, 1)?;
-    let second = generation(alloc, 1, 300)?;
-    let third = generation(alloc, 1, 2)?;
-    map.add_all(Vec::from_array(alloc, [first, second, third])?)?;
-    Ok(map)
-}
-
-// Room alone, before and behind the row of 1 and 2.
-fn rooms(alloc: Global, map: &mut RowMap) -> Result<Vec<Change>, Fail> {
-    let rooms = Vec::from_array(alloc, [generation(alloc, 1, 1)?, generation(alloc, 1, 3)?])?;
-    map.make_room_for(&rooms)?;
-    Ok(rooms)
+    map.add_all(changes).ok()?;
+    Some(map)
 }
 
 fn first(map: &RowMap) -> Option<Key> {
@@ -50,13 +47,24 @@ fn walked(map: &RowMap) -> bool {
         && behind(map, 2, 1) == None
 }
 
-#[test]
-fn steps_in_the_order_of_keys(rt: HostRuntime) -> Result<(), Fail> {
-    let mut map = three(rt.alloc())?;
-    assert!(rt; walked(&map));
-    let rooms = rooms(rt.alloc(), &mut map)?;
-    assert!(rt; walked(&map));
+// With room alone before and behind the row of 1 and 2, and without it.
+fn steps_past_room(alloc: Global, map: &mut RowMap) -> bool {
+    let Some(rooms) = puts(alloc, &[(1, 1), (1, 3)]) else {
+        return false;
+    };
+    let is_made = map.make_room_for(&rooms).is_ok() && walked(map);
     map.sweep_for(&rooms);
-    assert!(rt; walked(&map));
-    Ok(())
+    is_made && walked(map)
+}
+
+fn steps(alloc: Global) -> bool {
+    match three(alloc) {
+        Some(mut map) => walked(&map) && steps_past_room(alloc, &mut map),
+        None => false,
+    }
+}
+
+#[test]
+fn steps_in_the_order_of_keys(rt: HostRuntime) {
+    assert!(rt; steps(rt.alloc()));
 }

@@ -2,7 +2,6 @@
 
 use sn_rows::*;
 use std::alloc::{AllocError, Global};
-use std::test::*;
 
 mod tables;
 
@@ -57,30 +56,44 @@ fn answer_of(alloc: Global, bytes: &[u8]) -> (&'static str, usize) {
 }
 
 // Whether the bytes, where they are read as changes, are what is written of those.
-fn is_written_again(alloc: Global, bytes: &[u8]) -> Result<bool, AllocError> {
+fn is_written_again(alloc: Global, bytes: &[u8]) -> bool {
     match read(alloc, bytes) {
-        Ok(changes) => {
-            let written = write(alloc, changes.as_slice())?;
-            Ok(written.as_slice() == bytes)
+        Ok(changes) => is_written(alloc, changes.as_slice(), bytes),
+        Err(_) => true,
+    }
+}
+
+fn is_written(alloc: Global, changes: &[Change], bytes: &[u8]) -> bool {
+    match write(alloc, changes) {
+        Ok(written) => written.as_slice() == bytes,
+        Err(_) => false,
+    }
+}
+
+fn is_told(alloc: Global, bytes: &[u8], answer: &str) -> bool {
+    let Some((name, place)) = answer.split_once(' ') else {
+        return false;
+    };
+    let (given, at) = answer_of(alloc, bytes);
+    given == name && at == place.parse().unwrap_or(usize::MAX)
+}
+
+// Whether the bytes of a line of the table are answered as it says.
+fn is_answered(alloc: Global, line: &str) -> bool {
+    let Some((words, answer)) = line.split_once('|') else {
+        return false;
+    };
+    match written_out(alloc, words) {
+        Ok(bytes) => {
+            is_told(alloc, bytes.as_slice(), answer) && is_written_again(alloc, bytes.as_slice())
         }
-        Err(_) => Ok(true),
+        Err(_) => false,
     }
 }
 
 #[test]
-fn answers_by_the_grammar(rt: HostRuntime) -> Result<(), Fail> {
-    let alloc = rt.alloc();
+fn answers_by_the_grammar(rt: HostRuntime) {
     for line in BYTES.lines() {
-        if line.is_empty() {
-            continue;
-        }
-        let (words, answer) = line.split_once('|').ok_or("a line of the table")?;
-        let (name, place) = answer.split_once(' ').ok_or("an answer")?;
-        let bytes = written_out(alloc, words)?;
-        let (given, at) = answer_of(alloc, bytes.as_slice());
-        assert_eq!(rt; given, name);
-        assert_eq!(rt; at, place.parse().unwrap_or(usize::MAX));
-        assert!(rt; is_written_again(alloc, bytes.as_slice())?);
+        assert!(rt; line.is_empty() || is_answered(rt.alloc(), line), "{line}");
     }
-    Ok(())
 }

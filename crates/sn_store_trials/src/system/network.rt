@@ -3,6 +3,7 @@
 use sn_io::{Sink, Source, read_all, write_all};
 use sn_net::{AskError, Link, Port};
 use sn_system::{TcpLink, TcpPort};
+use std::alloc::Global;
 use std::io;
 use std::io::{ErrorKind, Read, Write};
 use std::net::{Ipv4Addr, Net, OpenListener, OpenStream, Shutdown, SocketAddr, TcpStream};
@@ -10,30 +11,57 @@ use std::os::fd::{AsRawFd, RawFd};
 use std::test::Fail;
 use std::time::Duration;
 
+fn asked(rt: &HostRuntime, number: u16) -> Result<TcpStream, Fail> {
+    let mut peer = TcpStream::connect(rt, (Ipv4Addr::LOCALHOST, number))?;
+    peer.write_all(b"a request")?;
+    peer.shutdown(Shutdown::Write)?;
+    Ok(peer)
+}
+
+fn reads<S: Source>(alloc: Global, source: &mut S, expected: &[u8]) -> bool {
+    match read_all(alloc, source, 100) {
+        Ok(bytes) => bytes.as_slice() == expected && source.faults() == 0,
+        Err(_) => false,
+    }
+}
+
+fn writes<S: Sink>(sink: &mut S, bytes: &[u8]) -> bool {
+    write_all(sink, bytes).is_ok() && sink.faults() == 0
+}
+
+fn answers(port: &mut TcpPort<'_, HostRuntime>, alloc: Global) -> bool {
+    let Ok((mut source, mut sink)) = port.accept() else {
+        return false;
+    };
+    let is_read = reads(alloc, &mut source, b"a request");
+    let is_written = writes(&mut sink, b"an answer");
+    port.end(source, sink);
+    is_read && is_written
+}
+
+fn is_answered(alloc: Global, peer: &mut TcpStream) -> bool {
+    let mut answer = Vec::new(alloc);
+    peer.read_to_end(&mut answer).is_ok() && answer.as_slice() == b"an answer".as_slice()
+}
+
+fn is_unbound(port: &mut TcpPort<'_, HostRuntime>) -> bool {
+    port.accept().is_err() && port.faults() == 1
+}
+
+fn is_taken(rt: &HostRuntime, number: u16) -> bool {
+    let mut other = TcpPort::new(rt);
+    other.bind(number).is_err() && other.faults() == 1
+}
+
 #[test]
 fn connections_come_over_loopback(rt: HostRuntime) -> Result<(), Fail> {
     let mut port = TcpPort::new(&rt);
-    assert!(rt; port.accept().is_err());
-    assert_eq!(rt; port.faults(), 1);
+    assert!(rt; is_unbound(&mut port));
     port.bind(0)?;
-    let mut peer = TcpStream::connect(&rt, (Ipv4Addr::LOCALHOST, port.number()))?;
-    peer.write_all(b"a request")?;
-    peer.shutdown(Shutdown::Write)?;
-    let (mut source, mut sink) = port.accept()?;
-    let request = read_all(rt.alloc(), &mut source, 100)?;
-    assert_eq!(rt; request.as_slice(), b"a request".as_slice());
-    write_all(&mut sink, b"an answer")?;
-    assert_eq!(rt; source.faults(), 0);
-    assert_eq!(rt; sink.faults(), 0);
-    port.end(source, sink);
-    let mut answer = Vec::new(rt.alloc());
-    peer.read_to_end(&mut answer)?;
-    assert_eq!(rt; answer.as_slice(), b"an answer".as_slice());
-    // The number is taken.
-    let mut other = TcpPort::new(&rt);
-    assert!(rt; other.bind(port.number()).is_err());
-    assert_eq!(rt; other.faults(), 1);
-    assert_eq!(rt; port.faults(), 1);
+    let mut peer = asked(&rt, port.number())?;
+    assert!(rt; answers(&mut port, rt.alloc()));
+    assert!(rt; is_answered(rt.alloc(), &mut peer));
+    assert!(rt; is_taken(&rt, port.number()) && port.faults() == 1);
     Ok(())
 }
 
@@ -145,30 +173,45 @@ impl<'a> Net for Network<'a> {
     }
 }
 
+fn is_given(link: &mut TcpLink<'_, Network<'_>>, alloc: Global) -> bool {
+    match link.ask(alloc, b"a request", 9) {
+        Ok(answer) => answer.as_slice() == b"an answer".as_slice() && link.faults() == 0,
+        Err(_) => false,
+    }
+}
+
+fn fails(link: &mut TcpLink<'_, Network<'_>>, alloc: Global, request: &[u8], room: u8) -> bool {
+    matches!(
+        link.ask(alloc, request, room as usize),
+        Err(AskError::Failed)
+    )
+}
+
+fn fails_at(link: &mut TcpLink<'_, Network<'_>>, alloc: Global, host: &str) -> bool {
+    link.aim(alloc, host).is_ok() && fails(link, alloc, b"a request", 9)
+}
+
+fn tells_its_faults(link: &mut TcpLink<'_, Network<'_>>, alloc: Global) -> bool {
+    // Longer than the room, not taken whole, not there, no address.
+    fails(link, alloc, b"a request", 8)
+        && fails(link, alloc, b"a request more", 9)
+        && fails_at(link, alloc, "127.0.0.1:1")
+        && fails_at(link, alloc, "nowhere")
+        && link.faults() == 4
+}
+
+fn is_aimed(link: &mut TcpLink<'_, Network<'_>>, alloc: Global) -> bool {
+    link.aim(alloc, "127.0.0.1:8080").is_ok() && link.host() == "127.0.0.1:8080"
+}
+
 #[test]
-fn a_request_is_answered(rt: HostRuntime) -> Result<(), Fail> {
+fn a_request_is_answered(rt: HostRuntime) {
     let network = Network {
         request: b"a request",
         answer: b"an answer",
     };
     let mut link = TcpLink::new(&network);
-    link.aim(rt.alloc(), "127.0.0.1:8080")?;
-    assert_eq!(rt; link.host(), "127.0.0.1:8080");
-    let answer = link.ask(rt.alloc(), b"a request", 9)?;
-    assert_eq!(rt; answer.as_slice(), b"an answer".as_slice());
-    assert_eq!(rt; link.faults(), 0);
-    // Longer than the room, not taken whole, not there, no address.
-    assert!(rt; matches!(link.ask(rt.alloc(), b"a request", 8), Err(AskError::Failed)));
-    assert!(rt;
-        matches!(
-            link.ask(rt.alloc(), b"a request more", 9),
-            Err(AskError::Failed)
-        )
-    );
-    link.aim(rt.alloc(), "127.0.0.1:1")?;
-    assert!(rt; matches!(link.ask(rt.alloc(), b"a request", 9), Err(AskError::Failed)));
-    link.aim(rt.alloc(), "nowhere")?;
-    assert!(rt; matches!(link.ask(rt.alloc(), b"a request", 9), Err(AskError::Failed)));
-    assert_eq!(rt; link.faults(), 4);
-    Ok(())
+    assert!(rt; is_aimed(&mut link, rt.alloc()));
+    assert!(rt; is_given(&mut link, rt.alloc()));
+    assert!(rt; tells_its_faults(&mut link, rt.alloc()));
 }

@@ -2,9 +2,9 @@
 
 use sn_io::{ReadError, Sink, Source, read_all, write_all};
 use sn_system::{Input, Output};
+use std::alloc::Global;
 use std::io;
 use std::io::{Read, Write};
-use std::test::Fail;
 
 // Gives three bytes a call, and fails at the call of this number, from 0.
 #[derive(Drop)]
@@ -95,87 +95,99 @@ impl<W: Write + Drop> Write for Interrupted<W> {
     }
 }
 
-#[test]
-fn an_interrupted_call_is_made_again(rt: HostRuntime) -> Result<(), Fail> {
-    let inner = Pieces {
-        text: b"0123456789",
+const DIGITS: &[u8] = b"0123456789";
+
+fn digits_failing(failing: u64) -> Pieces<'static> {
+    Pieces {
+        text: DIGITS,
         calls: 0,
-        failing: 99,
-    };
-    let mut input = Input::new(Interrupted { inner, calls: 0 });
-    let bytes = read_all(rt.alloc(), &mut input, 100)?;
-    assert_eq!(rt; bytes.as_slice(), b"0123456789".as_slice());
-    assert_eq!(rt; input.faults(), 0);
-    let mut taken = Narrow {
-        taken: Vec::new(rt.alloc()),
+        failing,
+    }
+}
+
+fn narrow_sink(alloc: Global, failing: u64, fails: bool) -> Narrow {
+    Narrow {
+        taken: Vec::new(alloc),
         calls: 0,
-        failing: 99,
-        fails: true,
+        failing,
+        fails,
+    }
+}
+
+fn reads_the_digits<R: Read + Drop>(alloc: Global, reader: R) -> bool {
+    let mut input = Input::new(reader);
+    let is_read = match read_all(alloc, &mut input, 100) {
+        Ok(bytes) => bytes.as_slice() == DIGITS,
+        Err(_) => false,
     };
+    is_read && input.faults() == 0
+}
+
+fn writes_the_digits<W: Write + Drop>(writer: W) -> bool {
+    let mut out = Output::new(writer);
+    write_all(&mut out, DIGITS).is_ok() && out.faults() == 0
+}
+
+fn writes_interrupted(alloc: Global) -> bool {
+    let mut taken = narrow_sink(alloc, 99, true);
     let inner = &mut taken;
-    let mut out = Output::new(Interrupted { inner, calls: 0 });
-    write_all(&mut out, b"0123456789")?;
-    assert_eq!(rt; out.faults(), 0);
-    assert_eq!(rt; taken.taken.as_slice(), b"0123456789".as_slice());
-    Ok(())
+    let is_written = writes_the_digits(Interrupted { inner, calls: 0 });
+    is_written && taken.taken.as_slice() == DIGITS
 }
 
 #[test]
-fn an_input_in_pieces_is_read_to_its_end(rt: HostRuntime) -> Result<(), Fail> {
-    let mut input = Input::new(Pieces {
-        text: b"0123456789",
-        calls: 0,
-        failing: 99,
-    });
-    let bytes = read_all(rt.alloc(), &mut input, 100)?;
-    assert_eq!(rt; bytes.as_slice(), b"0123456789".as_slice());
-    assert_eq!(rt; input.faults(), 0);
-    Ok(())
+fn an_interrupted_call_is_made_again(rt: HostRuntime) {
+    let inner = digits_failing(99);
+    assert!(rt; reads_the_digits(rt.alloc(), Interrupted { inner, calls: 0 }));
+    assert!(rt; writes_interrupted(rt.alloc()));
 }
 
 #[test]
-fn a_failed_read_is_no_end_of_the_input(rt: HostRuntime) -> Result<(), Fail> {
-    for failing in 0..5 {
-        let mut input = Input::new(Pieces {
-            text: b"0123456789",
-            calls: 0,
-            failing,
-        });
-        let outcome = read_all(rt.alloc(), &mut input, 100);
-        assert!(rt; matches!(outcome, Err(ReadError::Failed)), "call {failing}");
-        assert_eq!(rt; input.faults(), 1);
-    }
-    Ok(())
+fn an_input_in_pieces_is_read_to_its_end(rt: HostRuntime) {
+    assert!(rt; reads_the_digits(rt.alloc(), digits_failing(99)));
 }
 
-#[test]
-fn a_short_write_goes_on(rt: HostRuntime) -> Result<(), Fail> {
-    let mut taken = Narrow {
-        taken: Vec::new(rt.alloc()),
-        calls: 0,
-        failing: 99,
-        fails: true,
+fn fails_to_read(alloc: Global, failing: u64) -> bool {
+    let mut input = Input::new(digits_failing(failing));
+    let fails = match read_all(alloc, &mut input, 100) {
+        Ok(_) => false,
+        Err(error) => error == ReadError::Failed,
     };
-    let mut out = Output::new(&mut taken);
-    write_all(&mut out, b"0123456789")?;
-    assert_eq!(rt; out.faults(), 0);
-    assert_eq!(rt; taken.taken.as_slice(), b"0123456789".as_slice());
-    Ok(())
+    fails && input.faults() == 1
 }
 
 #[test]
-fn a_write_that_fails_or_takes_nothing_is_a_fault(rt: HostRuntime) -> Result<(), Fail> {
-    for fails in [false, true] {
-        let mut taken = Narrow {
-            taken: Vec::new(rt.alloc()),
-            calls: 0,
-            failing: 2,
-            fails,
-        };
-        let mut out = Output::new(&mut taken);
-        assert!(rt; write_all(&mut out, b"0123456789").is_err());
-        assert_eq!(rt; out.faults(), 1);
-        assert_eq!(rt; taken.taken.as_slice(), b"012345".as_slice());
+fn a_failed_read_is_no_end_of_the_input(rt: HostRuntime) {
+    for failing in 0..5u64 {
+        assert!(rt; fails_to_read(rt.alloc(), failing), "call {failing}");
     }
-    Ok(())
+}
+
+fn goes_on(alloc: Global) -> bool {
+    let mut taken = narrow_sink(alloc, 99, true);
+    let is_written = writes_the_digits(&mut taken);
+    is_written && taken.taken.as_slice() == DIGITS
+}
+
+#[test]
+fn a_short_write_goes_on(rt: HostRuntime) {
+    assert!(rt; goes_on(rt.alloc()));
+}
+
+fn is_counted<W: Write + Drop>(writer: W) -> bool {
+    let mut out = Output::new(writer);
+    write_all(&mut out, DIGITS).is_err() && out.faults() == 1
+}
+
+// In the third call, behind six bytes.
+fn is_a_fault(alloc: Global, fails: bool) -> bool {
+    let mut taken = narrow_sink(alloc, 2, fails);
+    let is_counted = is_counted(&mut taken);
+    is_counted && taken.taken.as_slice() == b"012345".as_slice()
+}
+
+#[test]
+fn a_write_that_fails_or_takes_nothing_is_a_fault(rt: HostRuntime) {
+    assert!(rt; is_a_fault(rt.alloc(), false));
+    assert!(rt; is_a_fault(rt.alloc(), true));
 }
