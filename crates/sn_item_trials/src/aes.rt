@@ -156,12 +156,14 @@ static CASES: [Case; 9] = [
     },
 ];
 
+fn is_mapped(case: &Case) -> bool {
+    Aes256Enc::new(&case.key).encrypt(&case.plain) == case.cipher
+        && Aes256Dec::new(&case.key).decrypt(&case.cipher) == case.plain
+}
+
 #[test]
 fn blocks_both_ways(rt: HostRuntime) {
     for case in &CASES {
-        let cipher = Aes256Enc::new(&case.key).encrypt(&case.plain);
-        let plain = Aes256Dec::new(&case.key).decrypt(&case.cipher);
-        assert_eq!(rt; cipher, case.cipher, "{}", case.name);
-        assert_eq!(rt; plain, case.plain, "{}", case.name);
+        assert!(rt; is_mapped(case), "{}", case.name);
     }
 }

@@ -3,7 +3,7 @@
 
 use sn_aes::Aes256Enc;
 use sn_cbc::{CbcError, seal, seal_owned, unseal, unseal_owned};
-use std::test::Fail;
+use std::alloc::Global;
 
 struct Case {
     name: &'static str,
@@ -207,80 +207,137 @@ static CASES: [Case; 9] = [
     },
 ];
 
+fn opens_owned(case: &Case, bytes: Vec<u8>) -> bool {
+    match unseal_owned(&case.key, &case.iv, bytes) {
+        Ok(opened) => opened.as_slice() == case.plain,
+        Err(_) => false,
+    }
+}
+
+fn opens(alloc: Global, case: &Case) -> bool {
+    match unseal(alloc, &case.key, &case.iv, case.bytes) {
+        Ok(opened) => opened.as_slice() == case.plain,
+        Err(_) => false,
+    }
+}
+
+fn seals_and_opens(alloc: Global, case: &Case) -> bool {
+    let Ok(sealed) = seal(alloc, &case.key, &case.iv, case.plain) else {
+        return false;
+    };
+    let is_sealed = sealed.as_slice() == case.bytes;
+    let is_opened = opens_owned(case, sealed);
+    is_sealed && is_opened
+}
+
 #[test]
-fn texts_both_ways(rt: HostRuntime) -> Result<(), Fail> {
+fn texts_both_ways(rt: HostRuntime) {
     for case in &CASES {
-        let sealed = seal(rt.alloc(), &case.key, &case.iv, case.plain)?;
-        assert_eq!(rt; sealed.as_slice(), case.bytes, "{}", case.name);
-        let opened = unseal(rt.alloc(), &case.key, &case.iv, case.bytes)?;
-        assert_eq!(rt; opened.as_slice(), case.plain, "{}", case.name);
-        let opened = unseal_owned(&case.key, &case.iv, sealed)?;
-        assert_eq!(rt; opened.as_slice(), case.plain, "{}", case.name);
+        assert!(rt; seals_and_opens(rt.alloc(), case), "{}", case.name);
+        assert!(rt; opens(rt.alloc(), case), "{}", case.name);
     }
-    Ok(())
+}
+
+fn seals_in_place(alloc: Global, case: &Case) -> bool {
+    let Ok(owned) = Vec::from_slice(alloc, case.plain) else {
+        return false;
+    };
+    match seal_owned(&case.key, &case.iv, owned) {
+        Ok(sealed) => sealed.as_slice() == case.bytes,
+        Err(_) => false,
+    }
 }
 
 #[test]
-fn sealed_in_place(rt: HostRuntime) -> Result<(), Fail> {
+fn sealed_in_place(rt: HostRuntime) {
     for case in &CASES {
-        let owned = Vec::from_slice(rt.alloc(), case.plain)?;
-        let sealed = seal_owned(&case.key, &case.iv, owned)?;
-        assert_eq!(rt; sealed.as_slice(), case.bytes, "{}", case.name);
+        assert!(rt; seals_in_place(rt.alloc(), case), "{}", case.name);
     }
-    Ok(())
 }
 
-#[test]
-fn no_whole_blocks(rt: HostRuntime) -> Result<(), Fail> {
-    let key = [1; 32];
-    let iv = [2; 16];
-    for length in [0usize, 1, 15, 17, 33] {
-        let bytes = vec![in rt.alloc(); 3u8; length]?;
-        let refused = Some(CbcError::Length { length });
-        assert_eq!(rt; unseal(rt.alloc(), &key, &iv, &bytes).err(), refused);
-        assert_eq!(rt; unseal_owned(&key, &iv, bytes).err(), refused);
+fn is_error(answer: Result<Vec<u8>, CbcError>, expected: CbcError) -> bool {
+    match answer {
+        Ok(_) => false,
+        Err(error) => error == expected,
     }
-    Ok(())
 }
 
-// Blocks of text that don't end in padding, and one of padding alone. The vector is 0, so that the ciphertext of one
-// block is the cipher's block.
-#[test]
-fn one_block_of_text(rt: HostRuntime) -> Result<(), Fail> {
+// Under a key of ones, and the vector of this byte.
+fn is_refused(alloc: Global, iv: u8, bytes: &[u8], expected: CbcError) -> bool {
+    let Ok(owned) = Vec::from_slice(alloc, bytes) else {
+        return false;
+    };
     let key = [1; 32];
-    let iv = [0; 16];
-    let aes = Aes256Enc::new(&key);
-    let mut two = [2; 16];
-    two[14] = 3;
-    let mut sixteen = [16; 16];
-    sixteen[0] = 15;
-    for text in [[0; 16], [17; 16], two, sixteen] {
-        let bytes = aes.encrypt(&text);
-        let owned = Vec::from_slice(rt.alloc(), &bytes)?;
-        let refused = Some(CbcError::Padding);
-        assert_eq!(rt;
-            unseal(rt.alloc(), &key, &iv, &bytes).err(),
-            refused,
-            "{text:?}"
+    let iv = [iv; 16];
+    let is_refused = is_error(unseal(alloc, &key, &iv, bytes), expected);
+    is_error(unseal_owned(&key, &iv, owned), expected) && is_refused
+}
+
+static NO_WHOLE_BLOCKS: [&[u8]; 5] = [&[], &[3], &[3; 15], &[3; 17], &[3; 33]];
+
+#[test]
+fn no_whole_blocks(rt: HostRuntime) {
+    for bytes in &NO_WHOLE_BLOCKS {
+        let length = bytes.len();
+        assert!(rt;
+            is_refused(rt.alloc(), 2, bytes, CbcError::Length { length }),
+            "{length}"
         );
-        assert_eq!(rt; unseal_owned(&key, &iv, owned).err(), refused, "{text:?}");
     }
-    let opened = unseal(rt.alloc(), &key, &iv, &aes.encrypt(&[16; 16]))?;
-    assert_eq!(rt; opened.len(), 0);
-    Ok(())
+}
+
+// Blocks of text that don't end in padding.
+static BLOCKS: [[u8; 16]; 4] = [
+    [0; 16],
+    [17; 16],
+    [2, 2, 2, 2, 2, 2, 2, 2, 2, 2, 2, 2, 2, 2, 3, 2],
+    [
+        15, 16, 16, 16, 16, 16, 16, 16, 16, 16, 16, 16, 16, 16, 16, 16,
+    ],
+];
+
+// The vector is 0, so that the ciphertext of one block is the cipher's block.
+fn is_refused_block(alloc: Global, text: &[u8; 16]) -> bool {
+    let bytes = Aes256Enc::new(&[1; 32]).encrypt(text);
+    is_refused(alloc, 0, &bytes, CbcError::Padding)
+}
+
+// A block of padding alone.
+fn opens_empty(alloc: Global) -> bool {
+    let bytes = Aes256Enc::new(&[1; 32]).encrypt(&[16; 16]);
+    match unseal(alloc, &[1; 32], &[0; 16], &bytes) {
+        Ok(opened) => opened.is_empty(),
+        Err(_) => false,
+    }
 }
 
 #[test]
-fn messages(rt: HostRuntime) -> Result<(), Fail> {
-    for (error, message) in [
-        (
-            CbcError::Length { length: 15 },
-            "15 bytes are no positive number of whole blocks",
-        ),
-        (CbcError::Padding, "the text doesn't end in padding"),
-        (CbcError::Memory, "out of memory"),
-    ] {
-        assert_eq!(rt; format!(in rt.alloc(); "{error}")?.as_str(), message);
+fn one_block_of_text(rt: HostRuntime) {
+    for text in &BLOCKS {
+        assert!(rt; is_refused_block(rt.alloc(), text), "{text:?}");
     }
-    Ok(())
+    assert!(rt; opens_empty(rt.alloc()));
+}
+
+static MESSAGES: [(CbcError, &str); 3] = [
+    (
+        CbcError::Length { length: 15 },
+        "15 bytes are no positive number of whole blocks",
+    ),
+    (CbcError::Padding, "the text doesn't end in padding"),
+    (CbcError::Memory, "out of memory"),
+];
+
+fn is_told(alloc: Global, error: CbcError, message: &str) -> bool {
+    match format!(in alloc; "{error}") {
+        Ok(text) => text.as_str() == message,
+        Err(_) => false,
+    }
+}
+
+#[test]
+fn messages(rt: HostRuntime) {
+    for (error, message) in &MESSAGES {
+        assert!(rt; is_told(rt.alloc(), *error, message), "{message}");
+    }
 }

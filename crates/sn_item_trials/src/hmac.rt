@@ -330,56 +330,65 @@ static CASES: [Case; 12] = [
     },
 ];
 
+fn is_mac(case: &Case) -> bool {
+    hmac_sha256(case.key, case.text) == case.mac256
+        && hmac_sha512(case.key, case.text) == case.mac512
+}
+
 #[test]
 fn of_a_whole_text(rt: HostRuntime) {
     for case in &CASES {
-        assert_eq!(rt;
-            hmac_sha256(case.key, case.text),
-            case.mac256,
-            "{}",
-            case.name
-        );
-        assert_eq!(rt;
-            hmac_sha512(case.key, case.text),
-            case.mac512,
-            "{}",
-            case.name
-        );
+        assert!(rt; is_mac(case), "{}", case.name);
     }
 }
+
+fn mac256_of_pieces(case: &Case, size: usize) -> [u8; 32] {
+    let mut mac = Mac256::new(case.key);
+    for piece in case.text.chunks(size.max(1)) {
+        mac = mac.copy();
+        mac.update(piece);
+    }
+    mac.finish()
+}
+
+fn mac512_of_pieces(case: &Case, size: usize) -> [u8; 64] {
+    let mut mac = Mac512::new(case.key);
+    for piece in case.text.chunks(size.max(1)) {
+        mac = mac.copy();
+        mac.update(piece);
+    }
+    mac.finish()
+}
+
+fn is_mac_of_pieces(case: &Case, size: usize) -> bool {
+    mac256_of_pieces(case, size) == case.mac256 && mac512_of_pieces(case, size) == case.mac512
+}
+
+static SIZES: [usize; 7] = [1, 7, 55, 64, 65, 128, 300];
 
 // In pieces of each of these sizes, and each time of a copy that is taken after the first piece.
 #[test]
 fn of_a_cut_text(rt: HostRuntime) {
     for case in &CASES {
-        for size in [1, 7, 55, 64, 65, 128, 300] {
-            let mut mac256 = Mac256::new(case.key);
-            let mut mac512 = Mac512::new(case.key);
-            for piece in case.text.chunks(size) {
-                mac256 = mac256.copy();
-                mac256.update(piece);
-                mac512 = mac512.copy();
-                mac512.update(piece);
-            }
-            assert_eq!(rt; mac256.finish(), case.mac256, "{} by {size}", case.name);
-            assert_eq!(rt; mac512.finish(), case.mac512, "{} by {size}", case.name);
+        for size in &SIZES {
+            assert!(rt; is_mac_of_pieces(case, *size), "{} by {size}", case.name);
         }
     }
 }
 
 // RFC 4231, test case 5, which gives the first 16 bytes.
+static FIRST256: [u8; 16] = [
+    0xa3, 0xb6, 0x16, 0x74, 0x73, 0x10, 0x0e, 0xe0, 0x6e, 0x0c, 0x79, 0x6c, 0x29, 0x55, 0x55, 0x2b,
+];
+
+static FIRST512: [u8; 16] = [
+    0x41, 0x5f, 0xad, 0x62, 0x71, 0x58, 0x0a, 0x53, 0x1d, 0x41, 0x79, 0xbc, 0x89, 0x1d, 0x87, 0xa6,
+];
+
 #[test]
 fn cut_short(rt: HostRuntime) {
     let key = [0x0c; 20];
     let text = b"Test With Truncation";
-    let first256 = [
-        0xa3, 0xb6, 0x16, 0x74, 0x73, 0x10, 0x0e, 0xe0, 0x6e, 0x0c, 0x79, 0x6c, 0x29, 0x55, 0x55,
-        0x2b,
-    ];
-    let first512 = [
-        0x41, 0x5f, 0xad, 0x62, 0x71, 0x58, 0x0a, 0x53, 0x1d, 0x41, 0x79, 0xbc, 0x89, 0x1d, 0x87,
-        0xa6,
-    ];
-    assert_eq!(rt; &hmac_sha256(&key, text)[..16], first256.as_slice());
-    assert_eq!(rt; &hmac_sha512(&key, text)[..16], first512.as_slice());
+    assert!(rt; hmac_sha256(&key, text).starts_with(&FIRST256));
+    assert!(rt; hmac_sha512(&key, text).starts_with(&FIRST512));
 }

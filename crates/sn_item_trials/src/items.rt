@@ -2,7 +2,9 @@
 
 use sn_items::{ItemError, Words, open_text, seal_owned_text, seal_text};
 use sn_string::{Params, StringError, Text, hash_bytes, iv_bytes, key_bytes, uuid_of, with_params};
+use std::alloc::Global;
 use std::test::Fail;
+use uuid::Uuid;
 
 mod items;
 
@@ -55,21 +57,24 @@ static DRAWS: [DrawCase; 4] = [
     },
 ];
 
+fn is_drawn(case: &DrawCase) -> bool {
+    let Some(seed) = hash_bytes(case.seed) else {
+        return false;
+    };
+    let mut words = Words::from_seed(seed);
+    Some(words.iv()) == iv_bytes(case.iv)
+        && Some(words.item_key()) == key_bytes(case.item_key)
+        && Some(words.uuid()) == uuid_of(case.uuid)
+        && Some(words.nonce()) == hash_bytes(case.nonce)
+        && Some(words.secret()) == hash_bytes(case.secret)
+        && Some(words.iv()) == iv_bytes(case.iv_again)
+}
+
 #[test]
-fn draws(rt: HostRuntime) -> Result<(), Fail> {
-    for case in DRAWS.iter() {
-        let mut words = Words::from_seed(hash_bytes(case.seed).ok_or("seed")?);
-        assert_eq!(rt; words.iv(), iv_bytes(case.iv).ok_or("iv")?);
-        assert_eq!(rt;
-            words.item_key(),
-            key_bytes(case.item_key).ok_or("item_key")?
-        );
-        assert_eq!(rt; words.uuid(), uuid_of(case.uuid).ok_or("uuid")?);
-        assert_eq!(rt; words.nonce(), hash_bytes(case.nonce).ok_or("nonce")?);
-        assert_eq!(rt; words.secret(), hash_bytes(case.secret).ok_or("secret")?);
-        assert_eq!(rt; words.iv(), iv_bytes(case.iv_again).ok_or("iv_again")?);
+fn draws(rt: HostRuntime) {
+    for case in &DRAWS {
+        assert!(rt; is_drawn(case), "{}", case.seed);
     }
-    Ok(())
 }
 
 struct SealCase {
@@ -190,36 +195,45 @@ static SEALED: [SealCase; 8] = [
     },
 ];
 
-#[test]
-fn sealed_strings(rt: HostRuntime) -> Result<(), Fail> {
-    for case in SEALED.iter() {
-        let mut words = Words::from_seed(hash_bytes(case.seed).ok_or("seed")?);
-        let uuid = uuid_of(case.uuid).ok_or("uuid")?;
-        let encryption_key = hash_bytes(case.key[0]).ok_or("encryption key")?;
-        let authentication_key = hash_bytes(case.key[1]).ok_or("authentication key")?;
-        let identifier = Text::of(rt.alloc(), case.identifier)?;
-        let nonce = Text::of(rt.alloc(), case.nonce)?;
-        let params = Params::new(identifier, case.cost, nonce).ok_or("params")?;
-        let text = seal_text(
-            rt.alloc(),
-            &mut words,
-            case.plain,
-            uuid,
-            &encryption_key,
-            &authentication_key,
-            &params,
-        )?;
-        assert_eq!(rt; text.as_str(), case.string);
-        let opened = open_text(
-            rt.alloc(),
-            &text,
-            uuid,
-            &encryption_key,
-            &authentication_key,
-        )?;
-        assert_eq!(rt; opened.as_str(), case.plain);
+fn params_of(alloc: Global, case: &SealCase) -> Option<Params> {
+    let identifier = Text::of(alloc, case.identifier).ok()?;
+    let nonce = Text::of(alloc, case.nonce).ok()?;
+    Params::new(identifier, case.cost, nonce)
+}
+
+// Under the encryption key and the authentication key.
+fn sealed(alloc: Global, case: &SealCase, uuid: Uuid, keys: &[[u8; 32]; 2]) -> Option<String> {
+    let mut words = Words::from_seed(hash_bytes(case.seed)?);
+    let params = params_of(alloc, case)?;
+    seal_text(
+        alloc, &mut words, case.plain, uuid, &keys[0], &keys[1], &params,
+    )
+    .ok()
+}
+
+fn opens(alloc: Global, case: &SealCase, uuid: Uuid, keys: &[[u8; 32]; 2]) -> bool {
+    match open_text(alloc, case.string, uuid, &keys[0], &keys[1]) {
+        Ok(opened) => opened.as_str() == case.plain,
+        Err(_) => false,
     }
-    Ok(())
+}
+
+fn is_sealed(alloc: Global, case: &SealCase) -> Option<bool> {
+    let uuid = uuid_of(case.uuid)?;
+    let keys = [hash_bytes(case.key[0])?, hash_bytes(case.key[1])?];
+    let text = sealed(alloc, case, uuid, &keys)?;
+    Some(text.as_str() == case.string && opens(alloc, case, uuid, &keys))
+}
+
+#[test]
+fn sealed_strings(rt: HostRuntime) {
+    for case in &SEALED {
+        assert!(rt;
+            is_sealed(rt.alloc(), case) == Some(true),
+            "{}",
+            case.string
+        );
+    }
 }
 
 // A string of the independent implementation under the key 00 01 .. 3f, and what its changes are refused as.
@@ -241,72 +255,55 @@ fn counting(first: u8) -> [u8; 32] {
     bytes
 }
 
-#[test]
-fn sealed_in_place(rt: HostRuntime) -> Result<(), Fail> {
-    let uuid = uuid_of(UUID).ok_or("uuid")?;
-    let params = Params::new(Text::fixed("alice"), 1, Text::fixed("6e")).ok_or("params")?;
-    let text = seal_owned_text(
-        rt.alloc(),
-        &mut Words::from_seed([0; 32]),
-        "0123456789abcdef".to_string(rt.alloc())?,
-        uuid,
-        &counting(0),
-        &counting(32),
-        &params,
-    )?;
-    assert_eq!(rt; text.as_str(), STRING);
-    Ok(())
+fn seals_in_place(alloc: Global) -> Option<bool> {
+    let uuid = uuid_of(UUID)?;
+    let params = Params::new(Text::fixed("alice"), 1, Text::fixed("6e"))?;
+    let plain = "0123456789abcdef".to_string(alloc).ok()?;
+    let mut words = Words::from_seed([0; 32]);
+    let keys = [counting(0), counting(32)];
+    let text = seal_owned_text(alloc, &mut words, plain, uuid, &keys[0], &keys[1], &params).ok()?;
+    Some(text.as_str() == STRING)
 }
 
 #[test]
-fn changed_strings(rt: HostRuntime) -> Result<(), Fail> {
-    let uuid = uuid_of(UUID).ok_or("uuid")?;
-    let other_uuid = uuid_of(OTHER_UUID).ok_or("other uuid")?;
-    let (encryption_key, authentication_key) = (counting(0), counting(32));
+fn sealed_in_place(rt: HostRuntime) {
+    assert!(rt; seals_in_place(rt.alloc()) == Some(true));
+}
 
-    let opened = open_text(
-        rt.alloc(),
-        STRING,
-        uuid,
-        &encryption_key,
-        &authentication_key,
-    )?;
-    assert_eq!(rt; opened.as_str(), "0123456789abcdef");
+// A string, the uuid of the item that it is opened as, and what is told of it.
+static CHANGED: [(&str, &str, &str); 4] = [
+    (STRING, UUID, "opened"),
+    (STRING, OTHER_UUID, "of another uuid"),
+    (OTHER_CIPHERTEXT, UUID, "of another hash"),
+    ("003:x", UUID, "of two parts"),
+];
 
-    let refused = open_text(
-        rt.alloc(),
-        STRING,
-        other_uuid,
-        &encryption_key,
-        &authentication_key,
-    );
-    assert!(rt; matches!(&refused, Err(ItemError::OtherUuid { written }) if *written == uuid));
+fn told(answer: &Result<String, ItemError>, uuid: Uuid) -> &'static str {
+    match answer {
+        Ok(opened) if opened.as_str() == "0123456789abcdef" => "opened",
+        Err(ItemError::OtherUuid { written }) if *written == uuid => "of another uuid",
+        Err(ItemError::HashMismatch { written, computed }) if written != computed => {
+            "of another hash"
+        }
+        Err(ItemError::Form(StringError::Parts { count: 2 })) => "of two parts",
+        _ => "another answer",
+    }
+}
 
-    let refused = open_text(
-        rt.alloc(),
-        OTHER_CIPHERTEXT,
-        uuid,
-        &encryption_key,
-        &authentication_key,
-    );
-    assert!(rt;
-        matches!(&refused, Err(ItemError::HashMismatch { written, computed }) if written != computed)
-    );
+fn is_told(alloc: Global, text: &str, uuid: &str, expected: &str) -> Option<bool> {
+    let written = uuid_of(UUID)?;
+    let answer = open_text(alloc, text, uuid_of(uuid)?, &counting(0), &counting(32));
+    Some(told(&answer, written) == expected)
+}
 
-    let refused = open_text(
-        rt.alloc(),
-        "003:x",
-        uuid,
-        &encryption_key,
-        &authentication_key,
-    );
-    assert!(rt;
-        matches!(
-            &refused,
-            Err(ItemError::Form(StringError::Parts { count: 2 }))
-        )
-    );
-    Ok(())
+#[test]
+fn changed_strings(rt: HostRuntime) {
+    for (text, uuid, expected) in &CHANGED {
+        assert!(rt;
+            is_told(rt.alloc(), text, uuid, expected) == Some(true),
+            "{expected}"
+        );
+    }
 }
 
 #[test]

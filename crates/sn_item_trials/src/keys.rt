@@ -1,8 +1,8 @@
 //! Keys by an independent implementation: Python's `hashlib`.
 
 use sn_keys::{check_of, derive, salt_of, salt_text};
-use sn_string::{Params, Text, hash_digits};
-use std::test::Fail;
+use sn_string::{KeySet, Params, Text, hash_digits};
+use std::alloc::Global;
 
 struct Case {
     password: &'static str,
@@ -92,48 +92,49 @@ static CASES: [Case; 6] = [
     },
 ];
 
-#[test]
-fn derived(rt: HostRuntime) -> Result<(), Fail> {
-    for case in &CASES {
-        let identifier = Text::of(rt.alloc(), case.identifier)?;
-        let nonce = Text::of(rt.alloc(), case.pw_nonce)?;
-        let params = Params::new(identifier, case.pw_cost, nonce).ok_or("params")?;
-        let text = salt_text(rt.alloc(), &params)?;
-        assert_eq!(rt; text.as_str(), case.salt_text);
-        let salt = salt_of(&params);
-        assert_eq!(rt; salt.as_slice(), case.salt.as_bytes());
-        let set = derive(rt.alloc(), case.password, &params)?;
-        assert!(rt; set.params.same(&params));
-        let digits = [
-            hash_digits(&set.pw),
-            hash_digits(&set.mk),
-            hash_digits(&set.ak),
-        ];
-        assert_eq!(rt;
-            digits[0].as_slice(),
-            case.pw.as_bytes(),
-            "{}",
-            case.salt_text
-        );
-        assert_eq!(rt;
-            digits[1].as_slice(),
-            case.mk.as_bytes(),
-            "{}",
-            case.salt_text
-        );
-        assert_eq!(rt;
-            digits[2].as_slice(),
-            case.ak.as_bytes(),
-            "{}",
-            case.salt_text
-        );
-        let check = hash_digits(&check_of(&set.pw));
-        assert_eq!(rt;
-            check.as_slice(),
-            case.check.as_bytes(),
-            "{}",
-            case.salt_text
-        );
+fn params_of(alloc: Global, case: &Case) -> Option<Params> {
+    let identifier = Text::of(alloc, case.identifier).ok()?;
+    let nonce = Text::of(alloc, case.pw_nonce).ok()?;
+    Params::new(identifier, case.pw_cost, nonce)
+}
+
+fn has_salt(alloc: Global, case: &Case, params: &Params) -> bool {
+    match salt_text(alloc, params) {
+        Ok(text) => {
+            text.as_str() == case.salt_text && salt_of(params).as_slice() == case.salt.as_bytes()
+        }
+        Err(_) => false,
     }
-    Ok(())
+}
+
+fn is_spelled(bytes: &[u8; 32], digits: &str) -> bool {
+    hash_digits(bytes).as_slice() == digits.as_bytes()
+}
+
+fn are_derived(case: &Case, set: &KeySet) -> bool {
+    is_spelled(&set.pw, case.pw)
+        && is_spelled(&set.mk, case.mk)
+        && is_spelled(&set.ak, case.ak)
+        && is_spelled(&check_of(&set.pw), case.check)
+}
+
+fn derives(alloc: Global, case: &Case, params: &Params) -> bool {
+    match derive(alloc, case.password, params) {
+        Ok(set) => set.params.same(params) && are_derived(case, &set),
+        Err(_) => false,
+    }
+}
+
+fn is_derived(alloc: Global, case: &Case) -> bool {
+    match params_of(alloc, case) {
+        Some(params) => has_salt(alloc, case, &params) && derives(alloc, case, &params),
+        None => false,
+    }
+}
+
+#[test]
+fn derived(rt: HostRuntime) {
+    for case in &CASES {
+        assert!(rt; is_derived(rt.alloc(), case), "{}", case.salt_text);
+    }
 }

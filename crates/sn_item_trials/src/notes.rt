@@ -2,7 +2,7 @@
 
 use sn_notes::{conflict_copy, note};
 use sn_string::uuid_of;
-use std::test::Fail;
+use std::alloc::{AllocError, Global};
 
 struct CopyCase {
     content: &'static str,
@@ -55,20 +55,36 @@ static COPIES: [CopyCase; 10] = [
 
 const MEMBER: &str = "\"conflict_of\":\"00000000-0000-4000-8000-000000000001\"}";
 
-#[test]
-fn copies(rt: HostRuntime) -> Result<(), Fail> {
-    let uuid = uuid_of("00000000-0000-4000-8000-000000000001").ok_or("uuid")?;
-    for case in COPIES.iter() {
-        let copy = conflict_copy(rt.alloc(), case.content, uuid)?;
-        match case.front {
-            Some(front) => {
-                let expected = format!(in rt.alloc(); "{front}{MEMBER}")?;
-                assert!(rt; copy.as_str() == expected.as_str());
-            }
-            None => assert!(rt; copy.as_str() == case.content),
-        }
+// The case's own content, or its front and the member that names the item.
+fn expected(alloc: Global, case: &CopyCase) -> Result<String, AllocError> {
+    match case.front {
+        Some(front) => format!(in alloc; "{front}{MEMBER}"),
+        None => case.content.to_string(alloc),
     }
-    let made = note(rt.alloc(), "a", "b")?;
-    assert!(rt; made.as_str() == "{\"references\":[],\"text\":\"b\",\"title\":\"a\"}");
-    Ok(())
+}
+
+fn is_copied(alloc: Global, case: &CopyCase) -> Option<bool> {
+    let uuid = uuid_of("00000000-0000-4000-8000-000000000001")?;
+    let expected = expected(alloc, case).ok()?;
+    let copy = conflict_copy(alloc, case.content, uuid).ok()?;
+    Some(copy.as_str() == expected.as_str())
+}
+
+fn is_noted(alloc: Global) -> bool {
+    match note(alloc, "a", "b") {
+        Ok(made) => made.as_str() == "{\"references\":[],\"text\":\"b\",\"title\":\"a\"}",
+        Err(_) => false,
+    }
+}
+
+#[test]
+fn copies(rt: HostRuntime) {
+    for case in &COPIES {
+        assert!(rt;
+            is_copied(rt.alloc(), case) == Some(true),
+            "{}",
+            case.content
+        );
+    }
+    assert!(rt; is_noted(rt.alloc()));
 }

@@ -156,15 +156,13 @@ static CASES: [Case; 8] = [
     },
 ];
 
+fn is_derived(case: &Case) -> bool {
+    case.cost > 0 && derive96(case.password, case.salt, case.cost) == case.key
+}
+
 #[test]
 fn derived(rt: HostRuntime) {
     for case in &CASES {
-        assert!(rt; case.cost > 0);
-        assert_eq!(rt;
-            derive96(case.password, case.salt, case.cost),
-            case.key,
-            "at cost {}",
-            case.cost
-        );
+        assert!(rt; is_derived(case), "at cost {}", case.cost);
     }
 }

@@ -56,30 +56,40 @@ fn put(alloc: Global, pieces: &mut Pieces, part: &str, piece: String) -> Result<
     Ok(())
 }
 
-// `before*unit*3*after` written out.
-fn written_out(alloc: Global, piece: &str) -> Result<String, Fail> {
-    let mut words = piece.split('*');
-    let mut text = words.next().ok_or("before")?.to_string(alloc)?;
-    while let Some(unit) = words.next() {
-        let count = words.next().ok_or("count")?.parse::<usize>()?;
-        for _ in 0..count {
-            text.push_str(unit)?;
-        }
-        text.push_str(words.next().ok_or("after")?)?;
+fn push_times(text: &mut String, unit: &str, count: usize) -> Result<(), AllocError> {
+    for _ in 0..count {
+        text.push_str(unit)?;
     }
-    Ok(text)
+    Ok(())
 }
 
-fn changed(alloc: Global, changes: &str) -> Result<String, Fail> {
+// `before*unit*3*after` written out.
+fn written_out(alloc: Global, piece: &str) -> Option<String> {
+    let mut words = piece.split('*');
+    let mut text = words.next()?.to_string(alloc).ok()?;
+    while let Some(unit) = words.next() {
+        let count = words.next()?.parse::<usize>().ok()?;
+        push_times(&mut text, unit, count).ok()?;
+        text.push_str(words.next()?).ok()?;
+    }
+    Some(text)
+}
+
+fn change(alloc: Global, pieces: &mut Pieces, change: &str) -> Option<()> {
+    let (part, piece) = change.split_once('=')?;
+    let piece = written_out(alloc, piece)?;
+    put(alloc, pieces, part, piece).ok()
+}
+
+fn changed(alloc: Global, changes: &str) -> Option<String> {
     if let Some(whole) = changes.strip_prefix("whole=") {
-        return Ok(whole.to_string(alloc)?);
+        return whole.to_string(alloc).ok();
     }
-    let mut pieces = pieces_that_read(alloc)?;
-    for change in changes.split(';') {
-        let (part, piece) = change.split_once('=').ok_or("part")?;
-        put(alloc, &mut pieces, part, written_out(alloc, piece)?)?;
+    let mut pieces = pieces_that_read(alloc).ok()?;
+    for one in changes.split(';') {
+        change(alloc, &mut pieces, one)?;
     }
-    Ok(text_of(alloc, &pieces)?)
+    text_of(alloc, &pieces).ok()
 }
 
 // The name of the answer, and its place or count.
@@ -97,51 +107,83 @@ fn answer(alloc: Global, text: &str) -> (&'static str, usize) {
     }
 }
 
-fn is_answered(alloc: Global, row: &str) -> Result<bool, Fail> {
-    let (row, place) = row.rsplit_once('|').ok_or("place")?;
-    let (changes, name) = row.rsplit_once('|').ok_or("name")?;
+fn is_answered(alloc: Global, row: &str) -> Option<bool> {
+    let (row, place) = row.rsplit_once('|')?;
+    let (changes, name) = row.rsplit_once('|')?;
+    let place = place.parse::<usize>().ok()?;
     let text = changed(alloc, changes)?;
-    Ok(answer(alloc, text.as_str()) == (name, place.parse::<usize>()?))
+    Some(answer(alloc, text.as_str()) == (name, place))
 }
 
-#[test]
-fn reads_or_refuses(rt: HostRuntime) -> Result<(), Fail> {
+static TABLES: [&str; 3] = [TEXTS, PARTS, PARAMETERS];
+
+fn count_of(table: &str) -> u32 {
     let mut rows = 0u32;
-    for table in [TEXTS, PARTS, PARAMETERS] {
-        for row in table.lines() {
-            if !row.is_empty() {
-                assert!(rt; is_answered(rt.alloc(), row)?, "{row}");
-                rows = rows.saturating_add(1);
-            }
+    for row in table.lines() {
+        if !row.is_empty() {
+            rows = rows.saturating_add(1);
         }
     }
-    assert_eq!(rt; rows, 146);
-    Ok(())
-}
-
-fn alice(alloc: Global) -> Result<Option<Params>, AllocError> {
-    let identifier = Text::of(alloc, "alice")?;
-    let pw_nonce = Text::of(alloc, "6e")?;
-    Ok(Params::new(identifier, 1, pw_nonce))
+    rows
 }
 
 #[test]
-fn writes_parameters(rt: HostRuntime) -> Result<(), Fail> {
-    let params = alice(rt.alloc())?.ok_or("alice")?;
-    assert_eq!(rt; params_text(rt.alloc(), &params)?.as_str(), PARAMS);
-    Ok(())
+fn reads_or_refuses(rt: HostRuntime) {
+    for table in &TABLES {
+        for row in table.lines() {
+            assert!(rt;
+                row.is_empty() || is_answered(rt.alloc(), row) == Some(true),
+                "{row}"
+            );
+        }
+    }
+    let two = count_of(TEXTS).saturating_add(count_of(PARTS));
+    assert_eq!(rt; two.saturating_add(count_of(PARAMETERS)), 146);
+}
+
+fn alice(alloc: Global) -> Option<Params> {
+    let identifier = Text::of(alloc, "alice").ok()?;
+    let pw_nonce = Text::of(alloc, "6e").ok()?;
+    Params::new(identifier, 1, pw_nonce)
+}
+
+// Whether a text was written, and is this one.
+fn is_text(written: Result<String, AllocError>, expected: &str) -> bool {
+    match written {
+        Ok(text) => text.as_str() == expected,
+        Err(_) => false,
+    }
+}
+
+fn are_written(alloc: Global) -> bool {
+    match alice(alloc) {
+        Some(params) => is_text(params_text(alloc, &params), PARAMS),
+        None => false,
+    }
 }
 
 #[test]
-fn reads_its_parts(rt: HostRuntime) -> Result<(), Fail> {
-    let Ok(parts) = read(rt.alloc(), WHOLE) else {
-        return Err(Fail::from("it reads"));
-    };
-    assert_eq!(rt; (parts.hash, parts.uuid), (HASH, UUID));
-    assert_eq!(rt; (parts.iv, parts.ciphertext), (IV, CIPHERTEXT));
-    assert_eq!(rt; parts.params_text, PARAMS);
-    assert_eq!(rt; authenticated(rt.alloc(), &parts)?.as_str(), HASHED);
-    Ok(())
+fn writes_parameters(rt: HostRuntime) {
+    assert!(rt; are_written(rt.alloc()));
+}
+
+fn reads_parts(alloc: Global) -> bool {
+    match read(alloc, WHOLE) {
+        Ok(parts) => {
+            parts.hash == HASH
+                && parts.uuid == UUID
+                && parts.iv == IV
+                && parts.ciphertext == CIPHERTEXT
+                && parts.params_text == PARAMS
+                && is_text(authenticated(alloc, &parts), HASHED)
+        }
+        Err(_) => false,
+    }
+}
+
+#[test]
+fn reads_its_parts(rt: HostRuntime) {
+    assert!(rt; reads_parts(rt.alloc()));
 }
 
 #[test]
@@ -157,101 +199,142 @@ fn writes_around_its_hash(rt: HostRuntime) -> Result<(), Fail> {
     Ok(())
 }
 
+fn spells_a_hash(alloc: Global) -> bool {
+    match hash_bytes("000102030405060708090a0b0c0d0e0f101112131415161718191a1b1c1d1e1f") {
+        Some(hash) => {
+            hash[31] == 31
+                && hash_digits(&hash).ends_with(b"1f")
+                && is_text(hex_text(alloc, &hash[8..12]), "08090a0b")
+        }
+        None => false,
+    }
+}
+
+fn spells_an_iv() -> bool {
+    match iv_bytes("fffefdfcfbfaf9f8f7f6f5f4f3f2f1f0") {
+        Some(iv) => iv[15] == 0xf0,
+        None => false,
+    }
+}
+
+fn spells_a_key(alloc: Global) -> bool {
+    match written_out(alloc, "*7f*64*") {
+        Some(digits) => key_bytes(digits.as_str()) == Some([0x7f; 64]),
+        None => false,
+    }
+}
+
+fn spells_a_uuid(alloc: Global) -> bool {
+    match uuid_of("f81d4fae-7dec-11d0-a765-00a0c91e6bf6") {
+        Some(uuid) => {
+            uuid.as_bytes()[0] == 0xf8
+                && is_text(
+                    uuid_text(alloc, uuid),
+                    "f81d4fae-7dec-11d0-a765-00a0c91e6bf6",
+                )
+        }
+        None => false,
+    }
+}
+
+fn spells_base64(alloc: Global) -> bool {
+    match base64_bytes(alloc, "Zm9vYmFyIQ==") {
+        Ok(Some(bytes)) => {
+            bytes.as_slice() == b"foobar!".as_slice()
+                && is_text(base64_text(alloc, b"foobar!"), "Zm9vYmFyIQ==")
+        }
+        _ => false,
+    }
+}
+
 #[test]
-fn spells_bytes(rt: HostRuntime) -> Result<(), Fail> {
-    let alloc = rt.alloc();
-    let hash = hash_bytes("000102030405060708090a0b0c0d0e0f101112131415161718191a1b1c1d1e1f").ok_or(
-        "hash",
-    )?;
-    assert_eq!(rt; hash[31], 31);
-    assert_eq!(rt; &hash_digits(&hash)[62..], b"1f".as_slice());
-    assert_eq!(rt; hex_text(alloc, &hash[8..12])?.as_str(), "08090a0b");
-    let iv = iv_bytes("fffefdfcfbfaf9f8f7f6f5f4f3f2f1f0").ok_or("iv")?;
-    assert_eq!(rt; iv[15], 0xf0);
-    let digits = written_out(alloc, "*7f*64*")?;
-    let key = key_bytes(digits.as_str()).ok_or("key")?;
-    assert_eq!(rt; key, [0x7f; 64]);
-    let uuid = uuid_of("f81d4fae-7dec-11d0-a765-00a0c91e6bf6").ok_or("uuid")?;
-    assert_eq!(rt; uuid.as_bytes()[0], 0xf8);
-    assert_eq!(rt;
-        uuid_text(alloc, uuid)?.as_str(),
-        "f81d4fae-7dec-11d0-a765-00a0c91e6bf6"
-    );
-    assert_eq!(rt; base64_text(alloc, b"foobar!")?.as_str(), "Zm9vYmFyIQ==");
-    let bytes = base64_bytes(alloc, "Zm9vYmFyIQ==")?.ok_or("base64")?;
-    assert_eq!(rt; bytes.as_slice(), b"foobar!".as_slice());
-    assert!(rt; base64_bytes(alloc, "Zm9vYmFyIR==")?.is_none());
-    Ok(())
+fn spells_bytes(rt: HostRuntime) {
+    assert!(rt; spells_a_hash(rt.alloc()));
+    assert!(rt; spells_an_iv());
+    assert!(rt; spells_a_key(rt.alloc()));
+    assert!(rt; spells_a_uuid(rt.alloc()));
+    assert!(rt; spells_base64(rt.alloc()));
+    assert!(rt; matches!(base64_bytes(rt.alloc(), "Zm9vYmFyIR=="), Ok(None)));
 }
 
 fn twice<T: Twin>(alloc: Global, value: &T) -> Result<T, AllocError> {
     value.twin(alloc)
 }
 
-#[test]
-fn copies_sets(rt: HostRuntime) -> Result<(), Fail> {
+fn copies_a_set(alloc: Global) -> Option<bool> {
     let set = KeySet {
-        params: alice(rt.alloc())?.ok_or("alice")?,
+        params: alice(alloc)?,
         pw: [1; 32],
         mk: [2; 32],
         ak: [3; 32],
     };
-    let copy = twice(rt.alloc(), &set)?;
-    assert!(rt; copy.same(&set));
-    Ok(())
+    Some(twice(alloc, &set).ok()?.same(&set))
 }
 
 #[test]
-fn copies_texts(rt: HostRuntime) -> Result<(), Fail> {
-    let owned = twice(rt.alloc(), &Text::of(rt.alloc(), "alice")?)?;
-    let fixed = twice(rt.alloc(), &Text::fixed("alice"))?;
-    assert_eq!(rt;
-        (owned.as_str(), owned.len(), owned.is_empty()),
-        ("alice", 5, false)
-    );
-    assert_eq!(rt; fixed.as_str(), "alice");
-    assert!(rt; owned.same(&fixed) && !owned.same(&Text::fixed("bob")));
-    Ok(())
+fn copies_sets(rt: HostRuntime) {
+    assert!(rt; copies_a_set(rt.alloc()) == Some(true));
+}
+
+fn is_alice(text: &Text) -> bool {
+    text.as_str() == "alice" && text.len() == 5 && !text.is_empty()
+}
+
+fn copies_two_texts(alloc: Global) -> Option<bool> {
+    let fixed = twice(alloc, &Text::fixed("alice")).ok()?;
+    let text = Text::of(alloc, "alice").ok()?;
+    let owned = twice(alloc, &text).ok()?;
+    let are_alike = owned.same(&fixed) && !owned.same(&Text::fixed("bob"));
+    Some(is_alice(&owned) && is_alice(&fixed) && are_alike)
 }
 
 #[test]
-fn copies_bytes(rt: HostRuntime) -> Result<(), Fail> {
-    let bytes = Bytes::of(rt.alloc(), b"ab")?;
-    let bytes = Bytes::of_vec(twice(rt.alloc(), &bytes)?.into_vec());
-    assert_eq!(rt;
-        (bytes.as_slice(), bytes.len(), bytes.is_empty()),
-        (b"ab".as_slice(), 2, false)
-    );
-    assert!(rt; bytes.same(&bytes));
-    Ok(())
+fn copies_texts(rt: HostRuntime) {
+    assert!(rt; copies_two_texts(rt.alloc()) == Some(true));
+}
+
+fn is_ab(bytes: &Bytes) -> bool {
+    bytes.as_slice() == b"ab".as_slice()
+        && bytes.len() == 2
+        && !bytes.is_empty()
+        && bytes.same(bytes)
+}
+
+fn copies_two_bytes(alloc: Global) -> Option<bool> {
+    let bytes = Bytes::of(alloc, b"ab").ok()?;
+    let copy = twice(alloc, &bytes).ok()?;
+    Some(is_ab(&Bytes::of_vec(copy.into_vec())))
 }
 
 #[test]
-fn copies_lists(rt: HostRuntime) -> Result<(), Fail> {
-    let mut many = Many::new(rt.alloc());
-    many.push(Some(7u32))?;
-    many.push(None)?;
-    let many = Many::of_vec(twice(rt.alloc(), &many)?.into_vec());
-    assert_eq!(rt; many.as_slice(), [Some(7u32), None].as_slice());
-    assert_eq!(rt; (many.len(), many.is_empty()), (2, false));
-    Ok(())
+fn copies_bytes(rt: HostRuntime) {
+    assert!(rt; copies_two_bytes(rt.alloc()) == Some(true));
+}
+
+fn copies_a_list(alloc: Global) -> Option<bool> {
+    let mut many = Many::new(alloc);
+    many.push(Some(7u32)).ok()?;
+    many.push(None).ok()?;
+    let many = Many::of_vec(twice(alloc, &many).ok()?.into_vec());
+    Some(many.as_slice() == [Some(7u32), None].as_slice() && many.len() == 2 && !many.is_empty())
 }
 
 #[test]
-fn copies_values(rt: HostRuntime) -> Result<(), Fail> {
-    let alloc = rt.alloc();
-    assert_eq!(rt;
-        (
-            twice(alloc, &1u8)?,
-            twice(alloc, &2u64)?,
-            twice(alloc, &true)?
-        ),
-        (1, 2, true)
-    );
-    assert_eq!(rt; twice(alloc, &[1u8; 32])?, [1; 32]);
-    assert_eq!(rt;
-        twice(alloc, &Uuid::from_bytes([9; 16]))?,
-        Uuid::from_bytes([9; 16])
-    );
-    Ok(())
+fn copies_lists(rt: HostRuntime) {
+    assert!(rt; copies_a_list(rt.alloc()) == Some(true));
+}
+
+fn copies_numbers(alloc: Global) -> bool {
+    twice(alloc, &1u8) == Ok(1) && twice(alloc, &2u64) == Ok(2) && twice(alloc, &true) == Ok(true)
+}
+
+fn copies_arrays(alloc: Global) -> bool {
+    let uuid = Uuid::from_bytes([9; 16]);
+    twice(alloc, &[1u8; 32]) == Ok([1; 32]) && twice(alloc, &uuid) == Ok(uuid)
+}
+
+#[test]
+fn copies_values(rt: HostRuntime) {
+    assert!(rt; copies_numbers(rt.alloc()));
+    assert!(rt; copies_arrays(rt.alloc()));
 }

@@ -4,7 +4,7 @@
 use sn_items::{ItemError, Sealed, Which, Words, open_item, seal_item};
 use sn_string::{KeySet, Params, Text, hash_bytes, uuid_of};
 use std::alloc::Global;
-use std::test::Fail;
+use uuid::Uuid;
 
 const UUID: &str = "00000000-0000-4000-8000-000000000001";
 
@@ -212,11 +212,11 @@ fn counting(first: u8) -> [u8; 32] {
     bytes
 }
 
-fn set_of(alloc: Global) -> Result<KeySet, Fail> {
-    let identifier = Text::of(alloc, "alice")?;
-    let nonce = Text::of(alloc, "6e")?;
-    let params = Params::new(identifier, 1, nonce).ok_or("params")?;
-    Ok(KeySet {
+fn set_of(alloc: Global) -> Option<KeySet> {
+    let identifier = Text::of(alloc, "alice").ok()?;
+    let nonce = Text::of(alloc, "6e").ok()?;
+    let params = Params::new(identifier, 1, nonce)?;
+    Some(KeySet {
         params,
         pw: [0; 32],
         mk: counting(0),
@@ -224,34 +224,53 @@ fn set_of(alloc: Global) -> Result<KeySet, Fail> {
     })
 }
 
-#[test]
-fn sealed_items(rt: HostRuntime) -> Result<(), Fail> {
-    let uuid = uuid_of(UUID).ok_or("uuid")?;
-    let set = set_of(rt.alloc())?;
-    for case in SEALED.iter() {
-        let mut words = Words::from_seed(hash_bytes(case.seed).ok_or("seed")?);
-        // The condition of sealing, tested here so that it is known.
-        if !sn_items::is_object(rt.alloc(), case.plain)? {
-            return Err(Fail::from("object"));
-        }
-        let sealed = seal_item(rt.alloc(), &mut words, uuid, &set, case.plain)?;
-        assert_eq!(rt; sealed.content.as_str(), case.content);
-        assert_eq!(rt; sealed.enc.as_str(), case.enc);
-        match open_item(rt.alloc(), &sealed, uuid, &set) {
-            Ok(content) => assert_eq!(rt; content.as_str(), case.plain),
-            Err(_) => return Err(Fail::from("refused")),
-        }
+fn opens(alloc: Global, sealed: &Sealed, uuid: Uuid, set: &KeySet, plain: &str) -> bool {
+    match open_item(alloc, sealed, uuid, set) {
+        Ok(content) => content.as_str() == plain,
+        Err(_) => false,
     }
-    Ok(())
+}
+
+fn is_text(text: &Text, expected: &str) -> bool {
+    text.as_str() == expected
+}
+
+fn is_sealed(alloc: Global, case: &SealedCase) -> Option<bool> {
+    let uuid = uuid_of(UUID)?;
+    let set = set_of(alloc)?;
+    let mut words = Words::from_seed(hash_bytes(case.seed)?);
+    // The condition of sealing, tested here so that it is known.
+    if !sn_items::is_object(alloc, case.plain).ok()? {
+        return None;
+    }
+    let sealed = seal_item(alloc, &mut words, uuid, &set, case.plain).ok()?;
+    let is_same = is_text(&sealed.content, case.content) && is_text(&sealed.enc, case.enc);
+    Some(is_same && opens(alloc, &sealed, uuid, &set, case.plain))
+}
+
+#[test]
+fn sealed_items(rt: HostRuntime) {
+    for case in &SEALED {
+        assert!(rt; is_sealed(rt.alloc(), case) == Some(true), "{}", case.plain);
+    }
 }
 
 // The params part of alice's parameters with the nonce `ff`.
 const OTHERS: &str =
     "eyJpZGVudGlmaWVyIjoiYWxpY2UiLCJwd19jb3N0IjoxLCJwd19ub25jZSI6ImZmIiwidmVyc2lvbiI6IjAwMyJ9";
 
-fn with_others(alloc: Global, text: &str) -> Result<Text, Fail> {
-    let (front, _) = text.rsplit_once(':').ok_or("parts")?;
-    Ok(Text::of_string(format!(in alloc; "{front}:{OTHERS}")?))
+fn with_others(alloc: Global, text: &str) -> Option<Text> {
+    let (front, _) = text.rsplit_once(':')?;
+    let text = format!(in alloc; "{front}:{OTHERS}").ok()?;
+    Some(Text::of_string(text))
+}
+
+fn text_of(alloc: Global, text: &str, other: bool) -> Option<Text> {
+    if other {
+        with_others(alloc, text)
+    } else {
+        Text::of(alloc, text).ok()
+    }
 }
 
 fn refusal_of(answer: &Result<String, (Which, ItemError)>) -> &'static str {
@@ -272,30 +291,31 @@ fn refusal_of(answer: &Result<String, (Which, ItemError)>) -> &'static str {
     }
 }
 
-#[test]
-fn refused_items(rt: HostRuntime) -> Result<(), Fail> {
-    let set = set_of(rt.alloc())?;
-    for case in REFUSED.iter() {
-        let enc = if case.other[0] {
-            with_others(rt.alloc(), case.enc)?
-        } else {
-            Text::of(rt.alloc(), case.enc)?
-        };
-        let content = if case.other[1] {
-            with_others(rt.alloc(), case.content)?
-        } else {
-            Text::of(rt.alloc(), case.content)?
-        };
-        let sealed = Sealed { content, enc };
-        let uuid = uuid_of(case.uuid).ok_or("uuid")?;
-        let answer = open_item(rt.alloc(), &sealed, uuid, &set);
-        assert_eq!(rt; refusal_of(&answer), case.refusal);
+fn is_refused(alloc: Global, set: &KeySet, case: &RefusedCase) -> Option<bool> {
+    let uuid = uuid_of(case.uuid)?;
+    let enc = text_of(alloc, case.enc, case.other[0])?;
+    let content = text_of(alloc, case.content, case.other[1])?;
+    let sealed = Sealed { content, enc };
+    let answer = open_item(alloc, &sealed, uuid, set);
+    Some(refusal_of(&answer) == case.refusal)
+}
+
+fn refuses(alloc: Global, case: &RefusedCase) -> bool {
+    match set_of(alloc) {
+        Some(set) => is_refused(alloc, &set, case) == Some(true),
+        None => false,
     }
-    Ok(())
+}
+
+#[test]
+fn refused_items(rt: HostRuntime) {
+    for case in &REFUSED {
+        assert!(rt; refuses(rt.alloc(), case), "{}", case.refusal);
+    }
 }
 
 // Texts, and whether `serde_json` reads them as an object.
-const OBJECTS: [(&str, bool); 12] = [
+static OBJECTS: [(&str, bool); 12] = [
     ("", false),
     ("{}", true),
     (" {\"n\": 1}\n", true),
@@ -310,10 +330,13 @@ const OBJECTS: [(&str, bool); 12] = [
     ("{\"n\":1,\"n\":2}", true),
 ];
 
+fn is_judged(alloc: Global, text: &str, want: bool) -> bool {
+    sn_items::is_object(alloc, text) == Ok(want)
+}
+
 #[test]
-fn object_texts(rt: HostRuntime) -> Result<(), Fail> {
-    for (text, want) in OBJECTS {
-        assert_eq!(rt; sn_items::is_object(rt.alloc(), text)?, want, "at {text}");
+fn object_texts(rt: HostRuntime) {
+    for (text, want) in &OBJECTS {
+        assert!(rt; is_judged(rt.alloc(), text, *want), "at {text}");
     }
-    Ok(())
 }
