@@ -1,5 +1,6 @@
 -- What legal moves carry, by the laws of the ideal state.
 use Rattle.std.proofs.Common.{◌≡◌, List, [], ◌∷◌, ◌++◌, sym, subst, append_assoc}
+use Rattle.sn_finished.specs.Laws.{FinishedCarries}
 use Rattle.sn_laws.specs.Kept.{EditsKept, IsKept}
 use Rattle.sn_laws.specs.Laws.{FollowsLast, Keeps, KeepsVersions, PrefixesLegal}
 use Rattle.sn_laws.specs.Lookups.{account_named}
@@ -17,6 +18,7 @@ pub record Laws : Type 0 where
   pub edits : EditsKept
   pub two : CarriesTwo
   pub hold : DevicesHold
+  pub finished : FinishedCarries
   pub once : PostedOnce
   pub identifiers : IdentifiersDiffer
   pub nonces : NoncesDiffer
@@ -39,6 +41,7 @@ carried_of_moves laws moves legal =
           (laws.edits before later device uuid kind base text (subst (λ (ms : List Move). Legal ms) parts legal));
       carry_two = laws.two moves legal;
       hold_two = λ name d named. laws.hold moves name d legal named;
+      finished = laws.finished moves legal;
       posted_once = λ before between later device uuid stamp next under under_next parts.
           laws.once before between device uuid stamp next under under_next
           (laws.prefixes ((before ++ Accept device uuid stamp under ∷ between) ++ Accept device uuid next under_next ∷ []) later

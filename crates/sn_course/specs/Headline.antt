@@ -7,6 +7,7 @@ use Rattle.sn_disk.specs.Shelf.{Slot}
 use Rattle.sn_disk.specs.declared.mem_shelf.MemShelf.{MemShelf}
 use Rattle.sn_disk.specs.declared.memory.MemDisk.{MemDisk}
 use Rattle.sn_events.specs.Slots.{slot_mark}
+use Rattle.sn_finished.specs.Finished.{CarriesLast, HasFinished}
 use Rattle.sn_items.specs.Draws.{drawn}
 use Rattle.sn_journal.specs.declared.owner.Owner.TheVariants.{Device as DeviceOwner, Server as ServerOwner}
 use Rattle.sn_keys.specs.Keys.{AreKeysOf, check_value}
@@ -130,6 +131,8 @@ pub record MovesCarry (moves : List Move) : Type 0 where
   -- at the end live last versions carry the last two sets of their accounts, and each device holds one or two sets of its own
   pub carry_two : Each CarriesLastTwo (end moves).accounts
   pub hold_two : (name : Bytes) (d : Device) → device_named (end moves) name ≡ Some d → HoldsSets (account_of (end moves) name) d
+  -- and where one of its devices has retired the set before the last one, they carry the last one
+  pub finished : Each (λ a. HasFinished moves a → CarriesLast a) (end moves).accounts
   -- nothing happens twice: what is sent becomes one version at most, an identifier is one account's, a nonce one set's of its account
   pub posted_once : (before between later : List Move) (device uuid : Bytes) (stamp next : ℕ) (under under_next : Option ℕ)
       → moves ≡ ((before ++ Accept device uuid stamp under ∷ between) ++ Accept device uuid next under_next ∷ []) ++ later

@@ -3,6 +3,7 @@
 
 ghost use Rattle.sn_course.specs.Laws.{CarriedOfMoves, GoesMore, MovesMore, OnlySetOfPassword, RecountsGo, RecountsGrow, RecountsMore, ReportingMore, SetsBegin, SetsStay};
 
+use sn_finished::finished_carries;
 use sn_laws::kept_laws::edits_kept;
 use sn_laws::laws::{follows_last, keeps_versions, prefixes_legal};
 use sn_laws::state_laws::{
@@ -52,6 +53,7 @@ pub fn carried_of_moves()
     edits_kept();
     carries_two();
     devices_hold();
+    finished_carries();
     posted_once();
     identifiers_differ();
     nonces_differ();

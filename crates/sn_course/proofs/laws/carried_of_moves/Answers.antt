@@ -9,6 +9,7 @@ returns c = carried_of_moves (record {
   edits = c.edits_kept.ensures;
   two = c.carries_two.ensures;
   hold = c.devices_hold.ensures;
+  finished = c.finished_carries.ensures;
   once = c.posted_once.ensures;
   identifiers = c.identifiers_differ.ensures;
   nonces = c.nonces_differ.ensures;
