@@ -1,6 +1,7 @@
 -- What a commit says is what is computed.
 use Rattle.std.proofs.Common.{◌≡◌, ◌⊎◌, ℕ, Bool, true, false, List, [], ◌∷◌, ◌++◌, length, Option, Some, None, refl, sym, ap, ◌∙◌, subst, inl, inr, ⊎_elim}
 use Rattle.std.proofs.lemmas.Bool.{cases_Bool}
+use Rattle.std.proofs.lemmas.List.{append-nil}
 use Rattle.std.specs.List.{AllZip, flat_map, list_any}
 use Rattle.std.specs.Option.{option_and_then, option_to_list}
 use Rattle.std.specs.Prelude.{◌&&◌, if◌then◌else◌, is_none}
@@ -10,15 +11,16 @@ use Rattle.sn_adopted.specs.Moves.{IsRetiring}
 use Rattle.sn_client.specs.Laws.{AreStanding, StayStanding}
 use Rattle.sn_client.specs.Sending.{PostsAll, PutsColumns}
 use Rattle.sn_client.specs.States.{AreSoundLocals, HasItem, HasLocal, IsInSlot, columns}
-use Rattle.sn_client.specs.Steps.{Applies, AppliesTo, Deletes, Edits, IsUnknown, Retires, adopts, applies, asks, begins, deletes, drafted, edits, forgets, posts, puts, renews, start}
+use Rattle.sn_client.specs.Steps.{AppliesTo, Deletes, Edits, IsUnknown, Retires, Step, adopts, applies, asks, begins, deletes, drafted, edits, forgets, posts, puts, renews, start}
 use Rattle.sn_client.specs.Taking.{told_by}
+use Rattle.sn_conflict.specs.Checks.{Passes}
 use Rattle.sn_laws.proofs.Facts.{one_there}
 use Rattle.sn_laws.specs.Lookups.{Bytes, account_named, device_named, held_by}
 use Rattle.sn_laws.specs.declared.ideal.Account.{Account}
 use Rattle.sn_laws.specs.declared.ideal.Content.TheVariants as content
 use Rattle.sn_laws.specs.declared.moves.Move.{Move}
 use Rattle.sn_laws.specs.declared.moves.Move.TheVariants.{Drop, Edit, Join, Post}
-use Rattle.sn_rows.specs.Table.{Removes, Rows, key_of}
+use Rattle.sn_rows.specs.Table.{Removes, Rows, key_of, rows_after, value_of}
 use Rattle.sn_rows.specs.declared.body.RowBody.{RowBody}
 use Rattle.sn_rows.specs.declared.body.RowBody.TheVariants as row
 use Rattle.sn_rows.specs.declared.change.Change.{Change}
@@ -39,12 +41,12 @@ use Rattle.sn_sync.specs.declared.request.Request.TheVariants as request
 use Rattle.sn_world.specs.Applying.{SaysAnswer, SaysApplied}
 use Rattle.sn_moves.specs.Commits.{change_moved, deletion_of, edit_of, item_moved, moves_of}
 use Rattle.sn_world.specs.Committing.{IsPostOf, SaysCommit, SaysDeletion, SaysEdit}
-use Rattle.sn_moves.specs.Drafts.{answered, item_at, item_left, item_move}
+use Rattle.sn_moves.specs.Drafts.{answered, copy_made, item_at, item_found, item_left, item_move}
 use Rattle.sn_laws.specs.Reached.{DeletionsStay}
 use Rattle.sn_world.specs.Happens.{commits}
 use Rattle.sn_world.specs.Laws.{SaysSome}
 use Rattle.sn_world.specs.Plain.{PlainRows}
-use Rattle.sn_moves.specs.Laws.{HoldsNoOlder, KeepsDeletions, SaysComputed, SaysOne}
+use Rattle.sn_moves.specs.Laws.{HoldsNoOlder, KeepsDeletions, SaysAnswered, SaysComputed, SaysOne, SaysPlainly}
 use Rattle.sn_moves.specs.Foreign.{foreign_in, foreign_of}
 use Rattle.sn_moves.specs.declared.done.Done.{Done}
 use Rattle.sn_moves.specs.declared.done.Done.TheVariants as done
@@ -135,25 +137,37 @@ posts_one rows name (n ∷ ns) (c ∷ cs) (m ∷ ms) (one, rest) ((l, has, is), 
     ∙ ap (λ (more : List Move). Post name one.local.uuid ∷ more) (posts_one rows name ns cs ms rest others)
     ∙ ap (λ (x : List Move). x ++ flat_map (change_moved rows name done.Posts) cs) (sym first)
 
+-- ---- the changes behind those of an answer's items
+
+-- a change of no item's row says nothing
+quiet : (name : Bytes) (foreign : List Bytes) (rows : Rows) (c : Change) (later : List Change) → item_found rows c ≡ None → item_left c ≡ None
+    → answered name foreign None rows (c ∷ later) ≡ answered name foreign None (rows_after rows (c ∷ [])) later
+quiet name foreign rows c later found left =
+    ap
+    (λ (was : Option LocalItem). option_to_list (item_move name foreign None was (item_left c))
+    ++ answered name foreign (copy_made was (item_left c)) (rows_after rows (c ∷ [])) later) found
+    ∙ ap (λ (now : Option LocalItem). answered name foreign (copy_made None now) (rows_after rows (c ∷ [])) later) left
+
+-- nor does that of the device's own row
+own_quiet : (name : Bytes) (foreign : List Bytes) (rows : Rows) (c : Change) (later : List Change) → key_of c ≡ key.Owner
+    → answered name foreign None rows (c ∷ later) ≡ answered name foreign None (rows_after rows (c ∷ [])) later
+own_quiet name foreign rows c later named =
+    quiet name foreign rows c later (ap (λ (k : Key). item_at k (rows k)) named) (ap (λ (k : Key). item_at k (value_of c)) named)
+
+-- nor the end of an older set
+older_quiet : (name : Bytes) (foreign : List Bytes) (rows told : Rows) (cursor : Option Bytes) (found : Option KeySet) (changes : List Change)
+    → Retires told cursor found changes → answered name foreign None rows changes ≡ []
+older_quiet name foreign rows told cursor None changes none = ap (answered name foreign None rows) none
+older_quiet name foreign rows told cursor (Some set) changes (inl (may, (change, gone, is))) =
+    ap (answered name foreign None rows) is
+    ∙ quiet name foreign rows change [] (ap (λ (k : Key). item_at k (rows k)) gone.key_is) (ap (λ (k : Key). item_at k (value_of change)) gone.key_is)
+older_quiet name foreign rows told cursor (Some set) changes (inr (stays, none)) = ap (answered name foreign None rows) none
+
 -- ---- an answer
 
-no_older : (rows : Rows) (identifier : Bytes) (found : Option KeySet) → HoldsNoOlder rows → IsInSlot rows identifier Older found → found ≡ None
-no_older rows identifier None none is = refl
-no_older rows identifier (Some set) none (keys, has, of) = absurd (cc)
-
-none_retires : (rows : Rows) (cursor : Option Bytes) (found : Option KeySet) (changes : List Change) → found ≡ None → Retires rows cursor found changes
-    → changes ≡ []
-none_retires rows cursor None changes none is = is
-none_retires rows cursor (Some set) changes none is = absurd (cc)
-
-none_retiring : (rows : Rows) (cursor : Option Bytes) (found : Option KeySet) (name : Bytes) (held : List ℕ) (moves : List Move) → found ≡ None
-    → IsRetiring rows cursor found name held moves → moves ≡ []
-none_retiring rows cursor None name held moves none is = is
-none_retiring rows cursor (Some set) name held moves none is = absurd (cc)
-
-module _ (one_stamp : HasOneStamp) (stays : StayStanding) (rows : Rows) (sound : AreSoundLocals rows) (stay : KeepsDeletions rows) (name : Bytes) (words left : ChaCha)
+module _ (one_stamp : HasOneStamp) (stays : StayStanding) (rows : Rows) (sound : AreSoundLocals rows) (stay : KeepsDeletions rows) (held : List ℕ) (name : Bytes)
     (sent : List Item) (conflicts : List Conflict) (cursor : Option Bytes) (retrieved saved : List Item) (token : Bytes) (changes : List Change)
-    (moves : List Move) (older : HoldsNoOlder rows) (held : List ℕ) (x : Applies rows words sent conflicts cursor retrieved saved token changes left)
+    (moves : List Move) (passes : Passes sent saved conflicts retrieved cursor)
     (says : SaysApplied rows held name conflicts cursor retrieved saved token changes moves) where
   abbrev foreign : List Bytes
   foreign = flat_map foreign_of conflicts
@@ -173,71 +187,103 @@ module _ (one_stamp : HasOneStamp) (stays : StayStanding) (rows : Rows) (sound :
   said : Said name foreign (start rows says.owner says.words) says.end says.first
   said =
       all_said one_stamp stays name foreign says.sets saved (told_by saved conflicts retrieved) (start rows says.owner says.words) says.end says.first
-      (told_checked sent saved conflicts retrieved cursor x.passes) (told_apart sent saved conflicts retrieved cursor x.passes) standing stay before says.told
+      (told_checked sent saved conflicts retrieved cursor passes) (told_apart sent saved conflicts retrieved cursor passes) standing stay before says.told
 
-  -- the device's own row says nothing
-  own : answered name foreign None says.end.rows (says.counted ∷ []) ≡ []
-  own =
-      ap (λ (found : Option LocalItem). option_to_list (item_move name foreign None found (item_left says.counted)) ++ [])
-      (ap (λ (k : Key). item_at k (says.end.rows k)) says.counted_is.puts_it.key_is)
+  -- behind the items' rows the device's own row is put, and an older set may end
+  behind : answered name foreign None says.end.rows (says.counted ∷ says.retired) ≡ []
+  behind =
+      own_quiet name foreign says.end.rows says.counted says.retired says.counted_is.puts_it.key_is
+      ∙ older_quiet name foreign (rows_after says.end.rows (says.counted ∷ [])) says.end.rows cursor says.sets.older says.retired says.retires
 
-  -- and no older set ends
-  none : says.sets.older ≡ None
-  none = no_older rows says.owner.identifier says.sets.older older says.holds.before
-
-  changes_so : changes ≡ says.end.changes ++ says.counted ∷ []
-  changes_so =
-      says.changes_are
-      ∙ ap (λ (c : List Change). says.end.changes ++ says.counted ∷ c) (none_retires says.end.rows cursor says.sets.older says.retired none says.retires)
-
-  moves_so : moves ≡ says.first ++ []
-  moves_so =
-      says.moves_are ∙ ap (λ (m : List Move). says.first ++ m) (none_retiring says.end.rows cursor says.sets.older name held says.later none says.retiring)
-
-  pub applied_one : moves ≡ answered name foreign None rows changes
+  pub applied_one : says.first ≡ answered name foreign None rows changes
   applied_one =
-      moves_so
-      ∙ ap (λ (m : List Move). says.first ++ m) (sym own)
-      ∙ sym (said.says (says.counted ∷ []))
-      ∙ ap (answered name foreign None rows) (ap (λ (c : List Change). c ++ says.counted ∷ []) (sym said.changes_are) ∙ sym changes_so)
+      sym (append-nil says.first)
+      ∙ ap (λ (m : List Move). says.first ++ m) (sym behind)
+      ∙ sym (said.says (says.counted ∷ says.retired))
+      ∙ ap (answered name foreign None rows) (ap (λ (c : List Change). c ++ says.counted ∷ says.retired) (sym said.changes_are) ∙ sym says.changes_are)
 
-answer_one : HasOneStamp → StayStanding → (rows : Rows) → AreSoundLocals rows → KeepsDeletions rows → HoldsNoOlder rows → (held : List ℕ) (name : Bytes)
-    (words left : ChaCha) (r : Request) (given : Answer) (changes : List Change) (moves : List Move) → AppliesTo rows words r given changes left
-    → SaysAnswer rows held name given changes moves
-    → moves ≡ moves_of rows name (done.Applies (foreign_in given)) changes
-answer_one one_stamp stays rows sound stay older held name words left (request.Sync token items limit sync_token cursor_token) (answer.Sync conflicts cursor retrieved saved next_token) changes moves step says =
-    applied_one one_stamp stays rows sound stay name words left items conflicts cursor retrieved saved next_token changes moves older held step says
-answer_one one_stamp stays rows sound stay older held name words left r (answer.Account other identifier uuid) changes moves step says = absurd says
-answer_one one_stamp stays rows sound stay older held name words left r (answer.Params params) changes moves step says = absurd says
-answer_one one_stamp stays rows sound stay older held name words left r (answer.Refused status tag more) changes moves step says = absurd says
-answer_one one_stamp stays rows sound stay older held name words left (request.Register params pw) given changes moves step says = absurd step
-answer_one one_stamp stays rows sound stay older held name words left (request.Params identifier) given changes moves step says = absurd step
-answer_one one_stamp stays rows sound stay older held name words left (request.SignIn identifier pw) given changes moves step says = absurd step
-answer_one one_stamp stays rows sound stay older held name words left (request.ChangePw token current pw cost nonce) given changes moves step says = absurd step
+-- it was the answer to a sync
+passed : (rows : Rows) (words left : ChaCha) (r : Request) (conflicts : List Conflict) (cursor : Option Bytes) (retrieved saved : List Item) (token : Bytes)
+    (changes : List Change) → AppliesTo rows words r (answer.Sync conflicts cursor retrieved saved token) changes left
+    → (sent : List Item) × Passes sent saved conflicts retrieved cursor
+passed rows words left (request.Sync token items limit sync_token cursor_token) conflicts cursor retrieved saved next_token changes step =
+    (items, step.passes)
+passed rows words left (request.Register params pw) conflicts cursor retrieved saved token changes step = absurd step
+passed rows words left (request.Params identifier) conflicts cursor retrieved saved token changes step = absurd step
+passed rows words left (request.SignIn identifier pw) conflicts cursor retrieved saved token changes step = absurd step
+passed rows words left (request.ChangePw current_token current pw cost nonce) conflicts cursor retrieved saved token changes step = absurd step
 
--- ---- each of them
+pub says_answered : HasOneStamp → StayStanding → SaysAnswered
+says_answered one_stamp stays rows words left r held name conflicts cursor retrieved saved token changes moves sound stay step says =
+    let its = passed rows words left r conflicts cursor retrieved saved token changes step in
+    applied_one one_stamp stays rows sound stay held name its.0 conflicts cursor retrieved saved token changes moves its.1 says
+
+-- ---- each of the others
 
 done_as : (rows : Rows) (name : Bytes) (changes : List Change) (moves : List Move) (did is : Done) → did ≡ is → moves ≡ moves_of rows name is changes
     → moves ≡ moves_of rows name did changes
 done_as rows name changes moves did is same said = said ∙ ap (λ (d : Done). moves_of rows name d changes) (sym same)
 
-pub says_one : HasOneStamp → StayStanding → SaysOne
-says_one one_stamp stays rows s name words left (begins set uuid token) changes moves did sound stay older (a, named, is) step (b, there, says) =
+pub says_plainly : SaysPlainly
+says_plainly rows s name words left (renews token) changes moves did sound plain is step says = done_as rows name changes moves did _ is says
+says_plainly rows s name words left (puts uuid kind text) changes moves did sound plain is step says = done_as rows name changes moves did _ is says
+says_plainly rows s name words left (edits uuid text) changes moves did sound plain is step says =
+    done_as rows name changes moves did _ is (edit_one rows sound words left name uuid text changes moves step says)
+says_plainly rows s name words left (deletes uuid) changes moves did sound plain is step says =
+    done_as rows name changes moves did _ is (deletion_one rows sound name uuid changes moves step.0 says)
+says_plainly rows s name words left (posts numbers) changes moves did sound plain is step says =
+    done_as rows name changes moves did _ is (posts_one rows name numbers changes moves step.0 says)
+says_plainly rows s name words left (begins set uuid token) changes moves did sound plain is step says = absurd plain
+says_plainly rows s name words left (applies r given) changes moves did sound plain is step says = absurd plain
+says_plainly rows s name words left (asks set) changes moves did sound plain is step says = absurd plain
+says_plainly rows s name words left (adopts set token) changes moves did sound plain is step says = absurd plain
+says_plainly rows s name words left forgets changes moves did sound plain is step says = absurd plain
+
+-- ---- where no older set is held
+
+no_older : (rows : Rows) (identifier : Bytes) (found : Option KeySet) → HoldsNoOlder rows → IsInSlot rows identifier Older found → found ≡ None
+no_older rows identifier None none is = refl
+no_older rows identifier (Some set) none (keys, has, of) = absurd (cc)
+
+none_retiring : (rows : Rows) (cursor : Option Bytes) (found : Option KeySet) (name : Bytes) (held : List ℕ) (moves : List Move) → found ≡ None
+    → IsRetiring rows cursor found name held moves → moves ≡ []
+none_retiring rows cursor None name held moves none is = is
+none_retiring rows cursor (Some set) name held moves none is = absurd (cc)
+
+-- an answer says no more than of its items
+answer_one : SaysAnswered → (rows : Rows) → AreSoundLocals rows → KeepsDeletions rows → HoldsNoOlder rows → (held : List ℕ) (name : Bytes)
+    (words left : ChaCha) (r : Request) (given : Answer) (changes : List Change) (moves : List Move) → Step rows words (applies r given) changes left
+    → SaysAnswer rows held name given changes moves → moves ≡ moves_of rows name (done.Applies (foreign_in given)) changes
+answer_one one rows sound stay older held name words left r (answer.Sync conflicts cursor retrieved saved token) changes moves step says =
+    let none : says.sets.older ≡ None = no_older rows says.owner.identifier says.sets.older older says.holds.before in
+    says.moves_are
+    ∙ ap (λ (m : List Move). says.first ++ m) (none_retiring says.end.rows cursor says.sets.older name held says.later none says.retiring)
+    ∙ append-nil says.first
+    ∙ one rows words left r held name conflicts cursor retrieved saved token changes moves sound stay step says
+answer_one one rows sound stay older held name words left r (answer.Account other identifier uuid) changes moves step says = absurd says
+answer_one one rows sound stay older held name words left r (answer.Params params) changes moves step says = absurd says
+answer_one one rows sound stay older held name words left r (answer.Refused status tag more) changes moves step says = absurd says
+
+pub says_one : SaysAnswered → SaysPlainly → SaysOne
+says_one answer plain rows s name words left (begins set uuid token) changes moves did sound stay older (a, named, is) step (b, there, says) =
     let same : b ≡ a = one_there b a (account_named s set.params.identifier) there named in
     done_as rows name changes moves did _ is (says ∙ ap (λ (x : Account). Join name set.params.identifier (length x.sets) ∷ []) same)
-says_one one_stamp stays rows s name words left (renews token) changes moves did sound stay older is step says = done_as rows name changes moves did _ is says
-says_one one_stamp stays rows s name words left (puts uuid kind text) changes moves did sound stay older is step says = done_as rows name changes moves did _ is says
-says_one one_stamp stays rows s name words left (edits uuid text) changes moves did sound stay older is step says =
-    done_as rows name changes moves did _ is (edit_one rows sound words left name uuid text changes moves step says)
-says_one one_stamp stays rows s name words left (deletes uuid) changes moves did sound stay older is step says =
-    done_as rows name changes moves did _ is (deletion_one rows sound name uuid changes moves step.0 says)
-says_one one_stamp stays rows s name words left (posts numbers) changes moves did sound stay older is step says =
-    done_as rows name changes moves did _ is (posts_one rows name numbers changes moves step.0 says)
-says_one one_stamp stays rows s name words left (applies r given) changes moves did sound stay older is step says =
-    done_as rows name changes moves did _ is (answer_one one_stamp stays rows sound stay older (held_by (device_named s name)) name words left r given changes moves step says)
-says_one one_stamp stays rows s name words left (asks set) changes moves did sound stay older is step says = absurd is
-says_one one_stamp stays rows s name words left (adopts set token) changes moves did sound stay older is step says = absurd is
-says_one one_stamp stays rows s name words left forgets changes moves did sound stay older is step says = absurd is
+says_one answer plain rows s name words left (renews token) changes moves did sound stay older is step says =
+    plain rows s name words left (renews token) changes moves did sound tt is step says
+says_one answer plain rows s name words left (puts uuid kind text) changes moves did sound stay older is step says =
+    plain rows s name words left (puts uuid kind text) changes moves did sound tt is step says
+says_one answer plain rows s name words left (edits uuid text) changes moves did sound stay older is step says =
+    plain rows s name words left (edits uuid text) changes moves did sound tt is step says
+says_one answer plain rows s name words left (deletes uuid) changes moves did sound stay older is step says =
+    plain rows s name words left (deletes uuid) changes moves did sound tt is step says
+says_one answer plain rows s name words left (posts numbers) changes moves did sound stay older is step says =
+    plain rows s name words left (posts numbers) changes moves did sound tt is step says
+says_one answer plain rows s name words left (applies r given) changes moves did sound stay older is step says =
+    done_as rows name changes moves did _ is
+    (answer_one answer rows sound stay older (held_by (device_named s name)) name words left r given changes moves step says)
+says_one answer plain rows s name words left (asks set) changes moves did sound stay older is step says = absurd is
+says_one answer plain rows s name words left (adopts set token) changes moves did sound stay older is step says = absurd is
+says_one answer plain rows s name words left forgets changes moves did sound stay older is step says = absurd is
 
 -- ---- in the world
 

@@ -1,5 +1,5 @@
 -- What a commit of a device says is what these functions compute.
-use Rattle.std.specs.Prelude.{◌≡◌, ℕ, List, length, Some, None}
+use Rattle.std.specs.Prelude.{◌≡◌, ℕ, List, length, Option, Some, None}
 use Rattle.rand_chacha.specs.ChaCha.{ChaCha}
 use Rattle.sn_client.specs.States.{AreSoundLocals, HasLocal}
 use Rattle.sn_client.specs.Steps.{Step, What, adopts, applies, asks, begins, deletes, edits, forgets, posts, puts, renews}
@@ -13,6 +13,11 @@ use Rattle.sn_rows.specs.declared.change.Change.{Change}
 use Rattle.sn_rows.specs.declared.device_rows.LocalItem.{LocalItem}
 use Rattle.sn_rows.specs.declared.key.Key.TheVariants as key
 use Rattle.sn_rows.specs.declared.key.Slot.TheVariants.{Older}
+use Rattle.sn_sync.specs.declared.answer.Answer.TheVariants as answer
+use Rattle.sn_sync.specs.declared.answer.Conflict.{Conflict}
+use Rattle.sn_sync.specs.declared.item.Item.{Item}
+use Rattle.sn_sync.specs.declared.request.Request.{Request}
+use Rattle.sn_world.specs.Applying.{SaysApplied}
 use Rattle.sn_world.specs.Committing.{Commits, MayCommit, SaysCommit}
 use Rattle.sn_world.specs.Plain.{HoldsPlain}
 use Rattle.sn_world.specs.World.{World}
@@ -51,6 +56,33 @@ HoldsNoOlder rows = rows (key.Set Older) ≡ None
 abbrev pub SaysOne : Type 0
 SaysOne = (rows : Rows) (s : Ideal) (name : Bytes) (words left : ChaCha) (what : What) (changes : List Change) (moves : List Move) (did : Done)
     → AreSoundLocals rows → KeepsDeletions rows → HoldsNoOlder rows → IsDone s what did → Step rows words what changes left → SaysCommit rows s name what changes moves
+    → moves ≡ moves_of rows name did changes
+
+-- of an answer that is applied the moves before the end of the older set are these, whatever sets the device holds
+abbrev pub SaysAnswered : Type 0
+SaysAnswered = (rows : Rows) (words left : ChaCha) (r : Request) (held : List ℕ) (name : Bytes) (conflicts : List Conflict) (cursor : Option Bytes)
+    (retrieved saved : List Item) (token : Bytes) (changes : List Change) (moves : List Move) → AreSoundLocals rows → KeepsDeletions rows
+    → Step rows words (applies r (answer.Sync conflicts cursor retrieved saved token)) changes left
+    → (says : SaysApplied rows held name conflicts cursor retrieved saved token changes moves)
+    → says.first ≡ moves_of rows name (done.Applies (foreign_in (answer.Sync conflicts cursor retrieved saved token))) changes
+
+-- a commit that neither begins nor applies an answer, and is none of a change of password
+abbrev pub IsPlainly : What → Type 0
+IsPlainly (begins set uuid token) = ⊥
+IsPlainly (renews token) = Unit {0}
+IsPlainly (puts uuid kind text) = Unit {0}
+IsPlainly (edits uuid text) = Unit {0}
+IsPlainly (deletes uuid) = Unit {0}
+IsPlainly (posts numbers) = Unit {0}
+IsPlainly (applies request given) = ⊥
+IsPlainly (asks set) = ⊥
+IsPlainly (adopts set token) = ⊥
+IsPlainly forgets = ⊥
+
+-- such a commit says one list of moves, and it is this one, whatever sets the device holds
+abbrev pub SaysPlainly : Type 0
+SaysPlainly = (rows : Rows) (s : Ideal) (name : Bytes) (words left : ChaCha) (what : What) (changes : List Change) (moves : List Move) (did : Done)
+    → AreSoundLocals rows → IsPlainly what → IsDone s what did → Step rows words what changes left → SaysCommit rows s name what changes moves
     → moves ≡ moves_of rows name did changes
 
 -- in the world, where the invariant holds and no password has been changed, a commit says what is computed

@@ -11,5 +11,5 @@ mod serving;
 pub use committing::moves_of;
 pub use done::Done;
 pub use foreign::foreign_in;
-pub use laws::{says_computed, says_one};
+pub use laws::{says_answered, says_computed, says_one, says_plainly};
 pub use serving::{accepts_in, moves_for, registers_in};

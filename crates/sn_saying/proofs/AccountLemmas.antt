@@ -2,9 +2,10 @@
 use Rattle.std.proofs.Common.{◌≡◌, ◌<◌, ◌≤◌, ◌+◌, ℕ, zero, suc, List, [], ◌∷◌, length, Option, Some, None, IfNone, refl, sym, ap, ◌∙◌, subst, add-one, arith}
 use Rattle.std.specs.Prelude.{IfSome, is_some}
 use Rattle.sn_laws.proofs.Facts.{one_there}
-use Rattle.sn_laws.specs.Lookups.{Bytes}
+use Rattle.sn_laws.specs.Lookups.{Bytes, account_named}
 use Rattle.sn_laws.specs.Reached.{NoncesApart}
 use Rattle.sn_laws.specs.declared.ideal.Account.{Account}
+use Rattle.sn_laws.specs.declared.ideal.Ideal.{Ideal}
 use Rattle.sn_row_map.specs.RowMaps.{row_in}
 use Rattle.sn_row_map.specs.declared.row_map.RowMap.{RowMap}
 use Rattle.sn_rows.specs.Table.{Rows}
@@ -15,13 +16,15 @@ use Rattle.sn_rows.specs.declared.server_rows.AccountRow.{AccountRow}
 use Rattle.sn_rows.specs.declared.server_rows.GenerationRow.{GenerationRow}
 use Rattle.sn_rows.specs.declared.value.Value.{Value}
 use Rattle.sn_rows.specs.declared.value.Value.TheVariants as value
-use Rattle.sn_shows.proofs.Facts.{one_number}
+use Rattle.sn_shows.proofs.Facts.{accounts_apart, one_number}
 use Rattle.sn_shows.specs.Devices.{IsSetRow, ShowsOlder}
-use Rattle.sn_shows.specs.Servers.{IsSet, ShowsAccounts, ShowsGeneration, ShowsIdentity, account_at}
+use Rattle.sn_shows.specs.Laws.{AreApart}
+use Rattle.sn_shows.specs.Servers.{IsSet, ShowsAccounts, ShowsGeneration, ShowsIdentity, ShowsServer, account_at}
 use Rattle.sn_shows.specs.Sets.{set_at}
 use Rattle.sn_string.specs.declared.params.KeySet.{KeySet}
-use Rattle.sn_world.proofs.Facts.{set_within, there_is}
-use Rattle.sn_saying.specs.Adopted.{HasNonce, IsAccount, IsAccountRow, nonce_in, older_of}
+use Rattle.sn_world.proofs.Facts.{apart_of, named_at, named_identifier, set_within, there_is}
+use Rattle.sn_world.specs.Holds.{Reached}
+use Rattle.sn_saying.specs.Adopted.{HasNoAccountOf, HasNonce, IsAccount, IsAccountRow, nonce_in, older_of}
 
 -- a row of the server that is that of an account of the identifier
 pub account_here : (server : RowMap) (identifier : Bytes) (at : Key) (v : Value) (found : ℕ × ℕ) → row_in server at ≡ Some v
@@ -63,6 +66,25 @@ account_shown server accounts identifier number generation shows is =
       named = sym its.identifier ∙ sym (ap (λ (r : AccountRow). r.identifier) same) ∙ is.identifier_is;
       size = sym is.generation_is ∙ ap (λ (r : AccountRow). r.generation) same ∙ its.generation;
     }
+
+-- the account that an identifier names is the server's
+pub lost_named : (server : Rows) (s : Ideal) (identifier : Bytes) (a : Account) → ShowsServer server s.accounts → account_named s identifier ≡ Some a
+    → HasNoAccountOf server identifier → ⊥
+lost_named server s identifier a shows named none =
+    let at = named_at s identifier a named in
+    let its : ShowsIdentity server at.0 a = (shows.all.each at.0 a at.1).identity in
+    none at.0 its.row its.stands (its.identifier ∙ named_identifier s identifier a named)
+
+-- and it is the one that has the identifier
+pub named_account : (s : Ideal) (identifier : Bytes) (a : Account) (number generation : ℕ) → Reached s → account_named s identifier ≡ Some a
+    → IsShownAccount s.accounts identifier number generation → (account_at number s.accounts ≡ Some a) × (generation ≡ length a.sets)
+named_account s identifier a number generation reached named shown =
+    let at = named_at s identifier a named in
+    let apart : AreApart s.accounts = apart_of accounts_apart s reached in
+    let same : number ≡ at.0 = apart number at.0 shown.account a shown.at at.1 (shown.named ∙ sym (named_identifier s identifier a named)) in
+    let here : account_at number s.accounts ≡ Some a = subst (λ (n : ℕ). account_at n s.accounts ≡ Some a) (sym same) at.1 in
+    let account_is : shown.account ≡ a = one_there shown.account a (account_at number s.accounts) shown.at here in
+    (here, shown.size ∙ ap (λ (b : Account). length b.sets) account_is)
 
 -- ---- the older set
 

@@ -1,8 +1,7 @@
 -- What is computed of an adoption is what it says.
 use Rattle.std.proofs.Common.{◌≡◌, ℕ, List, [], ◌∷◌, ◌++◌, length, Option, Some, None, refl, sym, ap, ◌∙◌, subst}
 use Rattle.sn_adopted.specs.Moves.{adopting, reposting}
-use Rattle.sn_laws.proofs.Facts.{one_there}
-use Rattle.sn_laws.specs.Lookups.{Bytes}
+use Rattle.sn_laws.specs.Lookups.{Bytes, account_named}
 use Rattle.sn_laws.specs.Reached.{NoncesApart}
 use Rattle.sn_laws.specs.declared.ideal.Account.{Account}
 use Rattle.sn_laws.specs.declared.ideal.Device.{Device}
@@ -11,15 +10,15 @@ use Rattle.sn_laws.specs.declared.moves.Move.{Move}
 use Rattle.sn_rows.specs.Table.{Rows}
 use Rattle.sn_rows.specs.declared.key.Key.TheVariants as key
 use Rattle.sn_rows.specs.declared.key.Slot.TheVariants.{Older}
-use Rattle.sn_shows.proofs.Facts.{accounts_apart, holder_of}
+use Rattle.sn_shows.proofs.Facts.{holder_of}
 use Rattle.sn_shows.specs.Devices.{ShowsDevice, ShowsHolder, ShowsOlder}
-use Rattle.sn_shows.specs.Laws.{AreApart, HasAccount}
-use Rattle.sn_shows.specs.Servers.{ShowsAccounts, ShowsIdentity, ShowsServer, account_at}
-use Rattle.sn_world.proofs.Facts.{apart_of, named_at, nonces_apart}
+use Rattle.sn_shows.specs.Laws.{HasAccount}
+use Rattle.sn_shows.specs.Servers.{ShowsAccounts, ShowsServer, account_at}
+use Rattle.sn_world.proofs.Facts.{named_identifier, nonces_apart}
 use Rattle.sn_world.specs.Holds.{Reached}
 use Rattle.sn_saying.specs.Adopted.{AreRepostedIn, HasNoAccountOf, IsAccount, IsAdoption, identifier_in, joining, older_of}
 use Rattle.sn_saying.specs.Retired.{IsOlderHeld}
-use Rattle.sn_saying.proofs.AccountLemmas.{IsShownAccount, account_shown}
+use Rattle.sn_saying.proofs.AccountLemmas.{IsShownAccount, account_shown, lost_named, named_account}
 
 joined : (name identifier : Bytes) (number : ℕ) (held : List ℕ) → joining name identifier (older_of held) number ≡ adopting name identifier number held
 joined name identifier number [] = refl
@@ -43,6 +42,12 @@ lost_owner rows s name d a device has none =
     let wrong : None ≡ Some h.owner.owner.identifier = sym none ∙ ap identifier_in h.owner.stands in
     cc
 
+-- the device's account is the one that its identifier names
+own_named : (s : Ideal) (name identifier : Bytes) (d : Device) (a : Account) → HasAccount s name d a → identifier ≡ a.identifier
+    → account_named s identifier ≡ Some a
+own_named s name identifier d a has own =
+    subst (λ (i : Bytes). account_named s i ≡ Some a) (sym (own ∙ named_identifier s d.account a has.account)) has.account
+
 pub no_owner : (server rows : Rows) (name : Bytes) (moves : List Move) → identifier_in (rows key.Owner) ≡ None → IsAdoption server rows name moves
 no_owner server rows name moves none s d a reached shows device has = absurd (lost_owner rows s name d a device has none)
 
@@ -51,26 +56,12 @@ pub lost_account : (server rows : Rows) (s : Ideal) (name identifier : Bytes) (d
     → ShowsDevice rows s name → HasAccount s name d a → identifier_in (rows key.Owner) ≡ Some identifier → HasNoAccountOf server identifier → ⊥
 lost_account server rows s name identifier d a shows device has is none =
     let h : ShowsHolder rows s name d a = holder_of rows s name d a device has in
-    let at = named_at s d.account a has.account in
-    let its : ShowsIdentity server at.0 a = (shows.all.each at.0 a at.1).identity in
-    none at.0 its.row its.stands (its.identifier ∙ sym (own_identifier rows s name identifier d a h is))
+    lost_named server s identifier a shows (own_named s name identifier d a has (own_identifier rows s name identifier d a h is)) none
 
 pub no_account : (server rows : Rows) (name identifier : Bytes) (moves : List Move) → identifier_in (rows key.Owner) ≡ Some identifier
     → HasNoAccountOf server identifier → IsAdoption server rows name moves
 no_account server rows name identifier moves is none s d a reached shows device has =
     absurd (lost_account server rows s name identifier d a shows device has is none)
-
--- the account that has the device's identifier is the device's
-own_account : (s : Ideal) (name identifier : Bytes) (d : Device) (a : Account) (number generation : ℕ) → Reached s → HasAccount s name d a
-    → identifier ≡ a.identifier → IsShownAccount s.accounts identifier number generation
-    → (account_at number s.accounts ≡ Some a) × (generation ≡ length a.sets)
-own_account s name identifier d a number generation reached has own shown =
-    let at = named_at s d.account a has.account in
-    let apart : AreApart s.accounts = apart_of accounts_apart s reached in
-    let same : number ≡ at.0 = apart number at.0 shown.account a shown.at at.1 (shown.named ∙ own) in
-    let here : account_at number s.accounts ≡ Some a = subst (λ (n : ℕ). account_at n s.accounts ≡ Some a) (sym same) at.1 in
-    let account_is : shown.account ≡ a = one_there shown.account a (account_at number s.accounts) shown.at here in
-    (here, shown.size ∙ ap (λ (b : Account). length b.sets) account_is)
 
 -- what is found of its older set is its number
 abbrev pub FindsOlder : Rows → Rows → ℕ → ℕ → Option ℕ → Type 0
@@ -83,7 +74,7 @@ older_so server rows identifier number generation older owner_is account older_i
     let h : ShowsHolder rows s name d a = holder_of rows s name d a device has in
     let own : identifier ≡ a.identifier = own_identifier rows s name identifier d a h owner_is in
     let shown : IsShownAccount s.accounts identifier number generation = account_shown server s.accounts identifier number generation shows.all account in
-    let its = own_account s name identifier d a number generation reached has own shown in
+    let its = named_account s identifier a number generation reached (own_named s name identifier d a has own) shown in
     older_is s.accounts a d.held shows.all its.0 its.1 (nonces_apart s reached number a its.0) h.older
 
 pub adopted_so : (server rows : Rows) (name identifier : Bytes) (number generation : ℕ) (older : Option ℕ) (uuids : List Bytes) (moves : List Move)
@@ -95,7 +86,7 @@ adopted_so server rows name identifier number generation older uuids moves owner
     let h : ShowsHolder rows s name d a = holder_of rows s name d a device has in
     let own : identifier ≡ a.identifier = own_identifier rows s name identifier d a h owner_is in
     let shown : IsShownAccount s.accounts identifier number generation = account_shown server s.accounts identifier number generation shows.all account in
-    let its = own_account s name identifier d a number generation reached has own shown in
+    let its = named_account s identifier a number generation reached (own_named s name identifier d a has own) shown in
     let older_same : older ≡ older_of d.held =
     older_so server rows identifier number generation older owner_is account older_is s name d a reached shows device has in
     let again : AreRepostedIn rows a uuids = reposts s.accounts a shows.all its.0 in

@@ -1,5 +1,8 @@
 pub mod AccountLemmas
 pub mod AdoptedLemmas
+pub mod JoinedLemmas
+pub mod LoneLemmas
+pub mod LoneWorld
 pub mod OneServed
 pub mod RepostLemmas
 pub mod RetireLemmas

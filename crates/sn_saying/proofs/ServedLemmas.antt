@@ -7,7 +7,15 @@ use Rattle.sn_laws.specs.declared.moves.Move.{Move}
 use Rattle.sn_rows.specs.Facts.{row_after-append}
 use Rattle.sn_rows.specs.Table.{Rows, rows_after}
 use Rattle.sn_rows.specs.declared.change.Change.{Change}
-use Rattle.sn_world.specs.Serving.{SaysChange, SaysChanges}
+use Rattle.sn_rows.specs.declared.change.Change.TheVariants.{Put}
+use Rattle.sn_rows.specs.declared.change.Row.{Row}
+use Rattle.sn_rows.specs.declared.key.Key.{Key}
+use Rattle.sn_rows.specs.declared.key.Key.TheVariants as key
+use Rattle.sn_rows.specs.declared.server_rows.ItemRow.{ItemRow}
+use Rattle.sn_rows.specs.declared.value.Value.{Value}
+use Rattle.sn_rows.specs.declared.value.Value.TheVariants as value
+use Rattle.sn_world.specs.Serving.{SaysChange, SaysChanges, SaysItem, SaysRow}
+use Rattle.sn_saying.specs.Lone.{LoneChange, LoneChanges, LoneRow}
 
 pub after_both : (rows : Rows) (first second : List Change) → rows_after rows (first ++ second) ≡ rows_after (rows_after rows first) second
 after_both rows first second = fun_ext (λ at. row_after-append (rows at) at first second)
@@ -39,14 +47,42 @@ one_more server device name (c ∷ cs) change ms ns (first, later, says, rest, i
   ap (λ (os : List Move). os ++ ns) is ∙ append_assoc first later ns,
 )
 
+-- of a change behind others it is as of them all
+pub lone_more : (server device : Rows) (changes : List Change) (change : Change) → LoneChanges server device changes
+    → LoneChange (rows_after server changes) device change → LoneChanges server device (changes ++ change ∷ [])
+lone_more server device [] change h k = (k, tt)
+lone_more server device (c ∷ cs) change h k = (h.0, lone_more (rows_after server (c ∷ [])) device cs change h.1 k)
+
+lone_both : (server device : Rows) (changes : List Change) (change : Change) → LoneChanges server device (changes ++ change ∷ [])
+    → LoneChanges server device changes × LoneChange (rows_after server changes) device change
+lone_both server device [] change h = (tt, h.0)
+lone_both server device (c ∷ cs) change h = let rest = lone_both (rows_after server (c ∷ [])) device cs change h.1 in ((h.0, rest.0), rest.1)
+
+-- where each item of an account with one set is what the device has sent, the moves so far are what the changes so far say
+abbrev pub SaysLone : Rows → Rows → Bytes → List Change → List Move → Type 0
+SaysLone server device name changes moves = LoneChanges server device changes → SaysChanges server device name changes moves
+
 pub says_more : (server now device : Rows) (name : Bytes) (changes : List Change) (i : ℕ) (change : Change) (ms ns next : List Move)
     → i < length changes → change ≡ get_or changes i change → now ≡ rows_after server (take i changes)
-    → SaysChanges server device name (take i changes) ms → SaysChange now device name change ns → next ≡ ms ++ ns
-    → SaysChanges server device name (take (i + 1) changes) next
+    → SaysLone server device name (take i changes) ms → (LoneChange now device change → SaysChange now device name change ns) → next ≡ ms ++ ns
+    → SaysLone server device name (take (i + 1) changes) next
 says_more server now device name changes i change ms ns next within change_is now_is so_far says next_is =
-    let Said : List Change → List Move → Type 0 = SaysChanges server device name in
-    let here : SaysChange (rows_after server (take i changes)) device name change ns = subst (λ (r : Rows). SaysChange r device name change ns) now_is says in
-    let all : Said (take i changes ++ change ∷ []) (ms ++ ns) = one_more server device name (take i changes) change ms ns so_far here in
-    let named : Said (take i changes ++ get_or changes i change ∷ []) (ms ++ ns) =
-    subst (λ (c : Change). Said (take i changes ++ c ∷ []) (ms ++ ns)) change_is all in
-    subst (Said (take (i + 1) changes)) (sym next_is) (subst (λ (cs : List Change). Said cs (ms ++ ns)) (sym (take_more changes i change within)) named)
+    let Said : List Change → Type 0 = λ cs. SaysLone server device name cs (ms ++ ns) in
+    let here : LoneChange (rows_after server (take i changes)) device change → SaysChange (rows_after server (take i changes)) device name change ns =
+    subst (λ (r : Rows). LoneChange r device change → SaysChange r device name change ns) now_is says in
+    let all : Said (take i changes ++ change ∷ []) = λ lone.
+    let both = lone_both server device (take i changes) change lone in
+    one_more server device name (take i changes) change ms ns (so_far both.0) (here both.1) in
+    let named : Said (take i changes ++ get_or changes i change ∷ []) = subst (λ (c : Change). Said (take i changes ++ c ∷ [])) change_is all in
+    subst (λ (os : List Move). SaysLone server device name (take (i + 1) changes) os) (sym next_is) (subst Said (sym (take_more changes i change within)) named)
+
+-- an item's row that is put says what is said of the item
+pub says_put : (server device : Rows) (name : Bytes) (change : Change) (row : Row) (uuid : Bytes) (item : ItemRow) (ms : List Move) → change ≡ Put row
+    → row.key ≡ key.Item uuid → row.value ≡ value.Item item
+    → (LoneRow server device (key.Item uuid) (value.Item item) → SaysItem server device name uuid item ms)
+    → LoneChange server device change → SaysChange server device name change ms
+says_put server device name change row uuid item ms change_is key_is value_is says =
+    let Said : Key → Value → Type 0 = λ k v. LoneRow server device k v → SaysRow server device name k v ms in
+    let named : Said row.key row.value =
+    subst (λ (k : Key). Said k row.value) (sym key_is) (subst (λ (v : Value). Said (key.Item uuid) v) (sym value_is) says) in
+    subst (λ (c : Change). LoneChange server device c → SaysChange server device name c ms) (sym change_is) named

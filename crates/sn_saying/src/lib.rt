@@ -3,6 +3,7 @@
 
 mod accounts;
 mod adopting;
+mod joining;
 mod laws;
 mod reposting;
 mod retiring;
@@ -10,6 +11,7 @@ mod sent;
 mod serving;
 
 pub use adopting::adopted;
+pub use joining::joined;
 pub use laws::said_once;
 pub use retiring::retired;
 pub use serving::served;

@@ -1,10 +1,14 @@
 //! The moves of a batch of the server.
 
-ghost use Rattle.std.specs.Prelude.{◌≡◌, ◌∷◌, ◌++◌, [], IfOk, OnOk};
+ghost use Rattle.std.specs.Prelude.{◌≡◌, ◌↔◌, ◌∷◌, ◌++◌, [], IfOk, IsTrue, OnOk};
 ghost use Rattle.std.specs.Option.{option_copied, option_to_list};
 ghost use Rattle.sn_row_map.specs.RowMaps.{row_in};
 ghost use Rattle.sn_rows.specs.Table.{rows_after};
-ghost use Rattle.sn_world.specs.Serving.{SaysChange, SaysChanges, SaysItem, SaysServed, change_of, changes_in, generation_of, number_of};
+ghost use Rattle.sn_rows.specs.declared.key.Key.TheVariants as key;
+ghost use Rattle.sn_rows.specs.declared.value.Value.TheVariants as value;
+ghost use Rattle.sn_world.specs.Serving.{IsSentRow, SaysChange, SaysChanges, SaysItem, change_of, changes_in, generation_of, number_of};
+ghost use Rattle.sn_saying.specs.Lone.{LoneChange, LoneChanges, LoneRow};
+ghost use Rattle.sn_saying.specs.Served.{IsServing};
 
 use crate::sent::is_sent;
 use sn_laws::Move;
@@ -17,8 +21,8 @@ use std::alloc::{AllocError, Global};
 use uuid::Uuid;
 
 /// The moves of a batch by which a server answers a request of the device of this name, which is applied to the server's
-/// rows: `begins` is the set that the request would begin, and `device` are the rows of the device as they are now. After
-/// an error some changes may be applied.
+/// rows: `begins` is the set that the request would begin, and `device` are the rows of the device as they are now, which
+/// are looked at for an item only where its account has more sets than one. After an error some changes may be applied.
 pub fn served(
     alloc: Global,
     server: &mut RowMap,
@@ -28,8 +32,7 @@ pub fn served(
     request: &Request,
     changes: &[Change],
 ) -> Result<Many<Move>, AllocError>
-    ensures moves { IfOk result (λ moves. SaysServed (row_in server.old) (row_in device.now)
-        (record { device = name.now; request = request.now; begins = option_copied begins.entry }) changes.now moves) }
+    ensures moves { IfOk result (IsServing (row_in server.old) (row_in device.now) name.now (option_copied begins.entry) request.now changes.now) }
     ensures rows { OnOk result (row_in server.new ≡ rows_after (row_in server.old) changes.now) }
 {
     match request {
@@ -115,7 +118,8 @@ fn items_served(
     name: &Text,
     changes: &[Change],
 ) -> Result<Many<Move>, AllocError>
-    ensures moves { IfOk result (SaysChanges (row_in server.old) (row_in device.now) name.now changes.now) }
+    ensures moves { IfOk result (λ moves. LoneChanges (row_in server.old) (row_in device.now) changes.now
+        → SaysChanges (row_in server.old) (row_in device.now) name.now changes.now moves) }
     ensures rows { OnOk result (row_in server.new ≡ rows_after (row_in server.old) changes.now) }
 {
     let mut moves = Many::new(alloc);
@@ -135,7 +139,8 @@ fn change_said(
     name: &Text,
     change: &Change,
 ) -> Result<Option<Move>, AllocError>
-    ensures { IfOk result (λ said. SaysChange (row_in server.now) (row_in device.now) name.now change.now (option_to_list said)) }
+    ensures { IfOk result (λ said. LoneChange (row_in server.now) (row_in device.now) change.now
+        → SaysChange (row_in server.now) (row_in device.now) name.now change.now (option_to_list said)) }
 {
     let Change::Put(row) = change else {
         return Ok(None);
@@ -149,7 +154,7 @@ fn change_said(
     }
 }
 
-// An item that the device has sent is accepted, and any other is sealed again, both under the last set of the account.
+// An item is accepted, or sealed again, both under the last set of the account.
 fn item_said(
     alloc: Global,
     server: &RowMap,
@@ -158,11 +163,12 @@ fn item_said(
     uuid: Uuid,
     item: &ItemRow,
 ) -> Result<Move, AllocError>
-    ensures { IfOk result (λ said. SaysItem (row_in server.now) (row_in device.now) name.now uuid item.now (said ∷ [])) }
+    ensures { IfOk result (λ said. LoneRow (row_in server.now) (row_in device.now) (key.Item uuid) (value.Item item.now)
+        → SaysItem (row_in server.now) (row_in device.now) name.now uuid item.now (said ∷ [])) }
 {
     let generation = generation_of(server.get(&Key::Account(item.account())));
     let stamp = item.updated();
-    if is_sent(device, server.get(&Key::Item(uuid)), uuid, item) {
+    if is_accepted(server, device, generation, uuid, item) {
         return Ok(Move::Accept {
             device: name.twin(alloc)?,
             uuid,
@@ -175,6 +181,21 @@ fn item_said(
         stamp,
         under: generation,
     })
+}
+
+// Whether an item of an account of this generation is one that the device has sent. Where the account has one set there is
+// none to seal again, so each item is.
+fn is_accepted(
+    server: &RowMap,
+    device: &RowMap,
+    generation: u64,
+    uuid: Uuid,
+    item: &ItemRow,
+) -> bool
+    ensures { (generation ≡ 1 → IsSentRow (row_in server.now (key.Item uuid)) (row_in device.now) uuid item.now)
+        → (IsTrue result ↔ IsSentRow (row_in server.now (key.Item uuid)) (row_in device.now) uuid item.now) }
+{
+    generation == 1 || is_sent(device, server.get(&Key::Item(uuid)), uuid, item)
 }
 
 // The number of an account's last set, by its row.

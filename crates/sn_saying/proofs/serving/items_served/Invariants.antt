@@ -1,12 +1,12 @@
--- What the changes so far say, and the rows behind them.
+-- The rows behind the changes so far, and what these say where each item of an account with one set is what the device has sent.
 use Rattle.std.proofs.Common.{◌≡◌, take}
 use Rattle.sn_row_map.specs.RowMaps.{row_in}
 use Rattle.sn_rows.specs.Table.{rows_after}
-use Rattle.sn_world.specs.Serving.{SaysChanges}
+use Rattle.sn_saying.proofs.ServedLemmas.{SaysLone}
 use Rattle.sn_saying.proofs.serving.items_served.Given as goal
 
 abbrev pub invariant-changes : goal.invariant-changes
 invariant-changes l = record {
   rows : row_in l.server ≡ rows_after (row_in l.fn.server) (take l.change-index l.changes);
-  said : SaysChanges (row_in l.fn.server) (row_in l.device) l.name (take l.change-index l.changes) l.moves;
+  said : SaysLone (row_in l.fn.server) (row_in l.device) l.name (take l.change-index l.changes) l.moves;
 }
