@@ -1,4 +1,4 @@
 pub mod Calling
 pub mod Laws
-pub mod Telling
+pub mod Turns
 pub mod Walking

@@ -1,70 +1,49 @@
 -- The moves of a call by its batches and its exchanges alone, as they follow one another.
-use Rattle.std.specs.Prelude.{◌≡◌, List, [], ◌∷◌, ◌++◌, Bool, true, false, Option, Some, None, is_some, if◌then◌else◌, take, drop}
-use Rattle.std.specs.List.{list_any}
-use Rattle.sn_client.specs.Asking.{IsReply, said}
+use Rattle.std.specs.Prelude.{◌≡◌, List, [], ◌∷◌, ◌++◌, Bool, true, false, Option, Some, None, if◌then◌else◌}
+use Rattle.sn_client.specs.Asking.{IsReply, IsRequestBytes, said}
 use Rattle.sn_laws.specs.Lookups.{Bytes}
 use Rattle.sn_laws.specs.declared.moves.Move.{Move}
+use Rattle.sn_link.specs.Laws.{IsReadable}
 use Rattle.sn_moves.specs.Commits.{moves_of}
 use Rattle.sn_moves.specs.Drafts.{item_left}
 use Rattle.sn_moves.specs.Foreign.{foreign_in}
 use Rattle.sn_moves.specs.declared.done.Done.{Done}
 use Rattle.sn_moves.specs.declared.done.Done.TheVariants as done
+use Rattle.sn_order.specs.Kinds.{kind_of}
+use Rattle.sn_order.specs.Order.{asks_sync, comes_first}
+use Rattle.sn_order.specs.declared.kind.Kind.{Kind}
+use Rattle.sn_order.specs.declared.kind.Kind.TheVariants as kind
 use Rattle.sn_recorder.specs.declared.exchanged.Exchanged.{Exchanged}
-use Rattle.sn_rows.specs.Table.{Rows, key_of, rows_after}
+use Rattle.sn_rows.specs.Table.{Rows, rows_after}
 use Rattle.sn_rows.specs.declared.change.Change.{Change}
 use Rattle.sn_rows.specs.declared.device_rows.LocalItem.{LocalItem}
-use Rattle.sn_rows.specs.declared.key.Key.{Key}
 use Rattle.sn_rows.specs.declared.key.Key.TheVariants as key
-use Rattle.sn_rows.specs.declared.key.Slot.TheVariants.{Asked as AskedSlot}
 use Rattle.sn_rows.specs.declared.value.Value.{Value}
+use Rattle.sn_saying.specs.Adopted.{IsAdoption}
+use Rattle.sn_saying.specs.Joined.{IsJoining}
+use Rattle.sn_saying.specs.Retired.{IsRetirement}
+use Rattle.sn_saying.specs.Served.{IsServing}
+use Rattle.sn_string.specs.declared.params.KeySet.{KeySet}
 use Rattle.sn_sync.specs.declared.answer.Answer.{Answer}
+use Rattle.sn_sync.specs.declared.request.Request.{Request}
+use Rattle.sn_sync.specs.declared.request.Request.TheVariants as request
 use Rattle.sn_sync.specs.declared.request.Route.TheVariants as route
-use Rattle.sn_world.specs.Plain.{accepts_in}
-use Rattle.sn_world.specs.Serving.{registers_in}
-use Rattle.sn_telling.specs.Telling.{only_set}
-use Rattle.sn_telling.specs.declared.calling.Asked.{Asked}
-use Rattle.sn_telling.specs.declared.calling.Asked.TheVariants as asked
+use Rattle.sn_world.specs.Calls.{IsAskedFor}
 use Rattle.sn_telling.specs.declared.calling.Calling.{Calling}
 use Rattle.sn_telling.specs.declared.calling.Calling.TheVariants as calling
+use Rattle.sn_telling.specs.declared.doing.Doing.{Doing}
+use Rattle.sn_telling.specs.declared.doing.Doing.TheVariants as doing
 
 -- the rows behind several batches
 abbrev pub rows_behind_all : Rows → List (List Change) → Rows
 rows_behind_all rows [] = rows
 rows_behind_all rows (batch ∷ batches) = rows_behind_all (rows_after rows batch) batches
 
--- ---- batches of the server
+-- ---- what a device did in a commit
 
--- of one, by what was asked
-abbrev pub batch_moves : Rows → Bytes → Asked → List Change → List Move
-batch_moves server name (asked.Register identifier set) changes = registers_in identifier set changes
-batch_moves server name asked.Sync changes = accepts_in server name changes
-batch_moves server name asked.Other changes = []
-
--- of all that one exchange made
-abbrev pub gained_moves : Rows → Bytes → Asked → List (List Change) → List Move
-gained_moves server name what [] = []
-gained_moves server name what (batch ∷ batches) = batch_moves server name what batch ++ gained_moves (rows_after server batch) name what batches
-
--- of exchanges one after another
-abbrev pub exchanged_moves : Rows → Bytes → Asked → List Exchanged → List Move
-exchanged_moves server name what [] = []
-exchanged_moves server name what (e ∷ exchanged) =
-    gained_moves server name what e.batches ++ exchanged_moves (rows_behind_all server e.batches) name what exchanged
-
-abbrev pub rows_exchanged : Rows → List Exchanged → Rows
-rows_exchanged server [] = server
-rows_exchanged server (e ∷ exchanged) = rows_exchanged (rows_behind_all server e.batches) exchanged
-
--- ---- batches of a device, in a call that is no sync
-
--- what such a call asks for
-abbrev pub asked_by : Calling → Asked
-asked_by (calling.Register identifier set) = asked.Register identifier set
-asked_by (calling.SignIn identifier) = asked.Other
-asked_by (calling.Put kind text) = asked.Other
-asked_by (calling.Edit text) = asked.Other
-asked_by calling.Delete = asked.Other
-asked_by calling.Sync = asked.Other
+-- these are the uuids that another account has, by the bytes of an answer to a sync
+abbrev pub HasForeign : Option Bytes → List Bytes → Type 0
+HasForeign answer foreign = (given : Answer) → IsReply route.Sync answer (said given) → foreign ≡ foreign_in given
 
 -- the item that the first change leaves
 abbrev pub first_item : List Change → Option LocalItem
@@ -76,107 +55,111 @@ abbrev pub put_done : Bytes → Bytes → Option LocalItem → Done
 put_done kind text None = done.Renews
 put_done kind text (Some local) = done.Puts local.uuid kind text
 
--- a device that has an account takes another session token, and one without it begins
-abbrev pub signed_done : Bytes → Option Value → Done
-signed_done identifier None = done.Begins identifier only_set
-signed_done identifier (Some owner) = done.Renews
+-- at a sign-in a device without an account begins, and one that has it adopts a set, or takes another session token
+abbrev pub joined_or_renewed : Kind → Doing
+joined_or_renewed kind.Joins = doing.Adopts
+joined_or_renewed kind.Asks = doing.Other done.Renews
+joined_or_renewed kind.Forgets = doing.Other done.Renews
+joined_or_renewed kind.Counts = doing.Other done.Renews
+joined_or_renewed kind.Drafts = doing.Other done.Renews
 
--- what such a call does in its commit
-abbrev pub done_by : Rows → Calling → List Change → Done
-done_by rows (calling.Register identifier set) changes = done.Begins identifier only_set
-done_by rows (calling.SignIn identifier) changes = signed_done identifier (rows key.Owner)
-done_by rows (calling.Put kind text) changes = put_done kind text (first_item changes)
-done_by rows (calling.Edit text) changes = done.Edits text
-done_by rows calling.Delete changes = done.Deletes
-done_by rows calling.Sync changes = done.Renews
+abbrev pub signed_in : Bytes → Kind → Option Value → Doing
+signed_in identifier what None = doing.Begins identifier
+signed_in identifier what (Some owner) = joined_or_renewed what
 
-abbrev pub committed_moves : Rows → Bytes → Calling → List (List Change) → List Move
-committed_moves rows name what [] = []
-committed_moves rows name what (batch ∷ batches) =
-    moves_of rows name (done_by rows what batch) batch ++ committed_moves (rows_after rows batch) name what batches
+-- in a sync or a change of password: a set is adopted, an answer is applied, drafts are posted, and nothing else says a move
+abbrev pub IsSynced : Kind → Option Bytes → Doing → Type 0
+IsSynced kind.Joins answer did = did ≡ doing.Adopts
+IsSynced kind.Counts answer did = (foreign : List Bytes) × HasForeign answer foreign × (did ≡ doing.Applies foreign)
+IsSynced kind.Drafts answer did = did ≡ doing.Other done.Posts
+IsSynced kind.Asks answer did = did ≡ doing.Other done.Renews
+IsSynced kind.Forgets answer did = did ≡ doing.Other done.Renews
 
--- ---- batches of a device, in a sync
+-- by the call, the last answer before the commit, the device's rows and the changes
+abbrev pub IsDoing : Calling → Option Bytes → Rows → List Change → Doing → Type 0
+IsDoing (calling.Register identifier set) answer rows changes did = did ≡ doing.Begins identifier
+IsDoing (calling.SignIn identifier) answer rows changes did = did ≡ signed_in identifier (kind_of changes) (rows key.Owner)
+IsDoing (calling.Put kind text) answer rows changes did = did ≡ doing.Other (put_done kind text (first_item changes))
+IsDoing (calling.Edit text) answer rows changes did = did ≡ doing.Other (done.Edits text)
+IsDoing calling.Delete answer rows changes did = did ≡ doing.Other done.Deletes
+IsDoing calling.Sync answer rows changes did = IsSynced (kind_of changes) answer did
+IsDoing calling.Passwd answer rows changes did = IsSynced (kind_of changes) answer did
 
-abbrev pub is_owner : Key → Bool
-is_owner key.Owner = true
-is_owner key.Store = false
-is_owner (key.Account number) = false
-is_owner (key.Generation number generation) = false
-is_owner (key.Item uuid) = false
-is_owner (key.Set slot) = false
-is_owner (key.Local number) = false
+-- ---- the moves of a commit
 
--- a change is of the device's own row: so it is in an answer that was applied, and not in drafts that are posted
-abbrev pub changes_owner : List Change → Bool
-changes_owner changes = list_any (λ change. is_owner (key_of change)) changes
+-- over the rows of both ends before it
+abbrev pub SaysDoing : Rows → Rows → Bytes → Doing → List Change → List Move → Type 0
+SaysDoing server rows name (doing.Begins identifier) changes moves = IsJoining server name identifier moves
+SaysDoing server rows name doing.Adopts changes moves = IsAdoption server rows name moves
+SaysDoing server rows name (doing.Applies foreign) changes moves =
+    (later : List Move) × IsRetirement server rows name changes later × (moves ≡ moves_of rows name (done.Applies foreign) changes ++ later)
+SaysDoing server rows name (doing.Other did) changes moves = moves ≡ moves_of rows name did changes
 
--- drafts are posted in the next batch, unless that is of an answer
-abbrev pub posted_moves : Rows → Bytes → List (List Change) → List Move
-posted_moves rows name [] = []
-posted_moves rows name (batch ∷ batches) = if changes_owner batch then [] else moves_of rows name done.Posts batch
+abbrev pub SaysBatch : Calling → Rows → Rows → Bytes → Option Bytes → List Change → List Move → Type 0
+SaysBatch call server rows name answer changes moves = (did : Doing) × IsDoing call answer rows changes did × SaysDoing server rows name did changes moves
 
-abbrev pub rows_posted : Rows → List (List Change) → Rows
-rows_posted rows [] = rows
-rows_posted rows (batch ∷ batches) = if changes_owner batch then rows else rows_after rows batch
+-- of several, between which the server does nothing
+abbrev pub SaysBatches : Calling → Rows → Rows → Bytes → Option Bytes → List (List Change) → List Move → Type 0
+SaysBatches call server rows name answer [] moves = moves ≡ []
+SaysBatches call server rows name answer (batch ∷ batches) moves =
+    (first : List Move) × (later : List Move) × SaysBatch call server rows name answer batch first
+    × SaysBatches call server (rows_after rows batch) name answer batches later × (moves ≡ first ++ later)
 
-abbrev pub left_posted : List (List Change) → List (List Change)
-left_posted [] = []
-left_posted (batch ∷ batches) = if changes_owner batch then batch ∷ batches else batches
+-- ---- an exchange
 
--- these are the uuids that another account has, by the bytes of an answer to a sync
-abbrev pub HasForeign : Option Bytes → List Bytes → Type 0
-HasForeign answer foreign = (given : Answer) → IsReply route.Sync answer (said given) → foreign ≡ foreign_in given
+-- the request, by its bytes; one that a server doesn't read may be none
+abbrev pub IsReadAs : Bytes → Option Request → Type 0
+IsReadAs bytes found = (host : Bytes) (r : Request) → IsRequestBytes host r bytes → IsReadable host r → found ≡ Some r
 
--- the answer is applied in the next batch, if that is of one
-abbrev pub SaysHeard : Bool → Rows → Bytes → Option Bytes → List Change → List Move → Type 0
-SaysHeard true rows name answer batch moves = (foreign : List Bytes) × HasForeign answer foreign × (moves ≡ moves_of rows name (done.Applies foreign) batch)
-SaysHeard false rows name answer batch moves = moves ≡ []
+-- the set that a registration gives
+abbrev pub set_given : Calling → Option KeySet
+set_given (calling.Register identifier set) = set
+set_given (calling.SignIn identifier) = None
+set_given (calling.Put kind text) = None
+set_given (calling.Edit text) = None
+set_given calling.Delete = None
+set_given calling.Sync = None
+set_given calling.Passwd = None
 
-abbrev pub SaysNext : Rows → Bytes → Option Bytes → List (List Change) → List Move → Type 0
-SaysNext rows name answer [] moves = moves ≡ []
-SaysNext rows name answer (batch ∷ batches) moves = SaysHeard (changes_owner batch) rows name answer batch moves
+-- what it would begin, by the device's rows: a registration the set of its call, a change of password the set that is asked for, and any other request none
+abbrev pub IsBegunIn : Calling → Rows → Option Request → Option KeySet → Type 0
+IsBegunIn call rows None begins = begins ≡ None
+IsBegunIn call rows (Some (request.Register params pw)) begins = begins ≡ set_given call
+IsBegunIn call rows (Some (request.ChangePw token current pw cost nonce)) begins = (set : KeySet) → IsAskedFor rows set → begins ≡ Some set
+IsBegunIn call rows (Some (request.Params identifier)) begins = begins ≡ None
+IsBegunIn call rows (Some (request.SignIn identifier pw)) begins = begins ≡ None
+IsBegunIn call rows (Some (request.Sync token items limit sync_token cursor_token)) begins = begins ≡ None
 
-abbrev pub rows_heard : Rows → List (List Change) → Rows
-rows_heard rows [] = rows
-rows_heard rows (batch ∷ batches) = if changes_owner batch then rows_after rows batch else rows
+-- the server answered the request of the device of this name, and its store gained these batches
+abbrev pub SaysGained : Rows → Rows → Bytes → Option KeySet → Option Request → List (List Change) → List Move → Type 0
+SaysGained server rows name begins None batches moves = moves ≡ []
+SaysGained server rows name begins (Some r) [] moves = moves ≡ []
+SaysGained server rows name begins (Some r) (batch ∷ batches) moves =
+    (first : List Move) × (later : List Move) × IsServing server rows name begins r batch first
+    × SaysGained (rows_after server batch) rows name begins (Some r) batches later × (moves ≡ first ++ later)
 
-abbrev pub left_heard : List (List Change) → List (List Change)
-left_heard [] = []
-left_heard (batch ∷ batches) = if changes_owner batch then batches else batch ∷ batches
+-- ---- a whole call
 
--- the moves of a sync's exchanges from here on, and the rows of the server and the device behind them: at each, the drafts that are posted, what the
--- server did, and the answer that is applied
-abbrev pub SaysSynced : Rows → Rows → Bytes → List (List Change) → List Exchanged → List Move → Rows → Rows → Type 0
-SaysSynced server rows name batches [] moves server_end rows_end =
-    (moves ≡ posted_moves rows name batches) × (server_end ≡ server) × (rows_end ≡ rows_posted rows batches)
-SaysSynced server rows name batches (e ∷ exchanged) moves server_end rows_end =
-    (applied : List Move) × (later : List Move) × SaysNext (rows_posted rows batches) name e.answer (left_posted batches) applied
-    × SaysSynced (rows_behind_all server e.batches) (rows_heard (rows_posted rows batches) (left_posted batches)) name (left_heard (left_posted batches))
-    exchanged later server_end rows_end
-    × (moves ≡ posted_moves rows name batches ++ (gained_moves server name asked.Sync e.batches ++ (applied ++ later)))
+-- the batches of the device that come before its next request, behind a sync or not, and those that come after it
+abbrev pub front : Bool → Bool → List (List Change) → List (List Change)
+front heard syncs [] = []
+front heard syncs (batch ∷ batches) = if comes_first heard (kind_of batch) syncs then batch ∷ front false syncs batches else []
 
--- ---- a sync of a device that asks for a set
+abbrev pub rest : Bool → Bool → List (List Change) → List (List Change)
+rest heard syncs [] = []
+rest heard syncs (batch ∷ batches) = if comes_first heard (kind_of batch) syncs then rest false syncs batches else batch ∷ batches
 
-abbrev pub asks_set : Rows → Bool
-asks_set rows = is_some (rows (key.Set AskedSlot))
-
--- the next batch is of the device's own row: so it is where the set is adopted, and not where it is dropped
-abbrev pub owner_first : List (List Change) → Bool
-owner_first [] = false
-owner_first (batch ∷ batches) = changes_owner batch
-
--- a set that is asked for is adopted behind two exchanges, before the first sync, or there is no sync; so far nothing is said
-abbrev pub SaysResolved : Bool → Rows → Rows → Bytes → List (List Change) → List Exchanged → List Move → Rows → Rows → Type 0
-SaysResolved false server rows name batches exchanged moves server_end rows_end =
-    (moves ≡ exchanged_moves server name asked.Other exchanged ++ committed_moves rows name calling.Sync batches)
-    × (server_end ≡ rows_exchanged server exchanged) × (rows_end ≡ rows_behind_all rows batches)
-SaysResolved true server rows name batches exchanged moves server_end rows_end =
-    (later : List Move) × SaysSynced (rows_exchanged server (take 2 exchanged)) (rows_behind_all rows (take 1 batches)) name (drop 1 batches) (drop 2 exchanged)
-    later server_end rows_end
-    × (moves ≡ (exchanged_moves server name asked.Other (take 2 exchanged) ++ committed_moves rows name calling.Sync (take 1 batches)) ++ later)
-
--- a whole sync
-abbrev pub SaysSync : Bool → Rows → Rows → Bytes → List (List Change) → List Exchanged → List Move → Rows → Rows → Type 0
-SaysSync false server rows name batches exchanged moves server_end rows_end = SaysSynced server rows name batches exchanged moves server_end rows_end
-SaysSync true server rows name batches exchanged moves server_end rows_end =
-    SaysResolved (owner_first batches) server rows name batches exchanged moves server_end rows_end
+-- its moves, what each of its requests would begin, and the rows of both ends behind it; behind a sync or not, with this last answer
+abbrev pub SaysWalk : Calling → Bytes → Rows → Rows → Bool → Option Bytes → List (List Change) → List Exchanged → List Move → List (Option KeySet) → Rows → Rows
+    → Type 0
+SaysWalk call name server rows heard answer batches [] moves begun server_end rows_end =
+    SaysBatches call server rows name answer batches moves × (begun ≡ []) × (server_end ≡ server) × (rows_end ≡ rows_behind_all rows batches)
+SaysWalk call name server rows heard answer batches (e ∷ exchanged) moves begun server_end rows_end =
+    (found : Option Request) × (first : List Move) × (served : List Move) × (later : List Move) × (begins : Option KeySet) × (others : List (Option KeySet))
+    × IsReadAs e.request found
+    × SaysBatches call server rows name answer (front heard (asks_sync found) batches) first
+    × IsBegunIn call (rows_behind_all rows (front heard (asks_sync found) batches)) found begins
+    × SaysGained server (rows_behind_all rows (front heard (asks_sync found) batches)) name begins found e.batches served
+    × SaysWalk call name (rows_behind_all server e.batches) (rows_behind_all rows (front heard (asks_sync found) batches)) (asks_sync found) e.answer
+    (rest heard (asks_sync found) batches) exchanged later others server_end rows_end
+    × (begun ≡ begins ∷ others) × (moves ≡ first ++ (served ++ later))

@@ -1,37 +1,30 @@
 //! What a line of the world says, by the definitions alone. The functions call laws of the crates below and do nothing else; their
 //! contracts are laws.
 
-ghost use Rattle.sn_telling.specs.Laws.{AgainsTell, CallsTell, TracesTell};
+ghost use Rattle.sn_telling.specs.Laws.{AgainsTell, CallsTell};
 
 use sn_laws::state_laws::deletions_stay;
-use sn_moves::says_one;
-use sn_world::{keeps_plain, plain_rows, plain_says};
+use sn_moves::{says_answered, says_plainly};
+use sn_order::{kinds_tell, runs_in_order};
+use sn_saying::said_once;
+use sn_world::keeps;
 
-/// Whichever trace the steps of a call are, it says the moves of its commits and its requests, in order.
-pub fn traces_tell()
-    ensures { TracesTell }
-{
-    deletions_stay();
-    says_one();
-    keeps_plain();
-    plain_rows();
-    plain_says();
-}
-
-/// A whole call says the moves of its commits and its requests, in order.
+/// A whole call says the moves that are told of its commits and its requests, in order, changes of password among them.
 pub fn calls_tell()
     ensures { CallsTell }
 {
     deletions_stay();
-    says_one();
-    keeps_plain();
-    plain_rows();
-    plain_says();
+    says_answered();
+    says_plainly();
+    said_once();
+    kinds_tell();
+    runs_in_order();
+    keeps();
 }
 
 /// A request that comes late or again says those of its batch.
 pub fn agains_tell()
     ensures { AgainsTell }
 {
-    plain_says();
+    said_once();
 }

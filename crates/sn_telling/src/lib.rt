@@ -1,12 +1,17 @@
 //! The moves that a call says, by the batches and the exchanges that it left to be told.
 #![tactic(auto)]
 
+mod beginning;
 mod calling;
+mod committing;
+mod doing;
+mod gaining;
 mod laws;
-mod syncing;
+mod reading;
+mod routing;
+mod steps;
 mod telling;
-mod walking;
 
-pub use calling::{Asked, Calling};
-pub use laws::{agains_tell, calls_tell, traces_tell};
-pub use telling::{asked_moves, call_moves};
+pub use calling::Calling;
+pub use laws::{agains_tell, calls_tell};
+pub use telling::{Told, call_moves, late_moves};

@@ -1,35 +1,39 @@
 //! The moves of a call, and of a request that comes late or again.
 
-ghost use Rattle.std.specs.Prelude.{◌≡◌, ◌++◌, ℕ, List, Option, IfOk, drop, false, take};
-ghost use Rattle.rand_chacha.specs.ChaCha.{ChaCha};
-ghost use Rattle.sn_client.specs.Runs.{Act, Call, Halt, Run, rows_done};
-ghost use Rattle.sn_laws.specs.Lookups.{Bytes};
-ghost use Rattle.sn_recorder.specs.Told.{AreTold};
+ghost use Rattle.std.specs.Prelude.{◌≡◌, ◌++◌, ◌∷◌, [], ◌≤◌, IfOk, List, None, OnOk, Option, drop, false, length, take};
+ghost use Rattle.std.specs.Option.{option_copied};
+ghost use Rattle.sn_laws.specs.declared.moves.Move.{Move};
+ghost use Rattle.sn_order.specs.Order.{asks_sync};
 ghost use Rattle.sn_row_map.specs.RowMaps.{row_in};
-ghost use Rattle.sn_rows.specs.Table.{rows_after};
-ghost use Rattle.sn_rows.specs.declared.change.Change.{Change};
-ghost use Rattle.sn_server.specs.Stores.{batch_of};
 ghost use Rattle.sn_string.specs.declared.params.KeySet.{KeySet};
-ghost use Rattle.sn_sync.specs.declared.answer.Answer.{Answer};
 ghost use Rattle.sn_sync.specs.declared.request.Request.{Request};
-ghost use Rattle.sn_telling.specs.Calling.{IsAskedOf, IsCallingOf};
-ghost use Rattle.sn_telling.specs.Laws.{IsWhole};
-ghost use Rattle.sn_telling.specs.Telling.{fate_moves, told_moves};
-ghost use Rattle.sn_telling.specs.Walking.{SaysResolved, SaysSync, asked_by, asks_set, committed_moves, exchanged_moves, owner_first, rows_behind_all, rows_exchanged};
-ghost use Rattle.sn_world.specs.Calls.{Fate, rows_served, served};
+ghost use Rattle.sn_telling.specs.Turns.{SaysTurn};
+ghost use Rattle.sn_telling.specs.Walking.{IsReadAs, SaysGained, SaysWalk, front, rest, rows_behind_all};
 
-use crate::calling::{Asked, Calling};
-use crate::syncing::{changes_owner, push_synced};
-use crate::walking::{push_committed, push_exchanged, push_gained};
+use crate::beginning::begun_in;
+use crate::calling::Calling;
+use crate::committing::committed;
+use crate::gaining::gained;
+use crate::reading::request_read;
+use crate::steps::push_all;
 use sn_laws::Move;
+use sn_order::{comes_first, is_sync, kind_of};
 use sn_recorder::Exchanged;
 use sn_row_map::RowMap;
-use sn_rows::{Change, Key, Slot};
-use sn_string::{Many, Text, Twin};
+use sn_rows::Change;
+use sn_string::{KeySet, Many, Text};
+use sn_sync::Request;
 use std::alloc::{AllocError, Global};
 
-/// The moves of a call of the device of this name, by the device's batches and the exchanges. The rows of both ends, which are those
-/// before the call, become those behind it. On an error they are in between.
+/// What is told of a call: its moves, and the set that each of its requests would begin, in order.
+#[derive(Drop)]
+pub struct Told {
+    pub moves: Many<Move>,
+    pub begun: Many<Option<KeySet>>,
+}
+
+/// The moves of a call of the device of this name, by the device's batches and the exchanges. The rows of both ends, which
+/// are those before the call, become those behind it. On an error they are in between.
 pub fn call_moves(
     alloc: Global,
     server: &mut RowMap,
@@ -38,141 +42,119 @@ pub fn call_moves(
     calling: &Calling,
     batches: &[Many<Change>],
     exchanged: &[Exchanged],
-) -> Result<Many<Move>, AllocError>
-    ensures { (host : Bytes) (call : Call) (begins : Request → Option KeySet) (words : ChaCha) (acts : List Act) (fates : List Fate) (halt : Halt) →
-        IsCallingOf call begins acts calling.now → Run 1 call (row_in device.old) words acts halt → IsWhole halt
-        → AreTold host acts fates batches.now exchanged.now
-        → IfOk result (λ moves. (moves ≡ told_moves (row_in server.old) (row_in device.old) name.now begins acts fates)
-        × (row_in server.new ≡ rows_served (row_in server.old) fates) × (row_in device.new ≡ rows_done (row_in device.old) acts)) }
+) -> Result<Told, AllocError>
+    ensures { IfOk result (λ told. SaysWalk calling.now name.now (row_in server.old) (row_in device.old) false None batches.now exchanged.now
+        told.moves told.begun (row_in server.new) (row_in device.new)) }
 {
-    match calling {
-        Calling::Sync => sync_moves(alloc, server, device, name, batches, exchanged),
-        calling => plain_moves(alloc, server, device, name, calling, batches, exchanged),
+    let mut told = Told {
+        moves: Many::new(alloc),
+        begun: Many::new(alloc),
+    };
+    let none = None;
+    let (mut heard, mut answer, mut left) = (false, &none, batches);
+    'exchanges: for exchange in exchanged {
+        let request = request_read(alloc, exchange.request.as_slice())?;
+        let syncs = asks_sync(&request);
+        let (first, behind) = split(heard, syncs, left);
+        push_turn(
+            alloc, &mut told, server, device, name, calling, answer, first, &request, exchange,
+        )?;
+        heard = syncs;
+        answer = &exchange.answer;
+        left = behind;
     }
+    let said = committed(alloc, server, device, name, calling, answer, left)?;
+    push_all(&mut told.moves, said)?;
+    Ok(told)
 }
 
-// The moves of a sync.
-fn sync_moves(
+/// The moves of a request of the device of this name that comes late or again, by the batches that the server's store gained:
+/// `begins` is the set that it would begin. The server's rows become those behind the batches.
+pub fn late_moves(
     alloc: Global,
     server: &mut RowMap,
-    device: &mut RowMap,
+    device: &RowMap,
     name: &Text,
-    batches: &[Many<Change>],
-    exchanged: &[Exchanged],
-) -> Result<Many<Move>, AllocError>
-    ensures { IfOk result (λ moves. SaysSync (asks_set (row_in device.old)) (row_in server.old) (row_in device.old) name.now batches.now exchanged.now moves
-        (row_in server.new) (row_in device.new)) }
-{
-    if device.get(&Key::Set(Slot::Asked)).is_some() {
-        return resolved_moves(alloc, server, device, name, batches, exchanged);
-    }
-    let mut moves = Many::new(alloc);
-    push_synced(alloc, &mut moves, server, device, name, batches, exchanged)?;
-    Ok(moves)
-}
-
-// The moves of a sync of a device that asks for a set: what became of that is found out first. The set is adopted behind two exchanges,
-// or there is no sync.
-fn resolved_moves(
-    alloc: Global,
-    server: &mut RowMap,
-    device: &mut RowMap,
-    name: &Text,
-    batches: &[Many<Change>],
-    exchanged: &[Exchanged],
-) -> Result<Many<Move>, AllocError>
-    ensures { IfOk result (λ moves. SaysResolved (owner_first batches.now) (row_in server.old) (row_in device.old) name.now batches.now exchanged.now moves
-        (row_in server.new) (row_in device.new)) }
-{
-    if !owner_first(batches) {
-        return plain_moves(
-            alloc,
-            server,
-            device,
-            name,
-            &Calling::Sync,
-            batches,
-            exchanged,
-        );
-    }
-    let (adopted, batches) = front(batches, 1);
-    let (asked, exchanged) = front(exchanged, 2);
-    let mut moves = plain_moves(alloc, server, device, name, &Calling::Sync, adopted, asked)?;
-    push_synced(alloc, &mut moves, server, device, name, batches, exchanged)?;
-    Ok(moves)
-}
-
-// The first so many elements, where there are as many, and the others.
-fn front<T>(elements: &[T], count: usize) -> (&[T], &[T])
-    ensures first { result.0.now ≡ take count elements.now }
-    ensures others { result.1.now ≡ drop count elements.now }
-{
-    elements.split_at(count.min(elements.len()))
-}
-
-// Whether the next batch is of the device's own row.
-fn owner_first(batches: &[Many<Change>]) -> bool
-    ensures { result ≡ owner_first batches.now }
-{
-    match batches.first() {
-        Some(batch) => changes_owner(batch.as_slice()),
-        None => false,
-    }
-}
-
-/// The moves of a request of the device of this name that comes late or again, by the batches that the server's store gained.
-pub fn asked_moves(
-    alloc: Global,
-    server: &mut RowMap,
-    name: &Text,
-    asked: &Asked,
+    request: &[u8],
+    begins: Option<&KeySet>,
     batches: &[Many<Change>],
 ) -> Result<Many<Move>, AllocError>
-    ensures { (r : Request) (begins : Option KeySet) (now : ℕ) (changes : List Change) (given : Answer) → IsAskedOf r begins asked.now
-        → batches.now ≡ batch_of changes
-        → IfOk result (λ moves. (moves ≡ fate_moves (row_in server.old) name.now begins r (served now changes given false))
-        × (row_in server.new ≡ rows_after (row_in server.old) changes)) }
+    ensures moves { IfOk result (λ moves. (found : Option Request) × IsReadAs request.now found
+        × SaysGained (row_in server.old) (row_in device.now) name.now (option_copied begins.entry) found batches.now moves) }
+    ensures rows { OnOk result (row_in server.new ≡ rows_behind_all (row_in server.old) batches.now) }
 {
-    let mut moves = Many::new(alloc);
-    push_gained(alloc, &mut moves, server, name, asked, batches)?;
-    Ok(moves)
+    let found = request_read(alloc, request)?;
+    gained(alloc, server, device, name, begins, &found, batches)
 }
 
-// The moves of a call that is no sync: its exchanges come before its commit.
-fn plain_moves(
+// ---- one exchange
+
+// Adds what an exchange says behind these batches, and the set that its request would begin.
+fn push_turn(
     alloc: Global,
+    told: &mut Told,
     server: &mut RowMap,
     device: &mut RowMap,
     name: &Text,
     calling: &Calling,
-    batches: &[Many<Change>],
-    exchanged: &[Exchanged],
-) -> Result<Many<Move>, AllocError>
-    ensures { IfOk result (λ moves. (moves ≡ exchanged_moves (row_in server.old) name.now (asked_by calling.now) exchanged.now
-        ++ committed_moves (row_in device.old) name.now calling.now batches.now)
-        × (row_in server.new ≡ rows_exchanged (row_in server.old) exchanged.now)
-        × (row_in device.new ≡ rows_behind_all (row_in device.old) batches.now)) }
+    answer: &Option<Many<u8>>,
+    first: &[Many<Change>],
+    request: &Option<Request>,
+    exchange: &Exchanged,
+) -> Result<(), AllocError>
+    ensures { OnOk result ((said : List Move) × (begins : Option KeySet) × (told.new.moves ≡ told.old.moves ++ said)
+        × (told.new.begun ≡ told.old.begun ++ begins ∷ [])
+        × SaysTurn calling.now (row_in server.old) (row_in device.old) name.now answer.now first.now request.now exchange.now.batches said begins
+        (row_in server.new) (row_in device.new)) }
 {
-    let asked = asked_by(alloc, calling)?;
-    let mut moves = Many::new(alloc);
-    push_exchanged(alloc, &mut moves, server, name, &asked, exchanged)?;
-    push_committed(alloc, &mut moves, device, name, calling, batches)?;
-    Ok(moves)
+    let said = committed(alloc, server, device, name, calling, answer, first)?;
+    push_all(&mut told.moves, said)?;
+    let begins = begun_in(alloc, calling, device, request)?;
+    let batches = exchange.batches.as_slice();
+    let said = gained(
+        alloc,
+        server,
+        device,
+        name,
+        begins.as_ref(),
+        request,
+        batches,
+    )?;
+    push_all(&mut told.moves, said)?;
+    told.begun.push(begins)
 }
 
-// What such a call asks for.
-fn asked_by(alloc: Global, calling: &Calling) -> Result<Asked, AllocError>
-    ensures { IfOk result (λ asked. asked ≡ asked_by calling.now) }
+fn asks_sync(request: &Option<Request>) -> bool
+    ensures { result ≡ asks_sync request.now }
 {
-    match calling {
-        Calling::Register { identifier, set } => Ok(Asked::Register {
-            identifier: identifier.twin(alloc)?,
-            set: set.twin(alloc)?,
-        }),
-        Calling::SignIn { .. }
-        | Calling::Put { .. }
-        | Calling::Edit { .. }
-        | Calling::Delete
-        | Calling::Sync => Ok(Asked::Other),
+    match request {
+        Some(request) => is_sync(request),
+        None => false,
     }
+}
+
+// ---- the batches before it
+
+// The batches that come before the next request, and those that come after it.
+fn split(heard: bool, syncs: bool, batches: &[Many<Change>]) -> (&[Many<Change>], &[Many<Change>])
+    ensures first { result.0.now ≡ front heard syncs batches.now }
+    ensures behind { result.1.now ≡ rest heard syncs batches.now }
+{
+    batches.split_at(front_len(heard, syncs, batches))
+}
+
+// How many come before it.
+fn front_len(heard: bool, syncs: bool, batches: &[Many<Change>]) -> usize
+    ensures within { result ≤ length batches.now }
+    ensures front { front heard syncs batches.now ≡ take result batches.now }
+    ensures rest { rest heard syncs batches.now ≡ drop result batches.now }
+{
+    let mut heard = heard;
+    'batches: for (index, batch) in batches.iter().enumerate() {
+        if !comes_first(heard, kind_of(batch.as_slice()), syncs) {
+            return index;
+        }
+        heard = false;
+    }
+    batches.len()
 }

@@ -1,32 +1,42 @@
-use Rattle.std.proofs.Common.{◌≡◌, ◌++◌, subst}
+use Rattle.std.proofs.Common.{List, None, false, subst}
+use Rattle.sn_laws.specs.Lookups.{Bytes}
 use Rattle.sn_row_map.specs.RowMaps.{row_in}
-use Rattle.sn_telling.specs.Calling.{IsCallingOf}
-use Rattle.sn_telling.specs.declared.calling.Calling.{Calling}
-use Rattle.sn_telling.proofs.Called.{IsTold, plain_called, sync_called}
-use Rattle.sn_telling.proofs.ForeignLemmas.{if_ok}
+use Rattle.sn_rows.specs.declared.change.Change.{Change}
+use Rattle.sn_telling.specs.Turns.{SaysTurn}
+use Rattle.sn_telling.specs.Walking.{IsReadAs}
+use Rattle.sn_telling.proofs.WalkTurns.{Stands, walk_ends, walk_more}
 use Rattle.sn_telling.proofs.telling.call_moves.Goals as goal
-use Rattle.sn_telling.specs.Walking.{SaysSync, asked_by, asks_set, committed_moves, exchanged_moves, rows_behind_all, rows_exchanged}
 
-pub returns-in-Sync : goal.returns-in-Sync
-returns-in-Sync c = λ host call begun words acts fates halt of runs whole told.
-    if_ok c.sync_moves.result
-    (λ moves. SaysSync (asks_set (row_in c.args.device.now)) (row_in c.args.server.now) (row_in c.args.device.now) c.args.name.now c.args.batches.now
-    c.args.exchanged.now moves (row_in c.sync_moves.new.server) (row_in c.sync_moves.new.device))
-    (IsTold host c.args.name.now begun words acts fates halt (row_in c.args.server.now) (row_in c.args.device.now) (row_in c.sync_moves.new.server)
-    (row_in c.sync_moves.new.device) c.args.batches.now c.args.exchanged.now told)
-    (λ moves says. sync_called host c.args.name.now begun words acts fates halt (row_in c.args.server.now) (row_in c.args.device.now)
-    (row_in c.sync_moves.new.server) (row_in c.sync_moves.new.device) c.args.batches.now c.args.exchanged.now told moves call
-    (subst (λ (k : Calling). IsCallingOf call begun acts k) c.in-Sync.is of) runs says) c.sync_moves.ensures
+pub exchanges-preserved : goal.exchanges-preserved
+exchanges-preserved c =
+    let start : Stands = record { server = row_in c.args.server.now; rows = row_in c.args.device.now; heard = false; answer = None; left = c.args.batches.now } in
+    let at : Stands = record {
+      server = row_in c.exchanges.server;
+      rows = row_in c.exchanges.device;
+      heard = c.exchanges.heard;
+      answer = c.exchanges.answer.now;
+      left = c.exchanges.left.now;
+    } in
+    let turn = c.in_ok-push_turn.ensures in
+    walk_more c.args.calling.now c.args.name.now start c.args.exchanged.now at c.exchanges.exchange-index c.exchanges.told.moves c.exchanges.told.begun
+    c.exchange-item.result c.in_ok-request.request turn.0 turn.1 (row_in c.push_turn.new.server) (row_in c.push_turn.new.device) c.split.result.1.now
+    c.asks_sync-syncs.result c.push_turn.new.told.moves c.push_turn.new.told.begun c.exchanges-test.true c.exchange-item.is
+    (subst (λ (bytes : Bytes). IsReadAs bytes c.in_ok-request.request) c.as_slice.ensures c.in_ok-request.ensures) c.asks_sync-syncs.ensures
+    c.split.ensures.behind
+    (subst (λ (batches : List (List Change)). SaysTurn c.args.calling.now at.server at.rows c.args.name.now at.answer batches c.in_ok-request.request
+    c.exchange-item.result.batches turn.0 turn.1 (row_in c.push_turn.new.server) (row_in c.push_turn.new.device)) c.split.ensures.first turn.4)
+    turn.2 turn.3 c.exchanges.invariant
 
-pub returns-in_default : goal.returns-in_default
-returns-in_default c = λ host call begun words acts fates halt of runs whole told.
-    if_ok c.plain_moves.result
-    (λ moves. (moves ≡ exchanged_moves (row_in c.args.server.now) c.args.name.now (asked_by c.args.calling.now) c.args.exchanged.now
-    ++ committed_moves (row_in c.args.device.now) c.args.name.now c.args.calling.now c.args.batches.now)
-    × (row_in c.plain_moves.new.server ≡ rows_exchanged (row_in c.args.server.now) c.args.exchanged.now)
-    × (row_in c.plain_moves.new.device ≡ rows_behind_all (row_in c.args.device.now) c.args.batches.now))
-    (IsTold host c.args.name.now begun words acts fates halt (row_in c.args.server.now) (row_in c.args.device.now) (row_in c.plain_moves.new.server)
-    (row_in c.plain_moves.new.device) c.args.batches.now c.args.exchanged.now told)
-    (λ moves says. plain_called host c.args.name.now begun words acts fates halt (row_in c.args.server.now) (row_in c.args.device.now)
-    (row_in c.plain_moves.new.server) (row_in c.plain_moves.new.device) c.args.batches.now c.args.exchanged.now told moves call c.args.calling.now
-    c.in_default.not-Sync of runs says.0 says.1 says.2) c.plain_moves.ensures
+pub returns : goal.returns
+returns c =
+    let start : Stands = record { server = row_in c.args.server.now; rows = row_in c.args.device.now; heard = false; answer = None; left = c.args.batches.now } in
+    let at : Stands = record {
+      server = row_in c.exchanges.server;
+      rows = row_in c.exchanges.device;
+      heard = c.exchanges.heard;
+      answer = c.exchanges.answer.now;
+      left = c.exchanges.left.now;
+    } in
+    walk_ends c.args.calling.now c.args.name.now start c.args.exchanged.now at c.exchanges.exchange-index c.exchanges.told.moves c.exchanges.told.begun
+    c.in_ok-said.said (row_in c.committed.new.device) c.push_all.new.moves c.exchanges-test.false c.in_ok-said.ensures.moves c.in_ok-said.ensures.rows
+    c.in_ok-push_all.ensures c.exchanges.invariant

@@ -1,0 +1,70 @@
+//! The moves of the server's batches.
+
+ghost use Rattle.std.specs.Prelude.{◌≡◌, IfOk, OnOk, Some};
+ghost use Rattle.std.specs.Option.{option_copied};
+ghost use Rattle.sn_row_map.specs.RowMaps.{row_in};
+ghost use Rattle.sn_telling.specs.Walking.{SaysGained, rows_behind_all};
+
+use crate::steps::{change_rows, push_all};
+use sn_laws::Move;
+use sn_row_map::RowMap;
+use sn_rows::Change;
+use sn_saying::served;
+use sn_string::{KeySet, Many, Text};
+use sn_sync::Request;
+use std::alloc::{AllocError, Global};
+
+/// The moves of the batches that the server's store gained by a request of the device of this name, which would begin this
+/// set. The server's rows become those behind the batches.
+pub(crate) fn gained(
+    alloc: Global,
+    server: &mut RowMap,
+    device: &RowMap,
+    name: &Text,
+    begins: Option<&KeySet>,
+    request: &Option<Request>,
+    batches: &[Many<Change>],
+) -> Result<Many<Move>, AllocError>
+    ensures moves { IfOk result (SaysGained (row_in server.old) (row_in device.now) name.now (option_copied begins.entry) request.now batches.now) }
+    ensures rows { OnOk result (row_in server.new ≡ rows_behind_all (row_in server.old) batches.now) }
+{
+    match request {
+        Some(request) => all_served(alloc, server, device, name, begins, request, batches),
+        None => {
+            change_all(alloc, server, batches)?;
+            Ok(Many::new(alloc))
+        }
+    }
+}
+
+// The same of a request that is known.
+fn all_served(
+    alloc: Global,
+    server: &mut RowMap,
+    device: &RowMap,
+    name: &Text,
+    begins: Option<&KeySet>,
+    request: &Request,
+    batches: &[Many<Change>],
+) -> Result<Many<Move>, AllocError>
+    ensures moves { IfOk result (SaysGained (row_in server.old) (row_in device.now) name.now (option_copied begins.entry) (Some request.now) batches.now) }
+    ensures rows { OnOk result (row_in server.new ≡ rows_behind_all (row_in server.old) batches.now) }
+{
+    let mut moves = Many::new(alloc);
+    'batches: for batch in batches {
+        let changes = batch.as_slice();
+        let said = served(alloc, server, device, name, begins, request, changes)?;
+        push_all(&mut moves, said)?;
+    }
+    Ok(moves)
+}
+
+// Changes rows by batches.
+fn change_all(alloc: Global, rows: &mut RowMap, batches: &[Many<Change>]) -> Result<(), AllocError>
+    ensures { OnOk result (row_in rows.new ≡ rows_behind_all (row_in rows.old) batches.now) }
+{
+    'batches: for batch in batches {
+        change_rows(alloc, rows, batch)?;
+    }
+    Ok(())
+}
