@@ -26,6 +26,7 @@ command (line.Put device fates text) = codes "put"
 command (line.Edit device label fates text) = codes "edit"
 command (line.Delete device label fates) = codes "del"
 command (line.Sync device fates) = codes "sync"
+command (line.Passwd device password fates) = codes "passwd"
 command (line.Late device request) = codes "late"
 command line.Show = codes "show"
 
@@ -39,6 +40,7 @@ begins ws (line.Put device fates text) h = ap first_of h.1
 begins ws (line.Edit device label fates text) h = ap first_of h.2
 begins ws (line.Delete device label fates) h = ap first_of h.2
 begins ws (line.Sync device fates) h = ap first_of h.1
+begins ws (line.Passwd device password fates) h = ap first_of h.1
 begins ws (line.Late device request) h = ap first_of h.1
 begins ws line.Show h = ap first_of h
 
@@ -123,6 +125,12 @@ one_line ws (line.Delete device label fates) (line.Delete device' label' fates')
     cc
 one_line ws (line.Sync device fates) (line.Sync device' fates') (rest, e, name, are) (rest', e', name', are') =
     let devices : device ≡ device' = cc in
+    let behind : rest' ≡ rest = cc in
+    let losses : fates ≡ fates' = one_fates rest fates fates' are (subst (λ ws. AreLosses ws fates') behind are') in
+    cc
+one_line ws (line.Passwd device password fates) (line.Passwd device' password' fates') (rest, e, name, short, are) (rest', e', name', short', are') =
+    let devices : device ≡ device' = cc in
+    let passwords : password ≡ password' = cc in
     let behind : rest' ≡ rest = cc in
     let losses : fates ≡ fates' = one_fates rest fates fates' are (subst (λ ws. AreLosses ws fates') behind are') in
     cc

@@ -130,6 +130,8 @@ IsLine ws (line.Delete device label fates) = (number : Word) × (losses : List W
     × (ws ≡ codes "del" ∷ device ∷ number ∷ losses) × IsName device × IsLabel number label × AreLosses losses fates
 IsLine ws (line.Sync device fates) =
     (losses : List Word) × (ws ≡ codes "sync" ∷ device ∷ losses) × IsName device × AreLosses losses fates
+IsLine ws (line.Passwd device password fates) = (losses : List Word)
+    × (ws ≡ codes "passwd" ∷ device ∷ password ∷ losses) × IsName device × IsShort password × AreLosses losses fates
 IsLine ws (line.Late device request) =
     (number : Word) × (ws ≡ codes "late" ∷ device ∷ number ∷ []) × IsName device × IsOrdinal number request
 IsLine ws line.Show = ws ≡ codes "show" ∷ []

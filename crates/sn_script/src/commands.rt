@@ -216,6 +216,27 @@ pub fn sync_line(alloc: Global, words: &[&str]) -> Result<Option<Line>, AllocErr
     }
 }
 
+pub fn passwd_line(alloc: Global, words: &[&str]) -> Result<Option<Line>, AllocError>
+    ensures { IfOk result (IsReading (codes "passwd" ∷ map (λ w. w.now) words.now)) }
+{
+    match words {
+        [device, password, rest @ ..] => {
+            if !is_name(device) || !is_short(password) {
+                return Ok(None);
+            }
+            match losses(alloc, rest)? {
+                Some(fates) => Ok(Some(Line::Passwd {
+                    device: Text::of(alloc, device)?,
+                    password: Text::of(alloc, password)?,
+                    fates,
+                })),
+                None => Ok(None),
+            }
+        }
+        _ => Ok(None),
+    }
+}
+
 pub fn late_line(alloc: Global, words: &[&str]) -> Result<Option<Line>, AllocError>
     ensures { IfOk result (IsReading (codes "late" ∷ map (λ w. w.now) words.now)) }
 {

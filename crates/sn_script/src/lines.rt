@@ -5,8 +5,8 @@ ghost use Rattle.sn_script.specs.Scripts.{IsLineAt, MayStandAt};
 ghost use Rattle.sn_script.specs.declared.script.Line.{Line};
 
 use crate::commands::{
-    clock_line, cost_line, delete_line, edit_line, late_line, put_line, register_line, seed_line,
-    show_line, sign_in_line, sync_line,
+    clock_line, cost_line, delete_line, edit_line, late_line, passwd_line, put_line, register_line,
+    seed_line, show_line, sign_in_line, sync_line,
 };
 use crate::script::Line;
 use std::alloc::{AllocError, Global};
@@ -32,6 +32,7 @@ fn line_of(alloc: Global, words: &[&str]) -> Result<Option<Line>, AllocError>
             "edit" => edit_line(alloc, rest),
             "del" => delete_line(alloc, rest),
             "sync" => sync_line(alloc, rest),
+            "passwd" => passwd_line(alloc, rest),
             "late" => late_line(alloc, rest),
             "show" => Ok(show_line(rest)),
             _ => Ok(None),

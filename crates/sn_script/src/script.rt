@@ -70,6 +70,12 @@ pub enum Line {
         device: Text,
         fates: Many<Fate>,
     },
+    /// The device's account gets this password, of 1 to 254 bytes.
+    Passwd {
+        device: Text,
+        password: Text,
+        fates: Many<Fate>,
+    },
     /// Of the requests that the device ever made, delivered or not, this one is delivered once more.
     Late {
         device: Text,

@@ -485,5 +485,9 @@ fn shows_a_state(rt: HostRuntime) -> Result<(), Fail> {
         draft_line(alloc, &labels, "A", &one()?, &Content::Deleted)?.as_str(),
         "draft A #2 deleted"
     );
+    assert_eq!(rt;
+        closed_line(alloc, &labels, "B", &two()?, 3)?.as_str(),
+        "closed B #1 set 3"
+    );
     Ok(())
 }

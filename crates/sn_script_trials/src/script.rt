@@ -136,6 +136,16 @@ fn shown(alloc: Global, line: &Line) -> Result<String, AllocError> {
             let fates = fates_shown(alloc, fates)?;
             format!(in alloc; "sync[{device}]{fates}")
         }
+        Line::Passwd {
+            device,
+            password,
+            fates,
+        } => {
+            let device = device.as_str();
+            let password = password.as_str();
+            let fates = fates_shown(alloc, fates)?;
+            format!(in alloc; "passwd[{device}][{password}]{fates}")
+        }
         Line::Late { device, request } => {
             let request = label_shown(alloc, device, *request)?;
             format!(in alloc; "late{request}")
@@ -180,6 +190,6 @@ fn reads_or_refuses(rt: HostRuntime) -> Result<(), Fail> {
             }
         }
     }
-    assert_eq!(rt; rows, 217);
+    assert_eq!(rt; rows, 222);
     Ok(())
 }

@@ -26,7 +26,7 @@ frob A|Line 1
 signin A alice p|signin[A][alice][p]
 edit A #1 x|edit[A][1][x]
 del A #1|del[A][1]
-passwd A p|Line 1
+passwd A p|passwd[A][p]
 late A 1|late[A][1]
 sync A|sync[A]
 sync A drop-reply|sync[A]<reply 1>
@@ -203,7 +203,12 @@ late A 1 |Line 1
 late A 1 drop-reply|Line 1
 late A- 1|Line 1
 late 1|Line 1
-passwd A p drop-reply|Line 1
+passwd A p drop-reply|passwd[A][p]<reply 1>
+passwd A|Line 1
+passwd A |Line 1
+passwd A- p|Line 1
+passwd A p x|Line 1
+passwd A drop-reply=2 drop-request=3|passwd[A][drop-reply=2]<request 3>
 show drop-reply|Line 1
 register A alice p~signin B alice p~put A {}~edit A #1 [] ~del A #1~late B 1~sync B|register[A][alice][p];signin[B][alice][p];put[A][{}];edit[A][1][[] ];del[A][1];late[B][1];sync[B]
 ";
