@@ -5,9 +5,11 @@ use Rattle.std.specs.List.{flat_map}
 use Rattle.std.proofs.lemmas.List.{append-nil, drop_all}
 use Rattle.sn_laws.specs.declared.moves.Move.{Move}
 use Rattle.sn_report.specs.Labels.{Labels, labels_after, labels_of}
+use Rattle.sn_report.specs.Sets.{sets_after, sets_of}
 use Rattle.sn_report.specs.Showing.{held_text}
 use Rattle.sn_report.specs.Text.{event_text, events_text, line_text, move_text, moves_text}
 use Rattle.sn_report.specs.declared.report.Event.{Event}
+use Rattle.sn_report.specs.declared.sets.NumberedSet.{NumberedSet}
 use Rattle.sn_report.proofs.FrontLemmas.{written_piece}
 
 -- what is left of a list from a place on
@@ -64,18 +66,30 @@ shown_end number text whole shown i h inv = ended (flat_map (line_text number)) 
 
 -- events
 
-pub events_step : (labels next : Labels) (old new whole : List ℕ) (e : Event) (events : List Event) (i : ℕ) → i < length events → e ≡ get_or events i e
-    → next ≡ labels_of e.puts labels e.moves → new ≡ old ++ event_text labels e
-    → old ++ events_text labels (drop i events) ≡ whole → new ++ events_text next (drop (i + 1) events) ≡ whole
-events_step labels next old new whole e events i h is after text inv =
-    ap (λ (ls : Labels). new ++ events_text ls (drop (i + 1) events)) after
-    ∙ written_piece old new (event_text labels e) (events_text (labels_of e.puts labels e.moves) (drop (i + 1) events))
-    (events_text labels (drop i events)) text (ap (events_text labels) (next_of events i e e h is))
+pub events_step : (labels next : Labels) (sets others : List NumberedSet) (old new whole : List ℕ) (e : Event) (events : List Event) (i : ℕ)
+    → i < length events → e ≡ get_or events i e → next ≡ labels_of e.puts labels e.moves → others ≡ sets_of sets e.moves
+    → new ≡ old ++ event_text labels sets e
+    → old ++ events_text labels sets (drop i events) ≡ whole → new ++ events_text next others (drop (i + 1) events) ≡ whole
+events_step labels next sets others old new whole e events i h is after begun text inv =
+    ap (λ (ls : Labels). new ++ events_text ls others (drop (i + 1) events)) after
+    ∙ ap (λ (ss : List NumberedSet). new ++ events_text (labels_of e.puts labels e.moves) ss (drop (i + 1) events)) begun
+    ∙ written_piece old new (event_text labels sets e) (events_text (labels_of e.puts labels e.moves) (sets_of sets e.moves) (drop (i + 1) events))
+    (events_text labels sets (drop i events)) text (ap (events_text labels sets) (next_of events i e e h is))
     ∙ inv
 
-pub events_end : (labels : Labels) (text whole : List ℕ) (events : List Event) (i : ℕ) → length events ≤ i
-    → text ++ events_text labels (drop i events) ≡ whole → text ≡ whole
-events_end labels text whole events i h inv = ended (events_text labels) events i text whole refl h inv
+pub events_end : (labels : Labels) (sets : List NumberedSet) (text whole : List ℕ) (events : List Event) (i : ℕ) → length events ≤ i
+    → text ++ events_text labels sets (drop i events) ≡ whole → text ≡ whole
+events_end labels sets text whole events i h inv = ended (events_text labels sets) events i text whole refl h inv
+
+-- the sets that moves begin
+
+pub sets_step : (sets next whole : List NumberedSet) (m : Move) (moves : List Move) (i : ℕ) → i < length moves → m ≡ get_or moves i m
+    → next ≡ sets_after sets m → sets_of sets (drop i moves) ≡ whole → sets_of next (drop (i + 1) moves) ≡ whole
+sets_step sets next whole m moves i h is e inv =
+    ap (λ (ss : List NumberedSet). sets_of ss (drop (i + 1) moves)) e ∙ sym (ap (sets_of sets) (next_of moves i m m h is)) ∙ inv
+
+pub sets_end : (sets whole : List NumberedSet) (moves : List Move) (i : ℕ) → length moves ≤ i → sets_of sets (drop i moves) ≡ whole → sets ≡ whole
+sets_end sets whole moves i h inv = sym (ap (sets_of sets) (drop_all i moves h)) ∙ inv
 
 -- the sets that a device holds
 

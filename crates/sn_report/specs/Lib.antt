@@ -1,4 +1,5 @@
 pub mod Labels
 pub mod Numbers
+pub mod Sets
 pub mod Showing
 pub mod Text

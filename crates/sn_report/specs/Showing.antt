@@ -1,4 +1,4 @@
--- The lines that show a state: each account with its items, then each device with its drafts.
+-- The lines that show a state: each account with its items, then each device with its drafts and what is closed to it.
 use Rattle.std.specs.Prelude.{ℕ, List, [], ◌∷◌, ◌++◌, length, Option, Some, None, codes}
 use Rattle.std.specs.Fmt.{decimal}
 use Rattle.std.specs.List.{flat_map}
@@ -54,7 +54,16 @@ abbrev pub draft_lines : Labels → Option Draft → List (List ℕ)
 draft_lines labels None = []
 draft_lines labels (Some d) = draft_text labels d ∷ []
 
--- a device with its account and its sets, and its drafts in order of label, each once
+-- an item's row without a draft that opens under no set that the device holds, with the number of the set under which it is sealed
+abbrev pub closed_text : Labels → Bytes → Bytes → ℕ → List ℕ
+closed_text labels device uuid number = codes "closed " ++ (device ++ (codes " " ++ (label_text labels uuid ++ (codes " set " ++ decimal number))))
+
+abbrev pub closed_lines : Labels → Bytes → Bytes → Option ℕ → List (List ℕ)
+closed_lines labels device uuid None = []
+closed_lines labels device uuid (Some number) = closed_text labels device uuid number ∷ []
+
+-- a device with its account and its sets, its drafts in order of label, each once, and likewise what is closed to it. The state doesn't say what
+-- rows a device has: so it is told of each item of a device under which set its row is closed
 abbrev pub sets_text : Bytes → Bytes → List ℕ → List ℕ
 sets_text name account held = codes "device " ++ (name ++ (codes " " ++ (account ++ (codes " sets" ++ held_text held))))
 
@@ -65,9 +74,12 @@ abbrev pub device_text : Bytes → Option Device → List ℕ
 device_text name None = none_text name
 device_text name (Some d) = sets_text name d.account d.held
 
-abbrev pub device_lines : Labels → Ideal → Bytes → List (List ℕ)
-device_lines labels s name = device_text name (device_named s name) ∷ flat_map (λ uuid. draft_lines labels (draft_at s name uuid)) (items_of labels)
+abbrev pub device_lines : Labels → Ideal → (Bytes → Bytes → Option ℕ) → Bytes → List (List ℕ)
+device_lines labels s closed name =
+    device_text name (device_named s name)
+    ∷ (flat_map (λ uuid. draft_lines labels (draft_at s name uuid)) (items_of labels)
+    ++ flat_map (λ uuid. closed_lines labels name uuid (closed name uuid)) (items_of labels))
 
 -- accounts in the order in which they began, devices in that of their first lines
-abbrev pub show_lines : Labels → List Bytes → Ideal → List (List ℕ)
-show_lines labels names s = flat_map (account_lines labels) s.accounts ++ flat_map (device_lines labels s) names
+abbrev pub show_lines : Labels → List Bytes → Ideal → (Bytes → Bytes → Option ℕ) → List (List ℕ)
+show_lines labels names s closed = flat_map (account_lines labels) s.accounts ++ flat_map (device_lines labels s closed) names

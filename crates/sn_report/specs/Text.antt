@@ -12,7 +12,14 @@ use Rattle.sn_report.specs.declared.report.Event.{Event}
 use Rattle.sn_report.specs.declared.report.Last.{Last}
 use Rattle.sn_report.specs.declared.report.Last.TheVariants as last
 use Rattle.sn_report.specs.declared.report.Report.{Report}
+use Rattle.sn_report.specs.Sets.{nonce_text, sets_of}
+use Rattle.sn_report.specs.declared.sets.NumberedSet.{NumberedSet}
+use Rattle.sn_rekey.specs.declared.error.RekeyError.{RekeyError}
+use Rattle.sn_rekey.specs.declared.error.RekeyError.TheVariants as rekey
+use Rattle.sn_rekey.specs.declared.error.Running.TheVariants as running
 use Rattle.sn_status.specs.ClientLines.{client_text, place_text}
+use Rattle.sn_status.specs.declared.refusal.ClientRefusal.{ClientRefusal}
+use Rattle.sn_status.specs.declared.refusal.ClientRefusal.TheVariants as refusal
 
 -- a draft's content, or its deletion
 abbrev pub content_text : Labels → Content → List ℕ
@@ -59,15 +66,25 @@ move_text labels (GiveWay device uuid) = draft_text (codes "giveway") labels dev
 move_text labels (Change identifier number set) = codes "change " ++ (identifier ++ (codes " set " ++ decimal number))
 move_text labels (Retire device number) = codes "retire " ++ (device ++ (codes " set " ++ decimal number))
 
--- how an event ended. Of a device's refusal its number, its name and the values that it keeps, each labelled uuid as its label; of an answer
--- that is none, or fails a check, the place
-abbrev pub last_text : Labels → Last → List ℕ
-last_text labels last.Done = codes "= ok"
-last_text labels last.Link = codes "= link"
-last_text labels (last.Server status tag) = codes "= server " ++ (decimal status ++ (codes " " ++ tag))
-last_text labels (last.Refused refusal) = codes "= refused " ++ relabelled labels (client_text refusal)
-last_text labels (last.BadAnswer place) = codes "= refused client.7 BadAnswer " ++ place_text place
-last_text labels (last.Answer status) = codes "= answer " ++ decimal status
+-- a device's refusal: its number, its name and the values that it keeps, each labelled uuid as its label and each nonce as its set
+
+abbrev pub running_text : Labels → List NumberedSet → RekeyError → List ℕ
+running_text labels sets (rekey.ChangeRunning (running.Older nonce)) = codes "rekey.1 ChangeRunning " ++ nonce_text sets nonce
+running_text labels sets other = relabelled labels (client_text (refusal.Rekey other))
+
+abbrev pub refused_text : Labels → List NumberedSet → ClientRefusal → List ℕ
+refused_text labels sets (refusal.Closed nonce) = codes "client.3 Closed " ++ nonce_text sets nonce
+refused_text labels sets (refusal.Rekey error) = running_text labels sets error
+refused_text labels sets other = relabelled labels (client_text other)
+
+-- how an event ended; of an answer that is none, or fails a check, the place
+abbrev pub last_text : Labels → List NumberedSet → Last → List ℕ
+last_text labels sets last.Done = codes "= ok"
+last_text labels sets last.Link = codes "= link"
+last_text labels sets (last.Server status tag) = codes "= server " ++ (decimal status ++ (codes " " ++ tag))
+last_text labels sets (last.Refused why) = codes "= refused " ++ refused_text labels sets why
+last_text labels sets (last.BadAnswer place) = codes "= refused client.7 BadAnswer " ++ place_text place
+last_text labels sets (last.Answer status) = codes "= answer " ++ decimal status
 
 -- a line of a report: the number of the script's line, and what there is to say
 abbrev pub line_text : ℕ → List ℕ → List ℕ
@@ -79,14 +96,14 @@ moves_text number puts labels (m ∷ ms) =
     line_text number (move_text (labels_after puts labels m) m) ++ moves_text number puts (labels_after puts labels m) ms
 
 -- an event: its moves, what it shows, and how it ended
-abbrev pub event_text : Labels → Event → List ℕ
-event_text labels e =
+abbrev pub event_text : Labels → List NumberedSet → Event → List ℕ
+event_text labels sets e =
     moves_text e.number e.puts labels e.moves
-    ++ (flat_map (line_text e.number) e.shown ++ line_text e.number (last_text (labels_of e.puts labels e.moves) e.last))
+    ++ (flat_map (line_text e.number) e.shown ++ line_text e.number (last_text (labels_of e.puts labels e.moves) (sets_of sets e.moves) e.last))
 
-abbrev pub events_text : Labels → List Event → List ℕ
-events_text labels [] = []
-events_text labels (e ∷ es) = event_text labels e ++ events_text (labels_of e.puts labels e.moves) es
+abbrev pub events_text : Labels → List NumberedSet → List Event → List ℕ
+events_text labels sets [] = []
+events_text labels sets (e ∷ es) = event_text labels sets e ++ events_text (labels_of e.puts labels e.moves) (sets_of sets e.moves) es
 
 abbrev pub report_text : Report → List ℕ
-report_text report = events_text [] report.events
+report_text report = events_text [] [] report.events

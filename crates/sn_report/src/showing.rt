@@ -1,7 +1,7 @@
 //! The lines that show a state, each from what is printed in it.
 
 ghost use Rattle.std.specs.Prelude.{◌≡◌, IfOk, string_bytes};
-ghost use Rattle.sn_report.specs.Showing.{body_text, held_text, item_text, last_set_text, latest_text, none_text, sets_text};
+ghost use Rattle.sn_report.specs.Showing.{body_text, closed_text, held_text, item_text, last_set_text, latest_text, none_text, sets_text};
 
 use crate::labels::Labels;
 use crate::moves::content_text;
@@ -93,5 +93,21 @@ pub fn draft_line(
     let label = labels.label(uuid);
     let content = content_text(alloc, labels, latest)?;
     let line = format!(in alloc; "draft {device} #{label} {content}")?;
+    Ok(Text::of_string(line))
+}
+
+/// The line of an item that is closed to a device, with the number of the set under which it is
+/// sealed.
+pub fn closed_line(
+    alloc: Global,
+    labels: &Labels,
+    device: &str,
+    uuid: &Uuid,
+    number: u64,
+) -> Result<Text, AllocError>
+    ensures { IfOk result (λ text. text ≡ closed_text labels.now device.now uuid.now number) }
+{
+    let label = labels.label(uuid);
+    let line = format!(in alloc; "closed {device} #{label} set {number}")?;
     Ok(Text::of_string(line))
 }

@@ -3,14 +3,16 @@
 ghost use Rattle.std.specs.Prelude.{◌≡◌, ◌++◌, IfOk, OnOk, string_bytes};
 ghost use Rattle.std.specs.List.{flat_map};
 ghost use Rattle.sn_report.specs.Labels.{labels_after, labels_of};
+ghost use Rattle.sn_report.specs.Sets.{sets_of};
 ghost use Rattle.sn_report.specs.Text.{event_text, line_text, move_text, moves_text, report_text};
 
 use crate::ends::last_text;
 use crate::labels::Labels;
 use crate::moves::{make_label, move_text};
 use crate::report::{Event, Report};
+use crate::sets::{NumberedSet, add_sets};
 use sn_laws::Move;
-use sn_string::Text;
+use sn_string::{Many, Text};
 use std::alloc::{AllocError, Global};
 use std::fmt::Write;
 
@@ -68,15 +70,18 @@ fn push_event(
     alloc: Global,
     text: &mut String,
     labels: &mut Labels,
+    sets: &mut Many<NumberedSet>,
     event: &Event,
 ) -> Result<(), AllocError>
     ensures labels { OnOk result (labels.new ≡ labels_of event.now.puts labels.old event.now.moves) }
-    ensures text { OnOk result (string_bytes text.new ≡ string_bytes text.old ++ event_text labels.old event.now) }
+    ensures sets { OnOk result (sets.new ≡ sets_of sets.old event.now.moves) }
+    ensures text { OnOk result (string_bytes text.new ≡ string_bytes text.old ++ event_text labels.old sets.old event.now) }
 {
     let moves = event.moves.as_slice();
     push_moves(alloc, text, labels, event.number, event.puts, moves)?;
     push_shown(text, event.number, event.shown.as_slice())?;
-    let last = last_text(alloc, labels, &event.last)?;
+    add_sets(alloc, sets, moves)?;
+    let last = last_text(alloc, labels, sets.as_slice(), &event.last)?;
     push_line(text, event.number, last.as_str())?;
     Ok(())
 }
@@ -87,9 +92,10 @@ pub fn report_text(alloc: Global, report: &Report) -> Result<Text, AllocError>
 {
     let mut text = String::new(alloc);
     let mut labels = Labels::new(alloc);
+    let mut sets = Many::new(alloc);
     let events = report.events.as_slice();
     'events: for event in events {
-        push_event(alloc, &mut text, &mut labels, event)?;
+        push_event(alloc, &mut text, &mut labels, &mut sets, event)?;
     }
     Ok(Text::of_string(text))
 }

@@ -1,292 +1,42 @@
--- The drafts of a device, gathered by label from row to row.
-use Rattle.std.proofs.Common.{◌≡◌, ℕ, List, [], ◌∷◌, ◌++◌, Option, Some, None, Bool, true, false, ◌⊎◌, refl, sym, ap, ◌∙◌, subst, inl, inr, ⊎_elim}
-use Rattle.std.specs.Prelude.{◌==◌, cond, filter, if◌then◌else◌, not}
-use Rattle.std.specs.BTreeMap.{BTreeMap, IsEmpty, IsOrdered, get, is_at, values}
-use Rattle.std.specs.List.{flat_map}
-use Rattle.std.specs.Map.{lookup}
-use Rattle.std.specs.Ordering.{nat_cmp}
+-- The lines of a device's drafts, as they are gathered.
+use Rattle.std.proofs.Common.{◌≡◌, [], ◌∷◌, Option, Some, None, refl, sym, ap, ◌∙◌}
 use Rattle.std.specs.Str.{bytes_eq}
 use Rattle.std.proofs.lemmas.Bool.{and_parts}
-use Rattle.sn_laws.specs.Each.{One}
 use Rattle.sn_laws.specs.Lookups.{Bytes, draft_at, is_draft}
 use Rattle.sn_laws.specs.declared.ideal.Draft.{Draft}
 use Rattle.sn_laws.specs.declared.ideal.Ideal.{Ideal}
-use Rattle.sn_laws.proofs.Facts.{found_passes, or_left, or_right, same_number, same_text, text_same}
-use Rattle.sn_report.specs.Labels.{Labels, is_labelled, items_of, label_from}
+use Rattle.sn_laws.proofs.Facts.{found_passes, same_text}
+use Rattle.sn_report.specs.Labels.{Labels}
 use Rattle.sn_report.specs.Showing.{draft_lines, latest_text}
-use Rattle.sn_row_map.specs.Ranges.{AreRowsOf, rows_behind, rows_of}
-use Rattle.sn_row_map.specs.RowMaps.{row_in}
-use Rattle.sn_row_map.specs.Steps.{GoesOn, IsFirst, IsNext}
-use Rattle.sn_row_map.specs.declared.row_map.RowMap.{RowMap}
-use Rattle.sn_rows.specs.Kinds.{key_kind}
-use Rattle.sn_rows.specs.declared.device_rows.LocalItem.{LocalItem}
-use Rattle.sn_rows.specs.declared.key.Key.{Key}
-use Rattle.sn_rows.specs.declared.key.Key.TheVariants as key
-use Rattle.sn_rows.specs.declared.kind.RowKind.TheVariants as kind
-use Rattle.sn_rows.specs.declared.value.Value.{Value}
-use Rattle.sn_rows.specs.declared.value.Value.TheVariants as value
-use Rattle.sn_shows.specs.Devices.{HasRow, ShowsDrafted}
+use Rattle.sn_rows.specs.Table.{Rows}
+use Rattle.sn_shows.specs.Devices.{HasRow}
 use Rattle.sn_string.specs.declared.params.KeySet.{KeySet}
-use Rattle.sn_shown.specs.Drafts.{AddsLine, ShowsDrafts, labelled_line, line_of, with_line}
-use Rattle.sn_shown.specs.Rows.{local_in}
-use Rattle.sn_shown.proofs.Finds.{never, one_found}
-use Rattle.sn_shown.proofs.LabelPlaces.{HasLabel, at_label, label_of, line_at, lines, one_label}
-use Rattle.sn_shown.proofs.LineOrder.{in_order, own_key, same_key}
-use Rattle.sn_shown.proofs.WalkLemmas.{PassedOrAhead, walk_begins, walk_ends, walk_goes_on}
+use Rattle.sn_shown.specs.Drafts.{ShowsDrafts, line_of}
+use Rattle.sn_shown.proofs.LabelPlaces.{lines}
 
--- a labelled line
+-- the line of an item's draft
+abbrev pub draft_of : Labels → Ideal → Bytes → Bytes → Option Bytes
+draft_of labels s name uuid = line_of labels name uuid (draft_at s name uuid)
 
-labelled_parts : (labels : Labels) (name uuid : Bytes) (found : Option Draft) (x : Bytes) → labelled_line labels name uuid found ≡ Some x
-    → (is_labelled labels uuid ≡ true) × (line_of labels name uuid found ≡ Some x)
-labelled_parts labels name uuid found x h = at (is_labelled labels uuid) refl h
+-- an item with one has a row
+pub draft_row : (rows : Rows) (labels : Labels) (set : KeySet) (s : Ideal) (name : Bytes) → ShowsDrafts rows set s name → (uuid x : Bytes)
+    → draft_of labels s name uuid ≡ Some x → HasRow rows uuid
+draft_row rows labels set s name shows uuid x h = at (draft_at s name uuid) refl h
   where
-    at : (b : Bool) → is_labelled labels uuid ≡ b → (if b then line_of labels name uuid found else None) ≡ Some x
-        → (is_labelled labels uuid ≡ true) × (line_of labels name uuid found ≡ Some x)
-    at true e k = (e, k)
-    at false e k = absurd (cc)
+    at : (found : Option Draft) → draft_at s name uuid ≡ found → line_of labels name uuid found ≡ Some x → HasRow rows uuid
+    at None e k = absurd (cc)
+    at (Some d) e k = shows.rows_of uuid d e
 
--- one of those that pass a test is one of all
-one_of_all : (P : Bytes → Type 0) (test : Bytes → Bool) (xs : List Bytes) → One P (filter test xs) → One P xs
-one_of_all P test [] one = one
-one_of_all P test (x ∷ xs) one = at (test x) (λ k. one_of_all P test xs k) one
+draft_parts : (s : Ideal) (name uuid : Bytes) (d : Draft) → draft_at s name uuid ≡ Some d → (d.device ≡ name) × (d.uuid ≡ uuid)
+draft_parts s name uuid d e =
+    let both = and_parts (bytes_eq d.device name) (bytes_eq d.uuid uuid) (found_passes (is_draft name uuid) s.drafts d e).0 in
+    (same_text d.device name both.0, same_text d.uuid uuid both.1)
+
+pub draft_line : (labels : Labels) (s : Ideal) (name uuid : Bytes) → lines (draft_of labels s name uuid) ≡ draft_lines labels (draft_at s name uuid)
+draft_line labels s name uuid = at (draft_at s name uuid) refl
   where
-    at : (b : Bool) → (One P (filter test xs) → One P xs) → One P (cond b (x ∷ filter test xs) (filter test xs)) → P x ⊎ One P xs
-    at true later (inl e) = inl e
-    at true later (inr k) = inr (later k)
-    at false later k = inr (later k)
-
-labelled_one : (ls : Labels) (u : Bytes) → One (λ (l : Bytes). l ≡ u) (items_of ls) → is_labelled ls u ≡ true
-labelled_one [] u one = absurd one
-labelled_one (l ∷ ls) u one =
-    ⊎_elim
-    (λ (e : l ≡ u). or_left (bytes_eq l u) (is_labelled ls u) (text_same l u e))
-    (λ (later : One (λ (x : Bytes). x ≡ u) (filter (λ other. not (bytes_eq l other)) (items_of ls))).
-    or_right (bytes_eq l u) (is_labelled ls u)
-    (labelled_one ls u (one_of_all (λ (x : Bytes). x ≡ u) (λ other. not (bytes_eq l other)) (items_of ls) later)))
-    one
-
--- a line is that of an item with a draft
-pub record IsLineAt (labels : Labels) (s : Ideal) (name : Bytes) (q : ℕ) (line : Bytes) : Type 0 where
-  pub uuid : Bytes
-  pub line_is : labelled_line labels name uuid (draft_at s name uuid) ≡ Some line
-  pub at : q ≡ label_from 1 labels uuid
-
--- the row's draft has its line there
-abbrev pub HasLine : Labels → Ideal → Bytes → BTreeMap ℕ Bytes → Key → Value → Type 0
-HasLine labels s name m k v = (n : ℕ) (item : LocalItem) (line : Bytes) → k ≡ key.Local n → v ≡ value.Local item
-    → labelled_line labels name item.uuid (draft_at s name item.uuid) ≡ Some line → get nat_cmp m (label_from 1 labels item.uuid) ≡ Some line
-
--- the row that a walk found stands in the map
-abbrev pub Stands : RowMap → Option (Key × Value) → Type 0
-Stands map found = (k : Key) (v : Value) → found ≡ Some (k, v) → (key_kind k ≡ kind.Local) × (row_in map k ≡ Some v)
-
--- the lines of the rows up to this one
-pub record IsGathered (map : RowMap) (labels : Labels) (s : Ideal) (name : Bytes) (m : BTreeMap ℕ Bytes) (found : Option (Key × Value)) : Type 0 where
-  pub ordered : IsOrdered nat_cmp m
-  pub there : PassedOrAhead (HasLine labels s name m) map kind.Local found
-  pub only : (q : ℕ) (line : Bytes) → get nat_cmp m q ≡ Some line → IsLineAt labels s name q line
-  pub stands : Stands map found
-
-pub first_stands : (map : RowMap) (found : Option (Key × Value)) → IsFirst map kind.Local found → Stands map found
-first_stands map None first k v e = absurd (cc)
-first_stands map (Some row) first k v e =
-    let same : row ≡ (k, v) = cc in (
-      ap (λ (r : Key × Value). key_kind r.0) (sym same) ∙ first.passes,
-      ap (λ (r : Key × Value). row_in map r.0) (sym same) ∙ first.stands ∙ ap (λ (r : Key × Value). Some r.1) same,
-    )
-
-pub next_stands : (map : RowMap) (before : Key) (found : Option (Key × Value)) → key_kind before ≡ kind.Local → IsNext map before found → Stands map found
-next_stands map before None of next k v e = absurd (cc)
-next_stands map before (Some row) of next k v e =
-    let same : row ≡ (k, v) = cc in (
-      ap (λ (r : Key × Value). key_kind r.0) (sym same) ∙ next.passes.0 ∙ of,
-      ap (λ (r : Key × Value). row_in map r.0) (sym same) ∙ next.stands ∙ ap (λ (r : Key × Value). Some r.1) same,
-    )
-
-pub none_gathered : (map : RowMap) (labels : Labels) (s : Ideal) (name : Bytes) (m : BTreeMap ℕ Bytes) (found : Option (Key × Value))
-    → IsEmpty m → IsOrdered nat_cmp m → GoesOn map (rows_of map kind.Local) found → IsFirst map kind.Local found → IsGathered map labels s name m found
-none_gathered map labels s name m found empty ordered goes first =
-    record {
-      ordered = ordered;
-      there = walk_begins (HasLine labels s name m) map kind.Local found goes;
-      only = λ q line e. never (get nat_cmp m q) line e (ap (λ es. lookup (is_at (nat_cmp q)) es) empty);
-      stands = first_stands map found first;
-    }
-
--- the key of a local row
-local_key : (k : Key) → key_kind k ≡ kind.Local → (n : ℕ) × (k ≡ key.Local n)
-local_key key.Store e = absurd (cc)
-local_key (key.Account n) e = absurd (cc)
-local_key (key.Generation n g) e = absurd (cc)
-local_key (key.Item u) e = absurd (cc)
-local_key key.Owner e = absurd (cc)
-local_key (key.Set slot) e = absurd (cc)
-local_key (key.Local n) e = (n, refl)
-
-pub local_or_not : (A : Type 0) (v : Value) → ((item : LocalItem) → v ≡ value.Local item → A) → (local_in (Some v) ≡ None → A) → A
-local_or_not A (value.Local item) own other = own item refl
-local_or_not A (value.Store row) own other = other refl
-local_or_not A (value.Account row) own other = other refl
-local_or_not A (value.Generation row) own other = other refl
-local_or_not A (value.Item row) own other = other refl
-local_or_not A (value.Owner row) own other = other refl
-local_or_not A (value.Set row) own other = other refl
-
-module _ (map : RowMap) (labels : Labels) (set : KeySet) (s : Ideal) (name : Bytes) (shows : ShowsDrafts (row_in map) set s name) where
-  abbrev line : Bytes → Option Bytes
-  line uuid = labelled_line labels name uuid (draft_at s name uuid)
-
-  -- an item with a line has a draft
-  drafted : (uuid : Bytes) (x : Bytes) → line uuid ≡ Some x → (d : Draft) × (draft_at s name uuid ≡ Some d)
-  drafted uuid x h = at (draft_at s name uuid) refl (labelled_parts labels name uuid (draft_at s name uuid) x h).1
-    where
-      at : (found : Option Draft) → draft_at s name uuid ≡ found → line_of labels name uuid found ≡ Some x → (d : Draft) × (draft_at s name uuid ≡ Some d)
-      at None e k = absurd (cc)
-      at (Some d) e k = (d, e)
-
-  has_label : (uuid : Bytes) (x : Bytes) → line uuid ≡ Some x → is_labelled labels uuid ≡ true
-  has_label uuid x h = (labelled_parts labels name uuid (draft_at s name uuid) x h).0
-
-  -- the row of the walk shows its draft
-  pub row_shows : (k : Key) (v : Value) (item : LocalItem) → key_kind k ≡ kind.Local → row_in map k ≡ Some v → v ≡ value.Local item
-      → ShowsDrafted shows.sets shows.number item (draft_at s name item.uuid)
-  row_shows k v item of stands is =
-      let local = local_key k of in
-      shows.shown local.0 item (ap (row_in map) (sym local.1) ∙ stands ∙ ap (λ (x : Value). Some x) is)
-
-  module _ (k : Key) (v : Value) (found next : Option (Key × Value)) (m after : BTreeMap ℕ Bytes) (gathered : IsGathered map labels s name m found)
-      (found_is : found ≡ Some (k, v)) (goes : GoesOn map (rows_behind map k) next) (next_is : IsNext map k next) where
-    next_row : Stands map next
-    next_row = next_stands map k next (gathered.stands k v found_is).0 next_is
-
-    -- a row without an item
-    pub skip_row : local_in (Some v) ≡ None → after ≡ m → IsGathered map labels s name after next
-    skip_row none same =
-        subst (λ (x : BTreeMap ℕ Bytes). IsGathered map labels s name x next) (sym same)
-        (record {
-          ordered = gathered.ordered;
-          there = walk_goes_on (HasLine labels s name m) (HasLine labels s name m) map kind.Local k v found next (λ a b h. h) gathered.there found_is here goes;
-          only = gathered.only;
-          stands = next_row;
-        })
-      where
-        here : HasLine labels s name m k v
-        here n item x k_is v_is h = never (local_in (Some v)) item (ap (λ (w : Value). local_in (Some w)) v_is) none
-
-    -- a row with one
-    module _ (own : LocalItem) (is : v ≡ value.Local own) (adds : AddsLine m after (label_from 1 labels own.uuid) (line own.uuid)) where
-      added : (q : ℕ) (found_line : Option Bytes) → line own.uuid ≡ found_line
-          → get nat_cmp after q ≡ with_line (get nat_cmp m) (label_from 1 labels own.uuid) found_line q
-      added q found_line e =
-          subst (λ (o : Option Bytes). get nat_cmp after q ≡ with_line (get nat_cmp m) (label_from 1 labels own.uuid) o q) e (adds.found q)
-
-      own_there : (x : Bytes) → line own.uuid ≡ Some x → get nat_cmp after (label_from 1 labels own.uuid) ≡ Some x
-      own_there x e =
-          added (label_from 1 labels own.uuid) (Some x) e
-          ∙ ap (λ (b : Bool). cond b (Some x) (get nat_cmp m (label_from 1 labels own.uuid))) (own_key (label_from 1 labels own.uuid) (label_from 1 labels own.uuid) refl)
-
-      -- what was there stays
-      stays : (uuid : Bytes) (x : Bytes) → line uuid ≡ Some x → get nat_cmp m (label_from 1 labels uuid) ≡ Some x
-          → get nat_cmp after (label_from 1 labels uuid) ≡ Some x
-      stays uuid x line_is was = at (line own.uuid) refl
-        where
-          other : (y : Bytes) → line own.uuid ≡ Some y → (b : Bool) → (label_from 1 labels own.uuid == label_from 1 labels uuid) ≡ b
-              → get nat_cmp after (label_from 1 labels uuid) ≡ Some x
-          other y e true h =
-              let labels_same : label_from 1 labels own.uuid ≡ label_from 1 labels uuid = same_number (label_from 1 labels own.uuid) (label_from 1 labels uuid) h in
-              let same : own.uuid ≡ uuid = one_label 1 labels own.uuid uuid (has_label own.uuid y e) (has_label uuid x line_is) labels_same in
-              ap (λ (u : Bytes). get nat_cmp after (label_from 1 labels u)) (sym same) ∙ own_there x (ap line same ∙ line_is)
-          other y e false h =
-              added (label_from 1 labels uuid) (Some y) e
-              ∙ ap (λ (b : Bool). cond b (Some y) (get nat_cmp m (label_from 1 labels uuid))) (same_key (label_from 1 labels own.uuid) (label_from 1 labels uuid) ∙ h)
-              ∙ was
-
-          at : (found_line : Option Bytes) → line own.uuid ≡ found_line → get nat_cmp after (label_from 1 labels uuid) ≡ Some x
-          at None e = added (label_from 1 labels uuid) None e ∙ was
-          at (Some y) e = other y e (label_from 1 labels own.uuid == label_from 1 labels uuid) refl
-
-      only : (q : ℕ) (x : Bytes) → get nat_cmp after q ≡ Some x → IsLineAt labels s name q x
-      only q x got = at (line own.uuid) refl
-        where
-          chosen : (y : Bytes) → line own.uuid ≡ Some y → (b : Bool) → (label_from 1 labels own.uuid == q) ≡ b → IsLineAt labels s name q x
-          chosen y e true h =
-              let new : get nat_cmp after q ≡ Some y =
-              added q (Some y) e ∙ ap (λ (b : Bool). cond b (Some y) (get nat_cmp m q)) (same_key (label_from 1 labels own.uuid) q ∙ h) in
-              let same : y ≡ x = one_found (get nat_cmp after q) y x new got in
-              record { uuid = own.uuid; line_is = e ∙ ap (λ (z : Bytes). Some z) same; at = sym (same_number (label_from 1 labels own.uuid) q h) }
-          chosen y e false h =
-              let old : get nat_cmp after q ≡ get nat_cmp m q =
-              added q (Some y) e ∙ ap (λ (b : Bool). cond b (Some y) (get nat_cmp m q)) (same_key (label_from 1 labels own.uuid) q ∙ h) in
-              gathered.only q x (sym old ∙ got)
-
-          at : (found_line : Option Bytes) → line own.uuid ≡ found_line → IsLineAt labels s name q x
-          at None e = gathered.only q x (sym (added q None e) ∙ got)
-          at (Some y) e = chosen y e (label_from 1 labels own.uuid == q) refl
-
-      here : HasLine labels s name after k v
-      here n item x k_is v_is h =
-          let values_same : value.Local own ≡ value.Local item = sym is ∙ v_is in
-          let same : own ≡ item = cc in
-          ap (λ (i : LocalItem). get nat_cmp after (label_from 1 labels i.uuid)) (sym same) ∙ own_there x (ap (λ (i : LocalItem). line i.uuid) same ∙ h)
-
-      pub add_row : IsGathered map labels s name after next
-      add_row =
-          record {
-            ordered = adds.ordered gathered.ordered;
-            there =
-                walk_goes_on (HasLine labels s name m) (HasLine labels s name after) map kind.Local k v found next
-                (λ a b h n item x a_is b_is line_is. stays item.uuid x line_is (h n item x a_is b_is line_is)) gathered.there found_is here goes;
-            only = only;
-            stands = next_row;
-          }
-
-  -- all rows
-
-  module _ (m : BTreeMap ℕ Bytes) (found : Option (Key × Value)) (gathered : IsGathered map labels s name m found)
-      (are : AreRowsOf map kind.Local (rows_of map kind.Local)) (end : found ≡ None) where
-    found_all : (q : ℕ) → get nat_cmp m q ≡ line_at line 1 labels q
-    found_all q = at (get nat_cmp m q) refl
-      where
-        at_none : get nat_cmp m q ≡ None → (o : Option Bytes) → line_at line 1 labels q ≡ o → get nat_cmp m q ≡ o
-        at_none none None e = none
-        at_none none (Some x) e =
-            let has : HasLabel line 1 labels q x = label_of line 1 labels q x e in
-            let d = drafted has.uuid x has.line_is in
-            let row : HasRow (row_in map) has.uuid = shows.rows_of has.uuid d.0 d.1 in
-            let passed : HasLine labels s name m (key.Local row.number) (value.Local row.item) =
-            walk_ends (HasLine labels s name m) map kind.Local found gathered.there are end (key.Local row.number) (value.Local row.item) refl row.stands in
-            let got : get nat_cmp m (label_from 1 labels row.item.uuid) ≡ Some x =
-            passed row.number row.item x refl refl (ap line row.item_is ∙ has.line_is) in
-            let at_q : label_from 1 labels row.item.uuid ≡ q = ap (label_from 1 labels) row.item_is ∙ has.at in
-            never (get nat_cmp m q) x (ap (get nat_cmp m) (sym at_q) ∙ got) none
-
-        at : (found_line : Option Bytes) → get nat_cmp m q ≡ found_line → get nat_cmp m q ≡ line_at line 1 labels q
-        at None e = at_none e (line_at line 1 labels q) refl
-        at (Some x) e =
-            let own : IsLineAt labels s name q x = gathered.only q x e in
-            e ∙ sym (ap (line_at line 1 labels) own.at ∙ at_label line 1 labels own.uuid (has_label own.uuid x own.line_is) ∙ own.line_is)
-
-    draft_parts : (uuid : Bytes) (d : Draft) → draft_at s name uuid ≡ Some d → (d.device ≡ name) × (d.uuid ≡ uuid)
-    draft_parts uuid d e =
-        let both = and_parts (bytes_eq d.device name) (bytes_eq d.uuid uuid) (found_passes (is_draft name uuid) s.drafts d e).0 in
-        (same_text d.device name both.0, same_text d.uuid uuid both.1)
-
-    same_line : (uuid : Bytes) → is_labelled labels uuid ≡ true → lines (line uuid) ≡ draft_lines labels (draft_at s name uuid)
-    same_line uuid labelled =
-        ap (λ (b : Bool). lines (if b then line_of labels name uuid (draft_at s name uuid) else None)) labelled ∙ at (draft_at s name uuid) refl
-      where
-        at : (found_draft : Option Draft) → draft_at s name uuid ≡ found_draft → lines (line_of labels name uuid found_draft) ≡ draft_lines labels found_draft
-        at None e = refl
-        at (Some d) e =
-            let parts = draft_parts uuid d e in
-            ap (λ (n : Bytes). latest_text labels n uuid d.latest ∷ []) (sym parts.0) ∙ ap (λ (u : Bytes). latest_text labels d.device u d.latest ∷ []) (sym parts.1)
-
-    each_same : (ls : List Bytes) → ((u : Bytes) → One (λ (l : Bytes). l ≡ u) ls → is_labelled labels u ≡ true)
-        → flat_map (λ u. lines (line u)) ls ≡ flat_map (λ u. draft_lines labels (draft_at s name u)) ls
-    each_same [] all = refl
-    each_same (l ∷ ls) all =
-        ap (λ (xs : List Bytes). xs ++ flat_map (λ u. lines (line u)) ls) (same_line l (all l (inl refl)))
-        ∙ ap (λ (xs : List Bytes). draft_lines labels (draft_at s name l) ++ xs) (each_same ls (λ u one. all u (inr one)))
-
-    pub all_gathered : values m ≡ flat_map (λ uuid. draft_lines labels (draft_at s name uuid)) (items_of labels)
-    all_gathered = in_order line 1 labels m.entries (gathered.ordered, found_all) ∙ each_same (items_of labels) (labelled_one labels)
+    at : (found : Option Draft) → draft_at s name uuid ≡ found → lines (line_of labels name uuid found) ≡ draft_lines labels found
+    at None e = refl
+    at (Some d) e =
+        let parts = draft_parts s name uuid d e in
+        ap (λ (n : Bytes). latest_text labels n uuid d.latest ∷ []) (sym parts.0) ∙ ap (λ (u : Bytes). latest_text labels d.device u d.latest ∷ []) (sym parts.1)

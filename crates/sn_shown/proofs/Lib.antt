@@ -1,5 +1,8 @@
 pub mod AccountLines
 pub mod BodyLemmas
+pub mod ClosedGathered
+pub mod ClosedItems
+pub mod ClosedRows
 pub mod DeviceLines
 pub mod DraftsGathered
 pub mod Finds
@@ -7,11 +10,11 @@ pub mod HoldingLemmas
 pub mod LabelPlaces
 pub mod LawLemmas
 pub mod LineOrder
+pub mod LinesGathered
 pub mod NumberLemmas
 pub mod OpenedDrafts
 pub mod OpenedItems
 pub mod PlaceLemmas
+pub mod RowSearch
 pub mod SetLemmas
-pub mod VersionsHeld
-pub mod VersionsHeldBy
 pub mod WalkLemmas

@@ -1,11 +1,9 @@
--- The drafts that a device's rows show, and their lines by label.
-use Rattle.std.specs.Prelude.{◌≡◌, ℕ, List, cond, if◌then◌else◌, Option, Some, None}
-use Rattle.std.specs.BTreeMap.{BTreeMap, IsOrdered, get, is_at}
-use Rattle.std.specs.Ordering.{nat_cmp}
+-- The drafts that a device's rows show, and their lines.
+use Rattle.std.specs.Prelude.{◌≡◌, ℕ, List, Option, Some, None}
 use Rattle.sn_laws.specs.Lookups.{Bytes, draft_at}
 use Rattle.sn_laws.specs.declared.ideal.Draft.{Draft}
 use Rattle.sn_laws.specs.declared.ideal.Ideal.{Ideal}
-use Rattle.sn_report.specs.Labels.{Labels, is_labelled}
+use Rattle.sn_report.specs.Labels.{Labels}
 use Rattle.sn_report.specs.Showing.{latest_text}
 use Rattle.sn_rows.specs.Table.{Rows}
 use Rattle.sn_rows.specs.declared.device_rows.LocalItem.{LocalItem}
@@ -27,16 +25,3 @@ pub record ShowsDrafts (rows : Rows) (set : KeySet) (s : Ideal) (name : Bytes) :
 abbrev pub line_of : Labels → Bytes → Bytes → Option Draft → Option Bytes
 line_of labels name uuid None = None
 line_of labels name uuid (Some d) = Some (latest_text labels name uuid d.latest)
-
--- and a label
-abbrev pub labelled_line : Labels → Bytes → Bytes → Option Draft → Option Bytes
-labelled_line labels name uuid draft = if is_labelled labels uuid then line_of labels name uuid draft else None
-
--- lines by label, with one more or as they were
-abbrev pub with_line : (ℕ → Option Bytes) → ℕ → Option Bytes → ℕ → Option Bytes
-with_line found label None q = found q
-with_line found label (Some line) q = cond (is_at (nat_cmp label) q) (Some line) (found q)
-
-pub record AddsLine (before after : BTreeMap ℕ Bytes) (label : ℕ) (line : Option Bytes) : Type 0 where
-  pub ordered : IsOrdered nat_cmp before → IsOrdered nat_cmp after
-  pub found : (q : ℕ) → get nat_cmp after q ≡ with_line (get nat_cmp before) label line q

@@ -1,6 +1,7 @@
+pub mod ByLabel
+pub mod Closed
 pub mod Drafts
 pub mod Held
-pub mod HeldLaws
 pub mod Laws
 pub mod Lines
 pub mod Rows

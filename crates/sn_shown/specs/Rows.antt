@@ -4,6 +4,9 @@ use Rattle.sn_items.specs.declared.sealed.Sealed.{Sealed}
 use Rattle.sn_row_map.specs.RowMaps.{row_in}
 use Rattle.sn_row_map.specs.declared.row_map.RowMap.{RowMap}
 use Rattle.sn_rows.specs.Table.{Rows}
+use Rattle.sn_rows.specs.declared.body.RowBody.{RowBody}
+use Rattle.sn_rows.specs.declared.body.RowBody.TheVariants as body
+use Rattle.sn_rows.specs.declared.body.RowStrings.{RowStrings}
 use Rattle.sn_rows.specs.declared.device_rows.LocalItem.{LocalItem}
 use Rattle.sn_rows.specs.declared.device_rows.OwnerRow.{OwnerRow}
 use Rattle.sn_rows.specs.declared.device_rows.SetRow.{SetRow}
@@ -55,3 +58,8 @@ last_set_in (Some row) = row.generation
 -- the two strings of a server's row
 abbrev pub sealed_in : ItemRow → Sealed
 sealed_in row = record { content = row.content; enc = row.enc }
+
+-- the two strings of what a device's row has; none of a deletion
+abbrev pub strings_in : Option RowBody → Option RowStrings
+strings_in (Some (body.Sealed strings)) = Some strings
+strings_in found = None

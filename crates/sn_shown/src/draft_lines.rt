@@ -15,9 +15,11 @@ ghost use Rattle.sn_rows.specs.declared.value.Value.TheVariants as value;
 ghost use Rattle.sn_shows.specs.Devices.{ShowsContent, ShowsDrafted};
 ghost use Rattle.sn_shows.specs.Sets.{set_at};
 ghost use Rattle.sn_string.specs.declared.params.KeySet.{KeySet};
-ghost use Rattle.sn_shown.specs.Drafts.{AddsLine, ShowsDrafts, labelled_line};
+ghost use Rattle.sn_shown.specs.ByLabel.{AddsLine, labelled_line};
+ghost use Rattle.sn_shown.specs.Drafts.{ShowsDrafts, line_of};
 ghost use Rattle.sn_shown.specs.Rows.{local_in};
 
+use crate::by_label::add_values;
 use crate::opening::opened;
 use sn_laws::Content;
 use sn_report::{Labels, draft_line};
@@ -75,7 +77,7 @@ fn add_row(
 ) -> Result<(), AllocError>
     ensures item { (item : LocalItem) (sets : List KeySet) (number : ℕ) (draft : Option Draft) → row.now ≡ value.Local item
         → set_at number sets ≡ Some set.now → ShowsDrafted sets number item draft
-        → OnOk result (AddsLine drafts.old drafts.new (label_from 1 labels.now item.uuid) (labelled_line labels.now name.now item.uuid draft)) }
+        → OnOk result (AddsLine drafts.old drafts.new (label_from 1 labels.now item.uuid) (labelled_line labels.now item.uuid (line_of labels.now name.now item.uuid draft))) }
     ensures other { local_in (Some row.now) ≡ None → drafts.new ≡ drafts.old }
 {
     match row {
@@ -94,7 +96,7 @@ fn add_draft(
     name: &str,
 ) -> Result<(), AllocError>
     ensures { (sets : List KeySet) (number : ℕ) (draft : Option Draft) → set_at number sets ≡ Some set.now → ShowsDrafted sets number item.now draft
-        → OnOk result (AddsLine drafts.old drafts.new (label_from 1 labels.now item.now.uuid) (labelled_line labels.now name.now item.now.uuid draft)) }
+        → OnOk result (AddsLine drafts.old drafts.new (label_from 1 labels.now item.now.uuid) (labelled_line labels.now item.now.uuid (line_of labels.now name.now item.now.uuid draft))) }
 {
     let Some(latest) = &item.latest else {
         return Ok(());
@@ -133,14 +135,4 @@ fn content_of(
             None => Ok(None),
         },
     }
-}
-
-// Adds the lines in order of label.
-fn add_values(lines: &mut Many<Text>, mut drafts: BTreeMap<u64, Text>) -> Result<(), AllocError>
-    ensures { OnOk result (lines.new ≡ lines.old ++ values drafts) }
-{
-    'lines: while let Some((_, line)) = drafts.pop_first() {
-        lines.push(line)?;
-    }
-    Ok(())
 }

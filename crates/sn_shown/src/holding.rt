@@ -1,14 +1,15 @@
 //! What a device holds, from its rows.
 
-ghost use Rattle.std.specs.Prelude.{◌≡◌, List, Some, IfOk};
+ghost use Rattle.std.specs.Prelude.{◌≡◌, ◌↔◌, List, Some, IfOk, IsTrue};
 ghost use Rattle.std.specs.Option.{option_copied};
+ghost use Rattle.sn_laws.specs.Each.{One};
 ghost use Rattle.sn_laws.specs.Lookups.{Bytes};
 ghost use Rattle.sn_laws.specs.declared.ideal.Account.{Account};
 ghost use Rattle.sn_laws.specs.declared.ideal.Ideal.{Ideal};
 ghost use Rattle.sn_row_map.specs.RowMaps.{row_in};
 ghost use Rattle.sn_shows.specs.Devices.{ShowsDevice};
 ghost use Rattle.sn_shows.specs.Servers.{account_at};
-ghost use Rattle.sn_shown.specs.Held.{AreNumbers, IsHoldingOf, IsOfSlot, IsSetOf, numbers_of};
+ghost use Rattle.sn_shown.specs.Held.{AreNumbers, IsHoldingOf, IsOfSlot, IsSetOf, number_of, numbers_of};
 ghost use Rattle.sn_shown.specs.Shown.{IsRegular};
 
 use crate::numbers::Numbers;
@@ -45,6 +46,25 @@ impl Holding {
         }
         numbers.push(self.present.number)?;
         Ok(numbers)
+    }
+
+    /// Whether it holds the set of this number.
+    pub(crate) fn holds(&self, number: u64) -> bool
+        ensures { IsTrue result ↔ One (λ n. n ≡ number) (numbers_of self.now) }
+    {
+        if self.holds_older(number) {
+            return true;
+        }
+        self.present.number == number
+    }
+
+    fn holds_older(&self, number: u64) -> bool
+        ensures { IsTrue result ↔ One (λ n. n ≡ number) (number_of self.now.older) }
+    {
+        match &self.older {
+            Some(older) => older.number == number,
+            None => false,
+        }
     }
 }
 

@@ -2,11 +2,12 @@
 #![tactic(auto)]
 
 mod account_lines;
+mod by_label;
+mod closed_lines;
 mod device_lines;
 mod draft_lines;
 pub mod ends;
 mod held;
-pub mod held_laws;
 mod holding;
 mod item_lines;
 pub mod laws;

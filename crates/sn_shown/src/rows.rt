@@ -4,10 +4,12 @@ ghost use Rattle.std.specs.Prelude.{◌≡◌};
 ghost use Rattle.std.specs.Option.{option_copied};
 ghost use Rattle.sn_row_map.specs.RowMaps.{row_in};
 ghost use Rattle.sn_rows.specs.declared.key.Key.TheVariants as key;
-ghost use Rattle.sn_shown.specs.Rows.{account_in, count_in, generation_in, item_in, owner_in, set_in};
+ghost use Rattle.sn_shown.specs.Rows.{account_in, count_in, generation_in, item_in, owner_in, set_in, strings_in};
 
 use sn_row_map::RowMap;
-use sn_rows::{AccountRow, GenerationRow, ItemRow, Key, OwnerRow, SetRow, Slot, Value};
+use sn_rows::{
+    AccountRow, GenerationRow, ItemRow, Key, OwnerRow, RowBody, RowStrings, SetRow, Slot, Value,
+};
 use uuid::Uuid;
 
 /// How many accounts the store's row counts; none before it stands.
@@ -66,6 +68,16 @@ pub(crate) fn set_row(rows: &RowMap, slot: Slot) -> Option<&SetRow>
 {
     match rows.get(&Key::Set(slot)) {
         Some(Value::Set(row)) => Some(row.get()),
+        _ => None,
+    }
+}
+
+/// The two strings of what a device's row has; none of a deletion.
+pub(crate) fn strings_of(body: &Option<RowBody>) -> Option<&RowStrings>
+    ensures { option_copied result ≡ strings_in body.now }
+{
+    match body {
+        Some(RowBody::Sealed(strings)) => Some(strings),
         _ => None,
     }
 }

@@ -1,9 +1,11 @@
 //! What `show` prints.
 
-ghost use Rattle.std.specs.Prelude.{◌≡◌, IfOk};
+ghost use Rattle.std.specs.Prelude.{◌≡◌, ℕ, IfOk, Option};
+ghost use Rattle.sn_laws.specs.Lookups.{Bytes};
 ghost use Rattle.sn_laws.specs.declared.ideal.Ideal.{Ideal};
 ghost use Rattle.sn_report.specs.Showing.{show_lines};
 ghost use Rattle.sn_row_map.specs.RowMaps.{row_in};
+ghost use Rattle.sn_shown.specs.Closed.{AreClosed};
 ghost use Rattle.sn_shown.specs.Rows.{rows_in};
 ghost use Rattle.sn_shown.specs.Shown.{EndsShow};
 
@@ -19,8 +21,8 @@ use std::alloc::{AllocError, Global};
 
 /// The lines that show what both ends hold, from the server's rows and those of the devices of these
 /// names: each account, in the order in which they began, with its items in order of their least
-/// labels, and then each device, in the order of the names, with its drafts. Each string is opened
-/// once, also where an item has several labels.
+/// labels, and then each device, in the order of the names, with its drafts and behind them what is
+/// closed to it. Each string is opened once, also where an item has several labels.
 pub fn show<D: Devices>(
     alloc: Global,
     labels: &Labels,
@@ -29,7 +31,8 @@ pub fn show<D: Devices>(
     devices: &D,
 ) -> Result<Many<Text>, AllocError>
     ensures { (s : Ideal) → EndsShow (row_in server.now) (λ name. rows_in (D.rows_of devices.now name)) names.now s
-        → IfOk result (λ lines. lines ≡ show_lines labels.now names.now s) }
+        → IfOk result (λ lines. (closed : Bytes → Bytes → Option ℕ) × AreClosed (λ name. rows_in (D.rows_of devices.now name)) s closed
+        × (lines ≡ show_lines labels.now names.now s closed)) }
 {
     let numbers = Numbers::of_rows(alloc, server)?;
     let sets = held_sets(alloc, &numbers, names, devices)?;

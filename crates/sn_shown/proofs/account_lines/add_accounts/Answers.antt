@@ -1,4 +1,4 @@
-use Rattle.std.proofs.Common.{◌≡◌, ◌∙◌, List, take}
+use Rattle.std.proofs.Common.{◌∙◌, List, take}
 use Rattle.std.specs.List.{flat_map}
 use Rattle.sn_laws.specs.Lookups.{Bytes}
 use Rattle.sn_report.specs.Labels.{items_of}
