@@ -6,7 +6,7 @@ use Rattle.hex.proofs.HexLemmas.{length-encode_with}
 use Rattle.serde_json.specs.Data.{Data, Items, Members, array, member, no_members, number, string, unsigned}
 use Rattle.serde_json.specs.Written.{compact_text}
 use Rattle.sn_account.proofs.Facts.{IsSlim, item_size, length-items, length-member, length-quoted}
-use Rattle.sn_string.specs.Bounds.{IsIdentifier}
+use Rattle.sn_string.specs.Bounds.{IsCost, IsIdentifier, IsNonce}
 use Rattle.sn_string.specs.declared.params.Params.{Params}
 use Rattle.sn_sync.specs.Fits.{AreBytes}
 use Rattle.sn_sync.specs.Members.{Bytes}
@@ -16,7 +16,7 @@ use Rattle.sn_sync.specs.declared.item.Item.{Item}
 use Rattle.sn_sync.specs.declared.request.Request.TheVariants as request
 use Rattle.sn_readable.proofs.Tokens.{IsShortToken}
 
--- ---- registration and sign-in
+-- ---- registration, sign-in and a change of password
 
 length-hash : (bytes : Bytes) → AreBytes 32 bytes → length (compact_text (hash_data bytes)) ≤ 390
 length-hash bytes fits =
@@ -59,6 +59,28 @@ sign_in_short identifier pw text named fits (body, is, json) =
     let hash = length-hash pw fits in
     let long = length-quoted identifier in
     let short = named.1 in
+    let size = ap length json.compact ∙ ap (λ (x : Data). length (compact_text x)) is in
+    omega arith
+
+pub change_short : (token current pw : Bytes) (dear : ℕ) (nonce text : Bytes) → AreBytes 32 current → AreBytes 32 pw → IsCost dear → IsNonce nonce
+    → WritesRequest (request.ChangePw token current pw dear nonce) text → length text ≤ 8388608
+change_short token current pw dear nonce text was fits bounded drawn (body, is, json) =
+    let fifth : Members = member (codes "version") (string (codes "003")) no_members in
+    let fourth : Members = member (codes "pw_nonce") (string nonce) fifth in
+    let third : Members = member (codes "pw_cost") (number (unsigned dear)) fourth in
+    let second : Members = member (codes "new_password") (hash_data pw) third in
+    let a = length-member true (codes "version") (string (codes "003")) no_members in
+    let b = length-member true (codes "pw_nonce") (string nonce) fifth in
+    let c = length-member true (codes "pw_cost") (number (unsigned dear)) fourth in
+    let d = length-member true (codes "new_password") (hash_data pw) third in
+    let e = length-member false (codes "current_password") (hash_data current) second in
+    let last = length-quoted (codes "003") in
+    let hash = length-hash pw fits in
+    let before = length-hash current was in
+    let long = length-quoted nonce in
+    let short = drawn.1 in
+    let most = bounded.1 in
+    let cost = length-number 10 dear (omega arith) (omega arith) (omega arith) in
     let size = ap length json.compact ∙ ap (λ (x : Data). length (compact_text x)) is in
     omega arith
 

@@ -1,9 +1,8 @@
 -- Each request of a call is readable, where those before it were answered as the server answers.
-use Rattle.std.proofs.Common.{ℕ, List, refl, sym, subst, inl, inr, arith}
+use Rattle.std.proofs.Common.{ℕ, List, sym, subst, inl, inr}
 use Rattle.std.specs.Str.{IsUtf8}
 use Rattle.rand_chacha.specs.ChaCha.{ChaCha}
-use Rattle.sn_client.specs.Laws.{StepsStaySound}
-use Rattle.sn_client.specs.Runs.{Act, AsksAccount, AsksFirst, AsksParams, Call, CommitsOnce, DeletesItem, Given, GivesText, Halt, KeepsAccount, ListsItems, PutsItem, Run, RunsRegister, RunsSignIn, SignsInAgain, SignsInBy, SignsInUnder, SignsInWith, SyncsItems, WithAccount, WithContent, WithItem, a_uuid, content, delete, edit, list, nothing, passwd, put, register, sign_in, sync}
+use Rattle.sn_client.specs.Runs.{Act, AsksAccount, AsksFirst, AsksParams, Call, ChangesPassword, CommitsOnce, DeletesItem, Given, GivesText, Halt, KeepsAccount, ListsItems, PutsItem, Run, RunsRegister, RunsSignIn, SignsInAgain, SignsInBy, SignsInUnder, SignsInWith, SyncsItems, WithAccount, WithContent, WithItem, a_uuid, content, delete, edit, list, nothing, passwd, put, register, sign_in, sync}
 use Rattle.sn_client.specs.States.{Bytes, HasSets}
 use Rattle.sn_client.specs.Steps.{What, adopts, begins, deletes, edits, puts, renews}
 use Rattle.sn_link.specs.Laws.{IsReadable, ReadableWithin}
@@ -17,33 +16,18 @@ use Rattle.sn_sync.specs.Fits.{AreBytes}
 use Rattle.sn_sync.specs.declared.answer.Answer.{Answer}
 use Rattle.sn_sync.specs.declared.request.Request.{Request}
 use Rattle.sn_sync.specs.declared.request.Request.TheVariants as request
-use Rattle.sn_world.proofs.Facts.{password_fits, unasked}
-use Rattle.sn_world.specs.Delivered.{KeepsPassword}
-use Rattle.sn_world.specs.Fitting.{FitsCall, StepsFitUuids}
-use Rattle.sn_readable.proofs.Bodies.{register_short, sign_in_short}
+use Rattle.sn_world.proofs.Facts.{password_fits}
+use Rattle.sn_world.specs.Fitting.{FitsCall, StepsFit}
+use Rattle.sn_readable.proofs.Changes.{changes_readable, syncs_readable}
+use Rattle.sn_readable.proofs.Pieces.{AreReadableAnyhow, asked_readable, none_readable}
 use Rattle.sn_readable.proofs.Ready.{IsReady}
-use Rattle.sn_readable.proofs.Syncs.{AreReadableAnyhow, asked_readable, none_readable, syncs_readable}
+use Rattle.sn_readable.proofs.Requests.{params_readable, register_readable, sign_in_readable}
 use Rattle.sn_readable.proofs.Tokens.{below_are_short}
 use Rattle.sn_readable.specs.Laws.{IsHostName, RunsReadable}
 
 module _ (within : ReadableWithin) (host : Bytes) (named : IsHostName host) where
   abbrev Good : List Act → Type 0
   Good acts = AreReadableAnyhow host acts
-
-  -- ---- the requests of registration and sign-in
-
-  register_readable : (params : Params) (pw : Bytes) → AreBytes 32 pw → IsReadable host (request.Register params pw)
-  register_readable params pw fits =
-      within host (request.Register params pw) fits named.0 named.1 (inl refl) (λ text writes. register_short params pw text fits writes)
-
-  params_readable : (identifier : Bytes) → IsIdentifier identifier → IsUtf8 identifier → IsReadable host (request.Params identifier)
-  params_readable identifier long utf8 =
-      within host (request.Params identifier) (long, utf8) named.0 named.1 (inl refl) (λ text writes. omega arith)
-
-  sign_in_readable : (identifier pw : Bytes) → IsIdentifier identifier → AreBytes 32 pw → IsReadable host (request.SignIn identifier pw)
-  sign_in_readable identifier pw long fits =
-      within host (request.SignIn identifier pw) (long, fits) named.0 named.1 (inl refl)
-      (λ text writes. sign_in_short identifier pw text long fits writes)
 
   -- ---- one commit, or one request
 
@@ -92,23 +76,25 @@ module _ (within : ReadableWithin) (host : Bytes) (named : IsHostName host) wher
   registers_readable least identifier password cost rows words acts halt (inr (none, inl (bad, refuses))) = none_readable host acts refuses.0
   registers_readable least identifier password cost rows words acts halt (inr (none, inr (good, (set, left, new, asks)))) =
       owner_readable rows left (request.Register set.params set.pw) (begins set) acts halt
-      (register_readable set.params set.pw (password_fits password set.params set new.keys)) asks
+      (register_readable within host named set.params set.pw (password_fits password set.params set new.keys)) asks
 
   module _ (identifier : Bytes) (long : IsIdentifier identifier) (utf8 : IsUtf8 identifier) where
     again_readable : (set : KeySet) → AreBytes 32 set.pw → (rows : Rows) (words : ChaCha) (sets : Sets) (acts : List Act) (halt : Halt)
         → SignsInAgain rows words identifier sets set acts halt → Good acts
     again_readable set pw rows words sets acts halt (inl (same, differs, refuses)) = none_readable host acts refuses.0
     again_readable set pw rows words sets acts halt (inr (inl (same, asks))) =
-        owner_readable rows words (request.SignIn identifier set.pw) (λ uuid token. renews token) acts halt (sign_in_readable identifier set.pw long pw) asks
+        owner_readable rows words (request.SignIn identifier set.pw) (λ uuid token. renews token) acts halt
+        (sign_in_readable within host named identifier set.pw (long, pw)) asks
     again_readable set pw rows words sets acts halt (inr (inr (other, inl (older, refuses)))) = none_readable host acts refuses.0
     again_readable set pw rows words sets acts halt (inr (inr (other, inr (not, asks)))) =
         owner_readable rows words (request.SignIn identifier set.pw) (λ uuid token. adopts set token) acts halt
-        (sign_in_readable identifier set.pw long pw) asks
+        (sign_in_readable within host named identifier set.pw (long, pw)) asks
 
     with_readable : (set : KeySet) → AreBytes 32 set.pw → (rows : Rows) (words : ChaCha) (acts : List Act) (halt : Halt)
         → SignsInWith rows words identifier set acts halt → Good acts
     with_readable set pw rows words acts halt (inl (none, asks)) =
-        owner_readable rows words (request.SignIn identifier set.pw) (begins set) acts halt (sign_in_readable identifier set.pw long pw) asks
+        owner_readable rows words (request.SignIn identifier set.pw) (begins set) acts halt
+        (sign_in_readable within host named identifier set.pw (long, pw)) asks
     with_readable set pw rows words acts halt (inr (owner, sets, holds, again)) = again_readable set pw rows words sets acts halt again
 
     signed_readable : (least : ℕ) (rows : Rows) (words : ChaCha) (password : Bytes) (params : Params) (acts : List Act) (halt : Halt)
@@ -121,7 +107,8 @@ module _ (within : ReadableWithin) (host : Bytes) (named : IsHostName host) wher
     told_readable : (least : ℕ) (rows : Rows) (words : ChaCha) (password : Bytes) (acts : List Act) (halt : Halt)
         → AsksParams least rows words identifier password acts halt → Good acts
     told_readable least rows words password acts halt asks =
-        ask_readable (request.Params identifier) (SignsInBy least rows words identifier password) acts halt (params_readable identifier long utf8)
+        ask_readable (request.Params identifier) (SignsInBy least rows words identifier password) acts halt
+        (params_readable within host named identifier (long, utf8))
         (λ given later p. signed_readable least rows words password p.0 later halt p.2) asks
 
     signs_readable : (least : ℕ) (password : Bytes) (rows : Rows) (words : ChaCha) (acts : List Act) (halt : Halt)
@@ -143,44 +130,43 @@ module _ (within : ReadableWithin) (host : Bytes) (named : IsHostName host) wher
   deletes_readable uuid rows words acts halt owner sets (inl (free, refuses)) = none_readable host acts refuses.0
   deletes_readable uuid rows words acts halt owner sets (inr (used, once)) = commit_readable rows words (deletes uuid) nothing acts halt once
 
-  -- ---- each call, where this is known of a sync
+  -- ---- each call, where this is known of a sync and of a change of password
 
-  run_readable : (least : ℕ) (call : Call) (rows : Rows) (words : ChaCha) (acts : List Act) (halt : Halt) → FitsCall call → KeepsPassword call
+  run_readable : (least : ℕ) (call : Call) (rows : Rows) (words : ChaCha) (acts : List Act) (halt : Halt) → FitsCall call
       → ((owner : OwnerRow) (sets : Sets) → HasSets rows owner sets → SyncsItems rows words owner sets acts halt → Good acts)
-      → Run least call rows words acts halt → Good acts
-  run_readable least call rows words acts halt fits keeps syncs (inl wants) = none_readable host acts wants.0
-  run_readable least (register identifier password cost) rows words acts halt fits keeps syncs (inr runs) =
+      → ((password : Bytes) (cost : ℕ) (owner : OwnerRow) (sets : Sets) → HasSets rows owner sets
+      → ChangesPassword least password cost rows words owner sets acts halt → Good acts) → Run least call rows words acts halt → Good acts
+  run_readable least call rows words acts halt fits syncs changes (inl wants) = none_readable host acts wants.0
+  run_readable least (register identifier password cost) rows words acts halt fits syncs changes (inr runs) =
       registers_readable least identifier password cost rows words acts halt runs
-  run_readable least (sign_in identifier password) rows words acts halt fits keeps syncs (inr runs) =
+  run_readable least (sign_in identifier password) rows words acts halt fits syncs changes (inr runs) =
       signs_readable identifier fits.0 fits.1 least password rows words acts halt runs
-  run_readable least (put kind text) rows words acts halt fits keeps syncs (inr runs) =
+  run_readable least (put kind text) rows words acts halt fits syncs changes (inr runs) =
       account_readable rows (λ owner sets. WithContent text (PutsItem rows words owner kind text)) acts halt
       (λ owner sets holds p. content_readable text (PutsItem rows words owner kind text) acts halt (puts_readable rows words owner kind text acts halt) p) runs
-  run_readable least (edit uuid text) rows words acts halt fits keeps syncs (inr runs) =
+  run_readable least (edit uuid text) rows words acts halt fits syncs changes (inr runs) =
       account_readable rows (λ owner sets. WithItem rows sets uuid (λ shown. WithContent text (CommitsOnce rows words (edits uuid text) nothing))) acts halt
       (λ owner sets holds p. item_readable rows sets uuid (λ shown. WithContent text (CommitsOnce rows words (edits uuid text) nothing)) acts halt
       (λ shown q. content_readable text (CommitsOnce rows words (edits uuid text) nothing) acts halt
       (commit_readable rows words (edits uuid text) nothing acts halt) q) p) runs
-  run_readable least (delete uuid) rows words acts halt fits keeps syncs (inr runs) =
+  run_readable least (delete uuid) rows words acts halt fits syncs changes (inr runs) =
       account_readable rows (DeletesItem uuid rows words) acts halt (λ owner sets holds p. deletes_readable uuid rows words acts halt owner sets p) runs
-  run_readable least list rows words acts halt fits keeps syncs (inr runs) =
+  run_readable least list rows words acts halt fits syncs changes (inr runs) =
       account_readable rows (ListsItems rows words) acts halt (λ owner sets holds p. none_readable host acts p.2) runs
-  run_readable least (content uuid) rows words acts halt fits keeps syncs (inr runs) =
+  run_readable least (content uuid) rows words acts halt fits syncs changes (inr runs) =
       account_readable rows (λ owner sets. WithItem rows sets uuid (GivesText words)) acts halt
       (λ owner sets holds p. item_readable rows sets uuid (GivesText words) acts halt (λ shown q. none_readable host acts q.0) p) runs
-  run_readable least sync rows words acts halt fits keeps syncs (inr runs) = account_readable rows (SyncsItems rows words) acts halt syncs runs
-  run_readable least (passwd password cost) rows words acts halt fits keeps syncs (inr runs) = absurd keeps
+  run_readable least sync rows words acts halt fits syncs changes (inr runs) = account_readable rows (SyncsItems rows words) acts halt syncs runs
+  run_readable least (passwd password cost) rows words acts halt fits syncs changes (inr runs) =
+      account_readable rows (ChangesPassword least password cost rows words) acts halt (changes password cost) runs
 
 -- ---- in a world
 
-pub runs_readable : ReadableWithin → StepsFitUuids → StepsStaySound → RunsReadable
-runs_readable within steps stay host secret w s name least call words acts halt server named h uuids fits keeps run =
-    let ready : IsReady (w.devices name) = record {
-      sound = h.holds.sound name;
-      uuids = uuids;
-      tokens = below_are_short (w.devices name) _ (h.holds.sync_tokens name);
-    } in
-    run_readable within host named least call (w.devices name) words acts halt fits keeps
-    (λ owner sets holds syncs.
-    syncs_readable within steps stay host named (w.devices name) words owner sets acts halt (unasked (w.devices name) owner sets (h.plain.unasked name) holds) ready syncs)
+pub runs_readable : ReadableWithin → StepsFit → RunsReadable
+runs_readable within steps host secret w s name least call words acts halt server named h fits known run =
+    let rows : Rows = w.devices name in
+    let ready : IsReady rows = record { fits = fits; tokens = below_are_short rows _ (h.sync_tokens name) } in
+    run_readable within host named least call rows words acts halt known
+    (λ owner sets holds syncs. syncs_readable within steps host named rows words owner sets acts halt ready holds syncs)
+    (λ password cost owner sets holds changes. changes_readable within steps host named least password cost rows words owner sets acts halt ready holds changes)
     run server

@@ -1,8 +1,12 @@
 pub mod Answered
 pub mod Bodies
 pub mod Calls
+pub mod Changes
 pub mod Made
+pub mod Pieces
 pub mod Ready
+pub mod Requests
+pub mod Resolved
 pub mod Sent
 pub mod Syncs
 pub mod Tokens

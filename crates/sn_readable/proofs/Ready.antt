@@ -1,11 +1,10 @@
--- A device's rows of which what it sends is readable: what commits of a sync leave of them.
-use Rattle.std.proofs.Common.{◌≡◌, ℕ, List, [], ◌∷◌, ◌≤◌, length, Option, refl, sym, ap, ◌∙◌, subst, inl, inr}
+-- A device's rows of which what it sends is readable: what commits of a sync and of a change of password leave of them.
+use Rattle.std.proofs.Common.{◌≡◌, ℕ, List, [], ◌∷◌, ◌≤◌, length, Option, sym, ap, ◌∙◌, subst, inl, inr}
 use Rattle.rand_chacha.specs.ChaCha.{ChaCha}
-use Rattle.sn_client.proofs.Facts.{RetiresOlder, after_append, beside, one_owner, posts_items, retires_older}
-use Rattle.sn_client.specs.Laws.{StepsStaySound}
+use Rattle.sn_client.proofs.Facts.{RetiresOlder, adopted, after_append, beside, one_owner, past_asked, posts_items, retires_older}
 use Rattle.sn_client.specs.Sending.{PostsAll}
-use Rattle.sn_client.specs.States.{Bytes, HasOwner, IsSound, OwnerColumns, text_of_token, token_of}
-use Rattle.sn_client.specs.Steps.{AppliesAnswer, AppliesTo, Step, applies, posts}
+use Rattle.sn_client.specs.States.{Bytes, HasOwner, OwnerColumns, text_of_token, token_of}
+use Rattle.sn_client.specs.Steps.{Adopts, AppliesAnswer, AppliesTo, Asks, Forgets, Step, What, adopts, applies, asks, forgets, posts}
 use Rattle.sn_rows.specs.Facts.{put_here, removed_elsewhere}
 use Rattle.sn_rows.specs.Table.{Puts, Rows, rows_after}
 use Rattle.sn_rows.specs.declared.change.Change.{Change}
@@ -13,18 +12,19 @@ use Rattle.sn_rows.specs.declared.device_rows.OwnerRow.{OwnerRow}
 use Rattle.sn_rows.specs.declared.key.Key.TheVariants as key
 use Rattle.sn_rows.specs.declared.key.Slot.TheVariants.{Older}
 use Rattle.sn_rows.specs.declared.value.Value.TheVariants as value
+use Rattle.sn_string.specs.declared.params.KeySet.{KeySet}
+use Rattle.sn_sync.specs.Fits.{AreBytes}
 use Rattle.sn_sync.specs.declared.answer.Answer.{Answer}
 use Rattle.sn_sync.specs.declared.answer.Answer.TheVariants as answer
 use Rattle.sn_sync.specs.declared.item.Item.{Item}
 use Rattle.sn_sync.specs.declared.request.Request.{Request}
 use Rattle.sn_sync.specs.declared.request.Request.TheVariants as request
-use Rattle.sn_world.specs.Fitting.{FitsUuids, StepsFitUuids}
+use Rattle.sn_world.specs.Fitting.{FitsRows, StepsFit}
 use Rattle.sn_readable.proofs.Tokens.{HasShortTokens, IsShortAnswer, IsShortToken, TokensAreShort, cursor_short, token_short}
 
--- sound rows, of which each item's uuid has 16 bytes, and the tokens of a sync are short
+-- they are within their bounds, and the tokens of a sync are short
 pub record IsReady (rows : Rows) : Type 0 where
-  pub sound : IsSound rows
-  pub uuids : FitsUuids rows
+  pub fits : FitsRows rows
   pub tokens : TokensAreShort rows
 
 -- ---- the device's own row
@@ -77,21 +77,69 @@ applied_tokens rows words left (request.Params identifier) given changes short s
 applied_tokens rows words left (request.SignIn identifier pw) given changes short s = absurd s
 applied_tokens rows words left (request.ChangePw token current pw cost nonce) given changes short s = absurd s
 
--- ---- both commits of an exchange
+-- ---- the same row, where a set is asked for or dropped; with another session token, where one is adopted
 
-module _ (steps : StepsFitUuids) (stay : StepsStaySound) where
-  pub posted_ready : (rows : Rows) (words : ChaCha) (numbers : List ℕ) (changes : List Change) → IsReady rows → PostsAll rows numbers changes
-      → IsReady (rows_after rows changes)
-  posted_ready rows words numbers changes ready all = record {
-    sound = stay rows words words (posts numbers) changes ready.sound (all, refl);
-    uuids = steps rows words words (posts numbers) changes ready.sound ready.uuids (all, refl);
-    tokens = posted_tokens rows numbers changes all ready.tokens;
+same_tokens : (rows now : Rows) → now key.Owner ≡ rows key.Owner → TokensAreShort rows → TokensAreShort now
+same_tokens rows now same short owner has = short owner (sym same ∙ has)
+
+asked_tokens : (rows : Rows) (set : KeySet) (changes : List Change) → Asks rows set changes → TokensAreShort rows → TokensAreShort (rows_after rows changes)
+asked_tokens rows set changes s short =
+    subst (λ (cs : List Change). TokensAreShort (rows_after rows cs)) (sym s.changes_are)
+    (same_tokens rows (rows_after rows (s.change ∷ [])) (past_asked rows s.change key.Owner s.put.puts.key_is (λ e. cc)) short)
+
+forgotten_tokens : (rows : Rows) (changes : List Change) → Forgets rows changes → TokensAreShort rows → TokensAreShort (rows_after rows changes)
+forgotten_tokens rows changes s short =
+    subst (λ (cs : List Change). TokensAreShort (rows_after rows cs)) (sym s.changes_are)
+    (same_tokens rows (rows_after rows (s.change ∷ [])) (past_asked rows s.change key.Owner s.removes.key_is (λ e. cc)) short)
+
+same_short : (old new : OwnerRow) → new.sync_token ≡ old.sync_token → new.cursor_token ≡ old.cursor_token → HasShortTokens old → HasShortTokens new
+same_short old new sync page short = (
+  subst (λ (t : Bytes). IsShortToken (token_of t)) (sym sync) short.0,
+  subst (λ (t : Bytes). IsShortToken (token_of t)) (sym page) short.1,
+)
+
+adopted_tokens : (rows : Rows) (words left : ChaCha) (set : KeySet) (token : Bytes) (changes : List Change) → Adopts rows words set token changes left
+    → TokensAreShort rows → TokensAreShort (rows_after rows changes)
+adopted_tokens rows words left set token changes a short owner has =
+    let behind = adopted rows words left set token changes a in
+    let same : behind.later ≡ owner = one_owner (rows_after rows changes) behind.later owner behind.owned has in
+    subst HasShortTokens same
+    (same_short a.owner behind.later (ap (λ (c : OwnerColumns). c.sync_token) behind.columns_are) (ap (λ (c : OwnerColumns). c.cursor_token) behind.columns_are)
+    (short a.owner a.holds.owned))
+
+-- ---- behind a commit
+
+-- it leaves such rows
+abbrev pub LeavesReady : What → Type 0
+LeavesReady what = (rows : Rows) (words left : ChaCha) (changes : List Change) → IsReady rows → Step rows words what changes left → IsReady (rows_after rows changes)
+
+module _ (steps : StepsFit) where
+  pub posted_ready : (numbers : List ℕ) → LeavesReady (posts numbers)
+  posted_ready numbers rows words left changes ready step = record {
+    fits = steps rows words left (posts numbers) changes ready.fits tt step;
+    tokens = posted_tokens rows numbers changes step.0 ready.tokens;
   }
 
-  pub applied_ready : (rows : Rows) (words left : ChaCha) (r : Request) (given : Answer) (changes : List Change) → IsReady rows → IsShortAnswer given
-      → Step rows words (applies r given) changes left → IsReady (rows_after rows changes)
-  applied_ready rows words left r given changes ready short step = record {
-    sound = stay rows words left (applies r given) changes ready.sound step;
-    uuids = steps rows words left (applies r given) changes ready.sound ready.uuids step;
+  pub applied_ready : (r : Request) (given : Answer) → IsShortAnswer given → LeavesReady (applies r given)
+  applied_ready r given short rows words left changes ready step = record {
+    fits = steps rows words left (applies r given) changes ready.fits tt step;
     tokens = applied_tokens rows words left r given changes short step;
+  }
+
+  pub asked_ready : (set : KeySet) → AreBytes 32 set.pw → LeavesReady (asks set)
+  asked_ready set pw rows words left changes ready step = record {
+    fits = steps rows words left (asks set) changes ready.fits pw step;
+    tokens = asked_tokens rows set changes step.0 ready.tokens;
+  }
+
+  pub forgotten_ready : LeavesReady forgets
+  forgotten_ready rows words left changes ready step = record {
+    fits = steps rows words left forgets changes ready.fits tt step;
+    tokens = forgotten_tokens rows changes step.0 ready.tokens;
+  }
+
+  pub adopted_ready : (set : KeySet) (token : Bytes) → AreBytes 32 set.pw → LeavesReady (adopts set token)
+  adopted_ready set token pw rows words left changes ready step = record {
+    fits = steps rows words left (adopts set token) changes ready.fits pw step;
+    tokens = adopted_tokens rows words left set token changes step ready.tokens;
   }

@@ -138,7 +138,7 @@ chosen_light chosen (inr one) = one_light chosen one
 -- ---- a sync
 
 -- the session token of a device's row
-owner_token : (owner : OwnerRow) → IsSessionToken owner.token
+pub owner_token : (owner : OwnerRow) → IsSessionToken owner.token
 owner_token owner =
     let both = and_parts (is_text_of 1 1024 owner.token) (list_all is_visible owner.token) owner.token_fits in
     let long = lengths 1 1024 owner.token both.0 in

@@ -10,9 +10,8 @@ use Rattle.sn_link.specs.Laws.{AreAnswered, AreReadable, IsAnswered, IsReadable}
 use Rattle.sn_rows.specs.Table.{Rows}
 use Rattle.sn_sync.specs.Members.{Bytes}
 use Rattle.sn_world.specs.Calls.{Fate, rows_behind}
-use Rattle.sn_world.specs.Delivered.{KeepsPassword}
-use Rattle.sn_world.specs.Fitting.{FitsCall, FitsUuids}
-use Rattle.sn_world.specs.Plain.{HoldsPlain}
+use Rattle.sn_world.specs.Fitting.{FitsCall, FitsRows}
+use Rattle.sn_world.specs.Holds.{Holds}
 use Rattle.sn_world.specs.Sessions.{LeadsLine, Line, again, calls, opens, stops}
 use Rattle.sn_world.specs.World.{IsMade, Made, World}
 
@@ -40,12 +39,12 @@ IsReadableLine host (again name r fate) = ⊤
 
 -- ---- the laws
 
--- Whatever a device calls in a world in which the invariant holds and no password has been changed, and whatever rows the server has. Of a server that doesn't answer by its rule
--- nothing is said: a token of a sync that it gave could be longer than a body may be.
+-- Whatever a device calls in a world in which the invariant holds, a change of password too, and whatever rows the server has. Of a server that doesn't answer
+-- by its rule nothing is said: a token of a sync that it gave could be longer than a body may be.
 abbrev pub RunsReadable : Type 0
 RunsReadable = (host secret : Bytes) (w : World) (s : Ideal) (name : Bytes) (least : ℕ) (call : Call) (words : ChaCha) (acts : List Act) (halt : Halt)
-    (server : Rows) → IsHostName host → HoldsPlain secret w s → FitsUuids (w.devices name) → FitsCall call → KeepsPassword call
-    → Run least call (w.devices name) words acts halt → AreReadableBy host server acts
+    (server : Rows) → IsHostName host → Holds secret w s → FitsRows (w.devices name) → FitsCall call → Run least call (w.devices name) words acts halt
+    → AreReadableBy host server acts
 
 -- so all are, where all have such fates
 abbrev pub ReadableIfAnswered : Type 0

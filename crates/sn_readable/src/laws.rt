@@ -3,17 +3,15 @@
 
 ghost use Rattle.sn_readable.specs.Laws.{MadeAreReadable, MadeStayReadable, ReadableIfAnswered, RunsReadable};
 
-use sn_client::steps_stay_sound;
 use sn_link::readable_within;
-use sn_world::steps_fit_uuids;
+use sn_world::steps_fit;
 
 /// Each request of a call is one that a server reads, where those before it were answered as the server answers.
 pub fn runs_readable()
     ensures { RunsReadable }
 {
     readable_within();
-    steps_fit_uuids();
-    steps_stay_sound();
+    steps_fit();
 }
 
 /// So all of them are, where each has a fate.
