@@ -5,7 +5,7 @@ use Rattle.std.specs.Str.{bytes_eq}
 use Rattle.std.specs.declared.option.Option.{Option}
 use Rattle.rand_chacha.specs.ChaCha.{ChaCha}
 use Rattle.sn_client.specs.Calls.{Calls, CallsOver, Ends as CallEnds, IsOpen, called_disk, kept_done}
-use Rattle.sn_client.specs.Runs.{Act, AreExchanges, Call, Given, Halt, Run, answered, refused, rows_done}
+use Rattle.sn_client.specs.Runs.{Act, AreExchanges, Call, Given, Halt, Run, answered, broken, refused, rows_done}
 use Rattle.sn_client.specs.declared.called.Called.{Called}
 use Rattle.sn_client.specs.declared.called.Called.TheVariants as how
 use Rattle.sn_client.specs.declared.device.Device.{Device as AnyDevice}
@@ -15,7 +15,6 @@ use Rattle.sn_disk.specs.MemDisk.{Grows}
 use Rattle.sn_disk.specs.declared.memory.MemDisk.{MemDisk}
 use Rattle.sn_events.proofs.Batches.{batches_done, done_are, kept_are, rows_are_done}
 use Rattle.sn_events.proofs.Growing.{ends_grow, from_on}
-use Rattle.sn_events.proofs.Lines.{plain_rows}
 use Rattle.sn_events.specs.Answers.{IsAnswered, IsHalt, IsPlain}
 use Rattle.sn_events.specs.Calling.{IsPutBack, IsReady, host}
 use Rattle.sn_events.specs.Devices.{DeviceHas, HasRows, device_of}
@@ -33,6 +32,7 @@ use Rattle.sn_journal.specs.declared.owner.Owner.TheVariants.{Device as DeviceOw
 use Rattle.sn_laws.proofs.Facts.{clash, same_text, text_same}
 use Rattle.sn_laws.specs.Lookups.{Bytes}
 use Rattle.sn_laws.specs.declared.ideal.Ideal.{Ideal}
+use Rattle.sn_lines.specs.Lines.{MayCall}
 use Rattle.sn_link.specs.Deliveries.{serves}
 use Rattle.sn_link.specs.Holdings.{GoesOn, goes_further}
 use Rattle.sn_link.specs.Links.{link_held}
@@ -48,8 +48,14 @@ use Rattle.sn_table.specs.Kept.{Kept, kept_of}
 use Rattle.sn_tail.specs.Places.{place_behind}
 use Rattle.sn_world.specs.Calls.{AsksNothing}
 use Rattle.sn_world.specs.Holds.{TokensDiffer}
-use Rattle.sn_world.specs.Sessions.{MayAsk, rows_ended}
+use Rattle.sn_world.specs.Sessions.{rows_ended}
 use Rattle.sn_world.specs.World.{World}
+
+-- a call that ends in no failing disk leaves the rows of its acts
+plain_rows : (halt : Halt) (rows : Rows) → IsPlain halt → rows_ended halt true rows ≡ rows
+plain_rows (answered given left) rows plain = refl
+plain_rows (refused why) rows plain = refl
+plain_rows (broken what changes) rows plain = absurd plain
 
 module _ {S T : Type 0} (hold : S → ℕ → Holding) (is_open : S → Kept → Type 0) (may_have : MemDisk → Kept → List Change → Type 0) (gives : T → Given)
     (to_rows : (device : S) (place : ℕ) (batches : List (List Change)) (rows : Rows) → is_open device (kept_of batches) → rows_of_batches batches ≡ rows → place ≡ place_behind DeviceOwner batches
@@ -179,7 +185,7 @@ module _ {S T : Type 0} (hold : S → ℕ → Holding) (is_open : S → Kept →
       (subst (λ (l : RecordingLink). GoesOn (link_held old.link) (link_held (recorded_link l))) (sym same) set_goes)
 
   -- a call over the link
-  pub over_came : CallsCome → TokensDiffer secret → MayAsk s call → AsksReadable call (w.devices name) → (least : ℕ) → least ≡ 1
+  pub over_came : CallsCome → TokensDiffer secret → MayCall s (w.devices name) call → AsksReadable call (w.devices name) → (least : ℕ) → least ≡ 1
       → CallsOver is_open may_have gives least call (Records calling.link link) calling.link.link.host (kept_of batches) words left called
       → CallCame secret w s name call words left setting gives old outcome
   over_came law differ may readable least one calls =

@@ -1,5 +1,5 @@
 -- A call is a line of the world.
-use Rattle.std.proofs.Common.{◌≡◌, ◌++◌, ℕ, List, [], None, Some, refl, sym, ap, ◌∙◌, subst}
+use Rattle.std.proofs.Common.{◌≡◌, ◌++◌, ℕ, List, [], None, Some, true, refl, sym, ap, ◌∙◌, subst}
 use Rattle.std.specs.declared.option.Option.{Option}
 use Rattle.rand_chacha.specs.ChaCha.{ChaCha}
 use Rattle.sn_account.specs.RuleLaws.{StaysSound}
@@ -7,8 +7,8 @@ use Rattle.sn_account.specs.Sound.{IsSound}
 use Rattle.sn_client.specs.Runs.{Act, Call, Halt, Run, content, delete, edit, list, passwd, put, register, sign_in, sync}
 use Rattle.sn_events.proofs.Batches.{IsWhole, whole_asked}
 use Rattle.sn_events.proofs.Fating.{AllFated, all_fated}
-use Rattle.sn_events.proofs.Hearing.{register_hears, sign_in_hears, sync_hears}
-use Rattle.sn_events.proofs.Lines.{called_line}
+use Rattle.sn_events.proofs.Hearing.{register_hears, sign_in_hears}
+use Rattle.sn_events.proofs.HearingPieces.{passwd_hears, sync_hears}
 use Rattle.sn_events.proofs.Quiet.{only_by, only_hears, only_readable, only_served, only_told, quiet_only}
 use Rattle.sn_events.specs.Answers.{IsPlain}
 use Rattle.sn_events.specs.Calling.{IsOpenHeld, IsRecording, host}
@@ -19,6 +19,7 @@ use Rattle.sn_events.specs.declared.setting.Setting.{Setting}
 use Rattle.sn_journal.specs.declared.owner.Owner.TheVariants.{Server as ServerOwner}
 use Rattle.sn_laws.specs.Lookups.{Bytes}
 use Rattle.sn_laws.specs.declared.ideal.Ideal.{Ideal}
+use Rattle.sn_lines.specs.Lines.{EachKeeps, EachLeads, IsCallOf, MayCall}
 use Rattle.sn_link.specs.Deliveries.{Standing, failed, serves}
 use Rattle.sn_link.specs.Holdings.{HoldsIn}
 use Rattle.sn_link.specs.Laws.{HearsNoWant}
@@ -36,39 +37,35 @@ use Rattle.sn_rows.specs.declared.change.Change.{Change}
 use Rattle.sn_server.specs.Loads.{kept_of}
 use Rattle.sn_server.specs.Stores.{Kept}
 use Rattle.sn_tail.specs.Places.{place_behind}
-use Rattle.sn_world.proofs.Facts.{CallLaws, unasked}
 use Rattle.sn_world.specs.Calls.{AsksNothing}
-use Rattle.sn_world.specs.Holds.{TokensDiffer}
-use Rattle.sn_world.specs.Plain.{HoldsPlain, KeepsPlain}
-use Rattle.sn_world.specs.Sessions.{IsCalled, MayAsk}
+use Rattle.sn_world.specs.Holds.{Holds, TokensDiffer}
+use Rattle.sn_world.specs.Sessions.{LeadsLine, Line, calls}
 use Rattle.sn_world.specs.World.{World}
 
 -- ---- no want of memory was heard
 
-hears_any : (secret : Bytes) (w : World) (s : Ideal) (name : Bytes) (call : Call) (words : ChaCha) (acts : List Act) (halt : Halt) → HoldsPlain secret w s → MayAsk s call → IsPlain halt
-    → Run 1 call (w.devices name) words acts halt → HearsNoWant acts
-hears_any secret w s name (register identifier password cost) words acts halt h may plain runs = register_hears 1 identifier password cost (w.devices name) words acts halt plain runs
-hears_any secret w s name (sign_in identifier password) words acts halt h may plain runs = sign_in_hears 1 identifier password (w.devices name) words acts halt plain runs
-hears_any secret w s name sync words acts halt h may plain runs =
-    sync_hears 1 (w.devices name) words acts halt (λ owner sets has. unasked (w.devices name) owner sets (h.plain.unasked name) has) plain runs
-hears_any secret w s name (put kind text) words acts halt h may plain runs = only_hears acts (quiet_only (put kind text) (w.devices name) words acts halt tt runs)
-hears_any secret w s name (edit uuid text) words acts halt h may plain runs = only_hears acts (quiet_only (edit uuid text) (w.devices name) words acts halt tt runs)
-hears_any secret w s name (delete uuid) words acts halt h may plain runs = only_hears acts (quiet_only (delete uuid) (w.devices name) words acts halt tt runs)
-hears_any secret w s name list words acts halt h may plain runs = only_hears acts (quiet_only list (w.devices name) words acts halt tt runs)
-hears_any secret w s name (content uuid) words acts halt h may plain runs = only_hears acts (quiet_only (content uuid) (w.devices name) words acts halt tt runs)
-hears_any secret w s name (passwd password cost) words acts halt h may plain runs = absurd may
+hears_any : (call : Call) (rows : Rows) (words : ChaCha) (acts : List Act) (halt : Halt) → IsPlain halt → Run 1 call rows words acts halt → HearsNoWant acts
+hears_any (register identifier password cost) rows words acts halt plain runs = register_hears 1 identifier password cost rows words acts halt plain runs
+hears_any (sign_in identifier password) rows words acts halt plain runs = sign_in_hears 1 identifier password rows words acts halt plain runs
+hears_any (put kind text) rows words acts halt plain runs = only_hears acts (quiet_only (put kind text) rows words acts halt tt runs)
+hears_any (edit uuid text) rows words acts halt plain runs = only_hears acts (quiet_only (edit uuid text) rows words acts halt tt runs)
+hears_any (delete uuid) rows words acts halt plain runs = only_hears acts (quiet_only (delete uuid) rows words acts halt tt runs)
+hears_any list rows words acts halt plain runs = only_hears acts (quiet_only list rows words acts halt tt runs)
+hears_any (content uuid) rows words acts halt plain runs = only_hears acts (quiet_only (content uuid) rows words acts halt tt runs)
+hears_any sync rows words acts halt plain runs = sync_hears 1 rows words acts halt plain runs
+hears_any (passwd password cost) rows words acts halt plain runs = passwd_hears 1 password cost rows words acts halt plain runs
 
 -- a call that asks for nothing may be made
-quiet_may : (s : Ideal) (call : Call) → AsksNothing call → MayAsk s call
-quiet_may s (register identifier password cost) none = absurd none
-quiet_may s (sign_in identifier password) none = absurd none
-quiet_may s (put kind text) quiet = tt
-quiet_may s (edit uuid text) quiet = tt
-quiet_may s (delete uuid) quiet = tt
-quiet_may s list quiet = tt
-quiet_may s (content uuid) quiet = tt
-quiet_may s sync none = absurd none
-quiet_may s (passwd password cost) none = absurd none
+quiet_may : (s : Ideal) (device : Rows) (call : Call) → AsksNothing call → MayCall s device call
+quiet_may s device (register identifier password cost) none = absurd none
+quiet_may s device (sign_in identifier password) none = absurd none
+quiet_may s device (put kind text) quiet = tt
+quiet_may s device (edit uuid text) quiet = tt
+quiet_may s device (delete uuid) quiet = tt
+quiet_may s device list quiet = tt
+quiet_may s device (content uuid) quiet = tt
+quiet_may s device sync none = absurd none
+quiet_may s device (passwd password cost) none = absurd none
 
 -- ---- the server behind it
 
@@ -114,19 +111,20 @@ set_serves link place setting recording rows server set =
 
 -- ---- the laws
 
-line_comes : CallLaws → KeepsPlain → (secret : Bytes) (w : World) (s : Ideal) (name : Bytes) (call : Call) (words : ChaCha) (acts : List Act) (halt : Halt) (setting : Setting) (new : RecordingLink)
-    (next : Rows) (f : AllFated host w.server acts setting.losses setting.now 1 new.exchanged next) → TokensDiffer secret → HoldsPlain secret w s → IsPlain halt → MayAsk s call
+line_comes : EachLeads → EachKeeps → (secret : Bytes) (w : World) (s : Ideal) (name : Bytes) (call : Call) (words : ChaCha) (acts : List Act) (halt : Halt) (setting : Setting) (new : RecordingLink)
+    (next : Rows) (f : AllFated host w.server acts setting.losses setting.now 1 new.exchanged next) → TokensDiffer secret → Holds secret w s → MayCall s (w.devices name) call
     → Run 1 call (w.devices name) words acts halt → ServesRows (link_held (recorded_link new)) (recorded_place new) next
     → LineCame secret w s name call words acts halt setting new
-line_comes laws keeps secret w s name call words acts halt setting new next f differ h plain may runs server =
-    let called : IsCalled w s name 1 call words acts f.fates halt = record { may = may; runs = runs; over = f.are } in
-    let x = called_line laws keeps secret w s name call words acts f.fates halt differ h plain called in
+line_comes leads keeps secret w s name call words acts halt setting new next f differ h may runs server =
+    let called : IsCallOf w s name 1 call words acts f.fates halt = record { may = may; runs = runs; over = f.are } in
+    let line : Line = calls name 1 call words acts f.fates halt true in
+    let x : LeadsLine secret w s line = leads secret w s line differ h called in
     record {
       fates = f.fates;
       comes = called;
-      leads = x.0;
-      keeps = x.1;
-      server = subst (ServesRows (link_held (recorded_link new)) (recorded_place new)) (f.rows_are ∙ sym x.0.server_is) server;
+      leads = x;
+      keeps = keeps secret w s line differ h x;
+      server = subst (ServesRows (link_held (recorded_link new)) (recorded_place new)) (f.rows_are ∙ sym x.server_is) server;
       by_losses = f.by;
       at = f.at;
       told = f.told;
@@ -137,8 +135,8 @@ line_comes laws keeps secret w s name call words acts halt setting new next f di
 all_records : (old new : RecordingLink) (more : List Exchanged) → old.exchanged ≡ [] → new.exchanged ≡ old.exchanged ++ more → new.exchanged ≡ more
 all_records old new more none is = is ∙ ap (λ (es : List Exchanged). es ++ more) none
 
-pub calls_come : CallLaws → KeepsPlain → ExchangesHaveFates → StaysSound → CallsCome
-calls_come laws keeps law stays secret w s name call words acts halt xs setting link place old new differ h may runs plain readable exchanges there set records whole open_held =
+pub calls_come : EachLeads → EachKeeps → ExchangesHaveFates → StaysSound → CallsCome
+calls_come leads keeps law stays secret w s name call words acts halt xs setting link place old new differ h may runs plain readable exchanges there set records whole open_held =
     let (more, exchanged_are, them) = records.records whole in
     let server = set_serves link place setting old w.server there set in
     let kept = kept_of server.batches in
@@ -152,19 +150,19 @@ calls_come laws keeps law stays secret w s name call words acts halt xs setting 
     (subst (λ (n : ℕ). AreRecorded (link_losses (recorded_link old)) (link_now (recorded_link old)) n (serves kept) xs more last (serves o.kept)) set.set.number_is
     (subst (λ (x : Standing). AreRecorded (link_losses (recorded_link old)) (link_now (recorded_link old)) (link_number (recorded_link old)) (serves kept) xs more last x) o.is recorded))) in
     let f = all_fated law stays host acts setting.losses setting.now 1 kept xs more last o.kept
-    (subst IsSound (sym server.rows_are) server.sound) (hears_any secret w s name call words acts halt h may plain runs) so exchanges
+    (subst IsSound (sym server.rows_are) server.sound) (hears_any call (w.devices name) words acts halt plain runs) so exchanges
     (subst (λ (rows : Rows). AreReadableBy host rows acts) (sym server.rows_are) readable) in
-    line_comes laws keeps secret w s name call words acts halt setting new o.kept.rows
+    line_comes leads keeps secret w s name call words acts halt setting new o.kept.rows
     (subst (λ (rows : Rows). AllFated host rows acts setting.losses setting.now 1 new.exchanged o.kept.rows) server.rows_are
-    (subst (λ (es : List Exchanged). AllFated host kept.rows acts setting.losses setting.now 1 es o.kept.rows) (sym all_are) f)) differ h plain may runs
+    (subst (λ (es : List Exchanged). AllFated host kept.rows acts setting.losses setting.now 1 es o.kept.rows) (sym all_are) f)) differ h may runs
     (serves_rows (link_held (recorded_link new)) o.kept (recorded_place new) o.kept.rows (subst (HoldsIn (link_held (recorded_link new))) o.is holds_next)
     (whole_asked setting.losses setting.now 1 kept xs last o.kept (recorded_asked setting.losses setting.now 1 (serves kept) xs more last (serves o.kept) so) refl) o.sound refl
     (subst (IsPlaceOf (recorded_place new)) o.is place_next))
 
-pub quiet_come : CallLaws → KeepsPlain → QuietCome
-quiet_come laws keeps secret w s name call words acts halt setting link place recording differ h quiet runs plain there set =
+pub quiet_come : EachLeads → EachKeeps → QuietCome
+quiet_come leads keeps secret w s name call words acts halt setting link place recording differ h quiet runs plain there set =
     let only = quiet_only call (w.devices name) words acts halt quiet runs in
-    line_comes laws keeps secret w s name call words acts halt setting recording w.server
+    line_comes leads keeps secret w s name call words acts halt setting recording w.server
     (record {
       fates = [];
       are = only_served w.server acts only;
@@ -173,4 +171,4 @@ quiet_come laws keeps secret w s name call words acts halt setting link place re
       told = only_told host acts recording.exchanged only set.none;
       readable = only_readable host acts only;
       rows_are = refl;
-    }) differ h plain (quiet_may s call quiet) runs (set_serves link place setting recording w.server there set)
+    }) differ h (quiet_may s (w.devices name) call quiet) runs (set_serves link place setting recording w.server there set)

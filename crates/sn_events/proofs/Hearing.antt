@@ -1,12 +1,10 @@
--- A call that ended in no want of memory never heard of one at the server.
-use Rattle.std.proofs.Common.{◌≡◌, ℕ, List, [], ◌∷◌, ◌++◌, None, refl, sym, subst, inl, inr}
+-- A registration, a sign-in and an exchange that ended in no want of memory never heard of one at the server.
+use Rattle.std.proofs.Common.{◌≡◌, ℕ, List, [], ◌∷◌, ◌++◌, refl, sym, subst, inl, inr}
 use Rattle.std.specs.Prelude.{codes, ⊤}
 use Rattle.std.specs.List.{flat_map}
 use Rattle.rand_chacha.specs.ChaCha.{ChaCha}
-use Rattle.sn_client.proofs.Facts.{EndsAlone, ExchangesAlone, synced_alone}
 use Rattle.sn_client.specs.Asking.{Fails, Reply, said}
-use Rattle.sn_client.specs.Runs.{Act, AreRounds, AsksAccount, AsksFirst, CommitsOnce, EndsBehind, EndsExchange, Given, Halt, IsRound, IsUnapplied, KeepsAccount, Round, Run, SignsInAgain, SignsInBy, SignsInUnder, SignsInWith, Standing, acts_of, asked, commits, items_of, posting, refused, register, sign_in, sync}
-use Rattle.sn_client.specs.States.{HasSets}
+use Rattle.sn_client.specs.Runs.{Act, AreRounds, AsksAccount, AsksFirst, CommitsOnce, EndsBehind, EndsExchange, Given, Halt, IsRound, IsUnapplied, KeepsAccount, Round, Run, SignsInAgain, SignsInBy, SignsInUnder, SignsInWith, Standing, acts_of, asked, commits, items_of, posting, refused, register, sign_in}
 use Rattle.sn_client.specs.Steps.{AppliesTo, What, applies, begins, renews, adopts}
 use Rattle.sn_client.specs.declared.error.ClientError.{ClientError}
 use Rattle.sn_client.specs.declared.error.ClientError.TheVariants as refusal
@@ -15,7 +13,6 @@ use Rattle.sn_laws.specs.Lookups.{Bytes}
 use Rattle.sn_link.specs.Laws.{HearsNoWant, IsWanting}
 use Rattle.sn_rows.specs.Table.{Rows}
 use Rattle.sn_rows.specs.declared.change.Change.{Change}
-use Rattle.sn_rows.specs.declared.device_rows.OwnerRow.{OwnerRow}
 use Rattle.sn_server.specs.Replies.{no_memory}
 use Rattle.sn_sets.specs.declared.sets.Sets.{Sets}
 use Rattle.sn_string.specs.declared.params.KeySet.{KeySet}
@@ -27,7 +24,7 @@ use Rattle.sn_sync.specs.declared.request.Request.TheVariants as request
 
 -- ---- one request
 
-no_acts : (acts : List Act) → acts ≡ [] → HearsNoWant acts
+pub no_acts : (acts : List Act) → acts ≡ [] → HearsNoWant acts
 no_acts acts none = subst HearsNoWant (sym none) tt
 
 one_more : (acts later : List Act) (r : Request) (reply : Reply) → acts ≡ asked r reply ∷ later → ¬ (IsWanting reply) → HearsNoWant later → HearsNoWant acts
@@ -47,7 +44,7 @@ plain_fails reply why halt fails is plain = λ want.
 plain_memory : (halt : Halt) → halt ≡ refused refusal.Memory → IsPlain halt → ⊥
 plain_memory halt is plain = let never : ⊤ → ⊥ = subst IsPlain is plain in never tt
 
-said_other : (reply : Reply) (given : Answer) → reply ≡ said given → ¬ (given ≡ no_memory) → ¬ (IsWanting reply)
+pub said_other : (reply : Reply) (given : Answer) → reply ≡ said given → ¬ (given ≡ no_memory) → ¬ (IsWanting reply)
 said_other reply given is other = λ want.
     let same : given ≡ no_memory = cc in
     other same
@@ -67,10 +64,10 @@ once_hears rows words what given acts halt (changes, left, step, inr (none, stop
 
 -- ---- accounts
 
-account_other : (given : Answer) (token identifier uuid : Bytes) → given ≡ answer.Account token identifier uuid → ¬ (given ≡ no_memory)
+pub account_other : (given : Answer) (token identifier uuid : Bytes) → given ≡ answer.Account token identifier uuid → ¬ (given ≡ no_memory)
 account_other given token identifier uuid is = λ other. let impossible : ⊥ = cc in impossible
 
-params_other : (given : Answer) (params : Params) → given ≡ answer.Params params → ¬ (given ≡ no_memory)
+pub params_other : (given : Answer) (params : Params) → given ≡ answer.Params params → ¬ (given ≡ no_memory)
 params_other given params is = λ other. let impossible : ⊥ = cc in impossible
 
 account_hears : (rows : Rows) (words : ChaCha) (r : Request) (what : Bytes → Bytes → What) (acts : List Act) (halt : Halt) → IsPlain halt → AsksAccount rows words r what acts halt
@@ -116,9 +113,9 @@ sign_in_hears least identifier password rows words acts halt plain (inr (inr (ma
     under : (given : Answer) (later : List Act) → SignsInBy least rows words identifier password given later halt → ¬ (given ≡ no_memory) × HearsNoWant later
     under given later (params, is, p) = (params_other given params is, under_hears least rows words identifier password params later halt plain p)
 
--- ---- syncs
+-- ---- exchanges
 
-hears_both : (first later : List Act) → HearsNoWant first → HearsNoWant later → HearsNoWant (first ++ later)
+pub hears_both : (first later : List Act) → HearsNoWant first → HearsNoWant later → HearsNoWant (first ++ later)
 hears_both [] later x y = y
 hears_both (commits what changes ∷ first) later x y = hears_both first later x y
 hears_both (asked r reply ∷ first) later x y = (x.0, hears_both first later x.1 y)
@@ -144,7 +141,7 @@ round_hears at after round x =
     (posting_hears round.numbers round.posted)
     (said_other (said round.given) round.given refl (applied_other x.ready at.words x.left round.request round.given round.applied x.step), tt)
 
-rounds_hear : (rounds : List Round) (at after : Standing) → AreRounds at rounds after → HearsNoWant (flat_map acts_of rounds)
+pub rounds_hear : (rounds : List Round) (at after : Standing) → AreRounds at rounds after → HearsNoWant (flat_map acts_of rounds)
 rounds_hear [] at after x = tt
 rounds_hear (round ∷ rounds) at after (between, is, later) =
     hears_both (acts_of round) (flat_map acts_of rounds) (round_hears at between round is) (rounds_hear rounds between after later)
@@ -158,29 +155,10 @@ behind_hears rows words r reply halt plain (inr (inr (given, said_so, inl (why, 
 behind_hears rows words r reply halt plain (inr (inr (given, said_so, inr (changes, left, step, stops)))) =
     said_other reply given said_so (applied_other rows words left r given changes step)
 
-exchange_hears : (words : ChaCha) (numbers : List ℕ) (posted : List Change) (r : Request) (ready : Rows) (acts : List Act) (halt : Halt) → IsPlain halt
+pub exchange_hears : (words : ChaCha) (numbers : List ℕ) (posted : List Change) (r : Request) (ready : Rows) (acts : List Act) (halt : Halt) → IsPlain halt
     → EndsExchange words numbers posted r ready acts halt → HearsNoWant acts
 exchange_hears words numbers posted r ready acts halt plain (inl (some, none, stops)) = no_acts acts none
 exchange_hears words numbers posted r ready acts halt plain (inr (batch, inl (is, end))) = subst HearsNoWant (sym is) (posting_hears numbers posted)
 exchange_hears words numbers posted r ready acts halt plain (inr (batch, inr (reply, is, ends))) =
     subst HearsNoWant (sym is)
     (hears_both (posting numbers posted) (asked r reply ∷ []) (posting_hears numbers posted) (behind_hears ready words r reply halt plain ends, tt))
-
-end_hears : (count : ℕ) (at : Standing) (acts : List Act) (halt : Halt) → IsPlain halt → EndsAlone count at acts halt → HearsNoWant acts
-end_hears count at acts halt plain (inl (done, none, is)) = no_acts acts none
-end_hears count at acts halt plain (inr (inl (all, due, (none, is)))) = no_acts acts none
-end_hears count at acts halt plain (inr (inr (inl (few, x)))) = exchange_hears at.words x.numbers x.posted x.request x.ready acts halt plain x.ends_so
-end_hears count at acts halt plain (inr (inr (inr (none, is)))) = no_acts acts none
-
-exchanges_hear : (rows : Rows) (words : ChaCha) (acts : List Act) (halt : Halt) → IsPlain halt → ExchangesAlone rows words acts halt → HearsNoWant acts
-exchanges_hear rows words acts halt plain x =
-    let first : Standing = record { rows = rows; words = words; last = None } in
-    subst HearsNoWant (sym x.acts_are)
-    (hears_both (flat_map acts_of x.rounds) x.later (rounds_hear x.rounds first x.at x.went) (end_hears _ x.at x.later halt plain x.ends))
-
-pub sync_hears : (least : ℕ) (rows : Rows) (words : ChaCha) (acts : List Act) (halt : Halt) → ((owner : OwnerRow) (sets : Sets) → HasSets rows owner sets → sets.asked ≡ None)
-    → IsPlain halt → Run least sync rows words acts halt → HearsNoWant acts
-sync_hears least rows words acts halt unasked plain (inl (none, is)) = no_acts acts none
-sync_hears least rows words acts halt unasked plain (inr (inl (no_account, (none, is)))) = no_acts acts none
-sync_hears least rows words acts halt unasked plain (inr (inr (owner, sets, has, syncs))) =
-    exchanges_hear rows words acts halt plain (synced_alone rows words owner sets acts halt (unasked owner sets has) syncs)

@@ -4,7 +4,7 @@ pub mod Coming
 pub mod Fating
 pub mod Growing
 pub mod Hearing
-pub mod Lines
+pub mod HearingPieces
 pub mod Marking
 pub mod Opening
 pub mod PutAway

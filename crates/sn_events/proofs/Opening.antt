@@ -32,8 +32,7 @@ use Rattle.sn_table.specs.Batches.{IsBatch, IsStore}
 use Rattle.sn_tail.specs.Places.{place_behind}
 use Rattle.sn_world.specs.Calls.{begins_none}
 use Rattle.sn_world.specs.First.{IsFirst as IsWorldFirst, Starts}
-use Rattle.sn_world.specs.Laws.{KeepsStarting}
-use Rattle.sn_world.specs.Plain.{HoldsPlain, IsPlainWorld, PlainFirst}
+use Rattle.sn_world.specs.Laws.{HoldsFirst, KeepsStarting}
 use Rattle.sn_world.specs.Sessions.{LeadsLine, opens}
 use Rattle.sn_world.specs.World.{World, at_first}
 
@@ -82,17 +81,14 @@ no_store store = λ has. let impossible : ⊥ = cc in impossible
 no_device : (found : Option Holding) → found ≡ None → HasRows found no_rows
 no_device found is = subst (λ (o : Option Holding). HasRows o no_rows) (sym is) refl
 
-pub begun : PlainFirst → KeepsStarting → (words left : ChaCha) (secret : Bytes) (changes : List Change) (given : Begun) → (secret, left) ≡ drawn 32 words → IsFirst secret changes
+pub begun : HoldsFirst → KeepsStarting → (words left : ChaCha) (secret : Bytes) (changes : List Change) (given : Begun) → (secret, left) ≡ drawn 32 words → IsFirst secret changes
     → given.changes ≡ changes → HoldsIn (link_held given.ends.link) (serves (after (kept_of []) changes)) → given.ends.place ≡ place_behind ServerOwner (after (kept_of []) changes).batches
     → IsSound (after (kept_of []) changes).rows → ((name : Bytes) → device_of given.ends.devices name ≡ None) → IsFreshHeld (link_held given.ends.link) → HasBegun words left given
-begun plain_first keeps words left secret changes given drew first is holds place_is sound none disk =
+begun holds_first keeps words left secret changes given drew first is holds place_is sound none disk =
     let next : World = record { server = rows_after no_rows changes; devices = at_first.devices; made = [] } in
     let is_first = world_first secret changes first in
     let starts : Starts at_first next secret changes = record { none = no_store; is = is_first; on = record { server = refl; devices = refl; made = refl } } in
-    let before : HoldsPlain secret at_first empty = plain_first secret in
-    let kept = keeps secret at_first next empty changes before.holds starts in
-    let plain : IsPlainWorld next empty =
-    record { one_set = before.plain.one_set; unasked = before.plain.unasked; no_change = before.plain.no_change } in
+    let kept = keeps secret at_first next empty changes (holds_first secret) starts in
     let leads : LeadsLine secret at_first empty (opens changes true) = record {
       begins = begins_none;
       of_line = tt;
@@ -115,7 +111,7 @@ begun plain_first keeps words left secret changes given drew first is holds plac
         server = serves_rows (link_held given.ends.link) (after (kept_of []) changes) given.ends.place (rows_after no_rows changes) holds (whole_after (kept_of []) changes refl) sound refl
             place_is;
         devices = λ name. no_device (device_of given.ends.devices name) (none name);
-        holds = record { holds = kept.1; plain = plain };
+        holds = kept.1;
       };
       disk = disk;
       none = none;

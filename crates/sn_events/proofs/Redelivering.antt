@@ -19,6 +19,7 @@ use Rattle.sn_events.specs.declared.outcome.Again.{Again}
 use Rattle.sn_http.specs.Answers.{IsAnswer as IsHttpAnswer}
 use Rattle.sn_laws.specs.Lookups.{Bytes}
 use Rattle.sn_laws.specs.declared.ideal.Ideal.{Ideal}
+use Rattle.sn_lines.specs.Lines.{EachKeeps}
 use Rattle.sn_link.specs.Deliveries.{serves}
 use Rattle.sn_link.specs.Holdings.{GoesOn, HoldsIn}
 use Rattle.sn_link.specs.Laws.{IsReadable}
@@ -37,28 +38,26 @@ use Rattle.sn_rows.specs.declared.change.Change.{Change}
 use Rattle.sn_server.specs.Loads.{kept_of}
 use Rattle.sn_server.specs.Stores.{Kept}
 use Rattle.sn_sync.specs.declared.answer.Answer.{Answer}
-use Rattle.sn_world.proofs.Facts.{trace_plain}
 use Rattle.sn_world.specs.Calls.{Fate, IsServed, crashed, rows_behind, served, undelivered}
-use Rattle.sn_world.specs.Holds.{TokensDiffer}
-use Rattle.sn_world.specs.Plain.{HoldsPlain, KeepsPlain}
-use Rattle.sn_world.specs.Sessions.{AgainLeads, again, line_steps}
+use Rattle.sn_world.specs.Holds.{Holds, TokensDiffer}
+use Rattle.sn_world.specs.Sessions.{AgainLeads, again}
 use Rattle.sn_world.specs.World.{IsMade, Made, World}
 
-module _ (leads : AgainLeads) (keeps : KeepsPlain) (stays : StaysSound) (secret : Bytes) (w : World) (s : Ideal) (m : Made) (now : ℕ) (kept next : Kept) (batches : List (List Change)) (status : ℕ)
-    (differ : TokensDiffer secret) (h : HoldsPlain secret w s) (made : IsMade w m) (rows_are : kept.rows ≡ w.server) (sound : IsSound kept.rows) (other : status ≢ 503) where
+module _ (leads : AgainLeads) (keeps : EachKeeps) (stays : StaysSound) (secret : Bytes) (w : World) (s : Ideal) (m : Made) (now : ℕ) (kept next : Kept) (batches : List (List Change)) (status : ℕ)
+    (differ : TokensDiffer secret) (h : Holds secret w s) (made : IsMade w m) (rows_are : kept.rows ≡ w.server) (sound : IsSound kept.rows) (other : status ≢ 503) where
   served_line : (changes : List Change) (given : Answer) → IsServed kept.rows m.request unheard (served now changes given false) → batches ≡ batches_of (served now changes given false)
       → next.rows ≡ rows_after kept.rows changes → IsStatusOf status (served now changes given false) → AgainLine secret w s m now next batches status
   served_line changes given is gained left status_is =
       let fate = served now changes given false in
       let over : IsServed w.server m.request unheard fate = subst (λ (rows : Rows). IsServed rows m.request unheard fate) rows_are is in
-      let x = leads secret w s m fate h.holds made over in
+      let x = leads secret w s m fate h made over in
       record {
         changes = changes;
         given = given;
         comes = record { begins = m.begins; made = made; over = over };
         leads = x.0;
         begins_is = x.1;
-        keeps = trace_plain keeps secret differ (line_steps x.0.begins (again m.device m.request fate)) x.0.moves w x.0.next s h (tt, tt) x.0.goes;
+        keeps = keeps secret w s (again m.device m.request fate) differ h x.0;
         rows_are = left ∙ ap (λ (rows : Rows). rows_after rows changes) rows_are ∙ sym x.0.server_is;
         sound = subst IsSound (sym left) (stays kept.rows m.request now changes given sound is.0 is.1);
         gained = gained;
@@ -73,7 +72,7 @@ module _ (leads : AgainLeads) (keeps : KeepsPlain) (stays : StaysSound) (secret 
       served_line changes given (subst (λ (n : ℕ). IsServed kept.rows m.request unheard (served n changes given false)) at is) gained left status_is
   by_fate (crashed moment changes given) is at gained left status_is = absurd at
 
-pub again_comes : AgainLeads → KeepsPlain → StaysSound → AgainsHaveFates → AgainComes
+pub again_comes : AgainLeads → EachKeeps → StaysSound → AgainsHaveFates → AgainComes
 again_comes leads keeps stays law secret w s m bytes now kept next batches answer status body differ h made sent readable rows_are sound befalls gains heard other =
     let f = law host m.request bytes now kept next batches (Some answer) sent readable befalls gains in
     by_fate leads keeps stays secret w s m now kept next batches status differ h made rows_are sound other f.fate f.is f.at f.gained f.rows_are (f.status_is answer refl status body heard)

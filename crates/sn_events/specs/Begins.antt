@@ -8,9 +8,10 @@ use Rattle.sn_events.specs.declared.outcome.Begun.{Begun}
 use Rattle.sn_items.specs.Draws.{drawn}
 use Rattle.sn_laws.specs.Lookups.{Bytes, empty}
 use Rattle.sn_laws.specs.Runs.{end_from}
+use Rattle.sn_lines.specs.Lines.{MayHappen}
 use Rattle.sn_link.specs.Links.{link_held}
 use Rattle.sn_rows.specs.declared.change.Change.{Change}
-use Rattle.sn_world.specs.Sessions.{LeadsLine, MayCome, opens}
+use Rattle.sn_world.specs.Sessions.{LeadsLine, opens}
 use Rattle.sn_world.specs.World.{at_first}
 
 -- a secret was drawn of the words, and the ends stand behind the server's first commit, whose changes are given
@@ -19,7 +20,7 @@ pub record HasBegun (words left : ChaCha) (begun : Begun) : Type 0 where
   pub drew : (secret, left) ≡ drawn 32 words
   pub changes : List Change
   pub changes_are : begun.changes ≡ changes
-  pub comes : MayCome secret at_first empty (opens changes true)
+  pub comes : MayHappen secret at_first empty (opens changes true)
   pub leads : LeadsLine secret at_first empty (opens changes true)
   pub no_moves : leads.moves ≡ []
   pub stands : Stands begun.ends secret leads.next (end_from empty leads.moves)

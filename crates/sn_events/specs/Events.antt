@@ -17,6 +17,7 @@ use Rattle.sn_events.specs.declared.setting.Setting.{Setting}
 use Rattle.sn_laws.specs.Lookups.{Bytes}
 use Rattle.sn_laws.specs.Runs.{LegalFrom, end_from}
 use Rattle.sn_laws.specs.declared.ideal.Ideal.{Ideal}
+use Rattle.sn_lines.specs.Lines.{MayHappen}
 use Rattle.sn_link.specs.Laws.{AreReadable, IsAnswered, IsReadable}
 use Rattle.sn_recorder.specs.Told.{AreTold}
 use Rattle.sn_rows.specs.Table.{Rows}
@@ -24,7 +25,7 @@ use Rattle.sn_rows.specs.declared.change.Change.{Change}
 use Rattle.sn_server.specs.Stores.{batch_of}
 use Rattle.sn_sync.specs.declared.answer.Answer.{Answer}
 use Rattle.sn_world.specs.Calls.{Fate, crashed, rows_behind, served, undelivered}
-use Rattle.sn_world.specs.Sessions.{LeadsLine, MayCome, again, calls}
+use Rattle.sn_world.specs.Sessions.{LeadsLine, again, calls}
 use Rattle.sn_world.specs.World.{Made, World}
 
 -- each request is one that a server reads, where those before it were answered as a server with these rows answers
@@ -53,7 +54,7 @@ module _ {T : Type 0} (secret : Bytes) (w : World) (s : Ideal) (name : Bytes) (c
     pub acts : List Act
     pub fates : List Fate
     pub halt : Halt
-    pub comes : MayCome secret w s (calls name 1 call words acts fates halt true)
+    pub comes : MayHappen secret w s (calls name 1 call words acts fates halt true)
     pub leads : LeadsLine secret w s (calls name 1 call words acts fates halt true)
     pub legal : LegalFrom s leads.moves
     pub stands : Stands outcome.ends secret leads.next (end_from s leads.moves)
@@ -72,7 +73,7 @@ module _ {T : Type 0} (secret : Bytes) (w : World) (s : Ideal) (name : Bytes) (c
 pub record AgainCame (secret : Bytes) (w : World) (s : Ideal) (m : Made) (now : ℕ) (old : Ends) (again_made : Again) : Type 0 where
   pub changes : List Change
   pub given : Answer
-  pub comes : MayCome secret w s (again m.device m.request (served now changes given false))
+  pub comes : MayHappen secret w s (again m.device m.request (served now changes given false))
   pub leads : LeadsLine secret w s (again m.device m.request (served now changes given false))
   pub begins_is : leads.begins m.request ≡ m.begins
   pub legal : LegalFrom s leads.moves

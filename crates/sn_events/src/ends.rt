@@ -2,7 +2,7 @@
 
 ghost use Rattle.std.specs.Prelude.{◌≡◌, ◌++◌, List, ℕ, codes, IfOk, OnOk};
 ghost use Rattle.rand_chacha.specs.ChaCha.{ChaCha};
-ghost use Rattle.sn_client.specs.Runs.{a_uuid, delete, edit, nothing, put, register, sign_in, sync};
+ghost use Rattle.sn_client.specs.Runs.{a_uuid, delete, edit, nothing, passwd, put, register, sign_in, sync};
 ghost use Rattle.sn_events.specs.Begins.{HasBegun};
 ghost use Rattle.sn_events.specs.Calling.{host};
 ghost use Rattle.sn_events.specs.Events.{AgainCame, AsksReadable, CallCame};
@@ -14,6 +14,7 @@ ghost use Rattle.sn_disk.specs.Shelf.{unknown};
 ghost use Rattle.sn_journal.specs.declared.owner.Owner.TheVariants.{Device as DeviceOwner, Server as ServerOwner};
 ghost use Rattle.sn_laws.specs.Lookups.{Bytes};
 ghost use Rattle.sn_link.specs.Laws.{IsReadable};
+ghost use Rattle.sn_passwd.specs.Calls.{IsOnlyAsked};
 ghost use Rattle.sn_tail.specs.Shelves.{SlotReads};
 ghost use Rattle.sn_world.specs.World.{IsMade, Made};
 ghost use Rattle.sn_laws.specs.declared.ideal.Ideal.{Ideal};
@@ -35,7 +36,7 @@ use crate::shelving::put_server;
 use sn_disk::MemShelf;
 use sn_items::Words;
 use sn_link::{Held, Losses, ServingLink};
-use sn_world::{keeps_starting, plain_first};
+use sn_world::{holds_first, keeps_starting};
 use std::alloc::{AllocError, Global};
 use uuid::Uuid;
 
@@ -56,7 +57,7 @@ impl Ends {
     pub fn begin(alloc: Global, words: &mut Words) -> Result<Begun, AllocError>
         ensures begun { IfOk result (HasBegun words.old words.new) }
     {
-        plain_first();
+        holds_first();
         keeps_starting();
         let server = fresh_server(alloc, words)?;
         let (changes, place) = first_commit(alloc, &server)?;
@@ -196,7 +197,7 @@ impl Ends {
         words: &mut Words,
     ) -> Result<Outcome<()>, AllocError>
         ensures came { (secret : Bytes) (w : World) (s : Ideal) → TokensDiffer secret → Stands self secret w s
-            → AsksReadable sync (w.devices name.now)
+            → IsOnlyAsked s (w.devices name.now) → AsksReadable sync (w.devices name.now)
             → IfOk result (λ outcome. CallCame secret w s name.now sync words.old words.new setting (λ given. nothing) self outcome) }
     {
         calls_come();
@@ -208,6 +209,32 @@ impl Ends {
             place,
         } = self.calling(setting, name)?;
         let called = device.sync(&mut link, words);
+        put_back(alloc, link, devices, place, name, called)
+    }
+
+    /// Changes the account's password to this one, with keys of this cost. The time goes with the cost. A change whose answer was
+    /// lost is resolved first.
+    pub fn passwd(
+        self,
+        setting: Setting,
+        name: &str,
+        words: &mut Words,
+        password: &str,
+        cost: u32,
+    ) -> Result<Outcome<()>, AllocError>
+        ensures came { (secret : Bytes) (w : World) (s : Ideal) → TokensDiffer secret → Stands self secret w s
+            → IsOnlyAsked s (w.devices name.now) → AsksReadable (passwd password.now cost) (w.devices name.now)
+            → IfOk result (λ outcome. CallCame secret w s name.now (passwd password.now cost) words.old words.new setting (λ given. nothing) self outcome) }
+    {
+        calls_come();
+        let Calling {
+            alloc,
+            mut link,
+            devices,
+            device,
+            place,
+        } = self.calling(setting, name)?;
+        let called = device.passwd(&mut link, words, password, cost);
         put_back(alloc, link, devices, place, name, called)
     }
 

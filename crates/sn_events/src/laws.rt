@@ -4,18 +4,16 @@
 ghost use Rattle.sn_events.specs.Laws.{AgainComes, CallsCome, QuietCome};
 
 use sn_account::rule_laws::stays_sound;
+use sn_lines::{each_keeps, each_leads};
 use sn_recorder::{agains_have_fates, exchanges_have_fates};
-use sn_world::{again_leads, calls_go, keeps_plain, registers_go, sign_ins_go, syncs_go};
+use sn_world::again_leads;
 
 /// A call of a device over a link is a line of the world, with fates that are by what is lost, and of which the records tell.
 pub fn calls_come()
     ensures { CallsCome }
 {
-    calls_go();
-    syncs_go();
-    registers_go();
-    sign_ins_go();
-    keeps_plain();
+    each_leads();
+    each_keeps();
     exchanges_have_fates();
     stays_sound();
 }
@@ -24,11 +22,8 @@ pub fn calls_come()
 pub fn quiet_come()
     ensures { QuietCome }
 {
-    calls_go();
-    syncs_go();
-    registers_go();
-    sign_ins_go();
-    keeps_plain();
+    each_leads();
+    each_keeps();
 }
 
 /// And so is a request that was made and is delivered late or again.
@@ -36,7 +31,7 @@ pub fn again_comes()
     ensures { AgainComes }
 {
     again_leads();
-    keeps_plain();
+    each_keeps();
     stays_sound();
     agains_have_fates();
 }

@@ -19,7 +19,7 @@ returns c =
     let given : Begun = record { ends = ends; changes = c.in_ok-changes.changes } in
     let first = c.in_ok-changes.ensures (after (kept_of []) fresh.changes) fresh.changes fresh.stands (one_batch fresh.secret fresh.changes fresh.first) in
     record {
-      begun = begun c.plain_first.ensures c.keeps_starting.ensures c.args.words.now c.fresh_server.new.words fresh.secret fresh.changes given fresh.drew fresh.first first.0
+      begun = begun c.holds_first.ensures c.keeps_starting.ensures c.args.words.now c.fresh_server.new.words fresh.secret fresh.changes given fresh.drew fresh.first first.0
           (subst (λ (o : Option Held). HoldsIn o (serves (after (kept_of []) fresh.changes))) (sym c.new.ensures.held) fresh.stands) first.1
           (subst IsSound fresh.stands.rows_are fresh.sound) c.new-2.ensures (subst IsFreshHeld (sym c.new.ensures.held) c.in_ok-server.ensures.disk);
     }

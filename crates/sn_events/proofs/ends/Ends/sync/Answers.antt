@@ -8,12 +8,12 @@ use Rattle.sn_events.proofs.ends.Ends.sync.Goals as goal
 
 pub returns : goal.returns
 returns c = record {
-  came = λ secret w s differ stands readable.
+  came = λ secret w s differ stands only readable.
       let ready = c.in_ok-alloc.ensures in
       let has = ready.rows (w.devices c.args.name.now) (stands.devices c.args.name.now) in
       ok_on _ _ c.put_back.result
       (λ outcome back. over_came held.Device IsOpen _ (λ given. nothing) has_rows secret w s c.args.name.now (sync)
       c.args.words.now c.sync-called.new.words c.args.setting c.args.self outcome _ c.sync-called.new.link c.sync-called.result has.batches has.rows_are has.place_is device_disk _ ready.from c.sync-called.ensures.grows (λ x place. refl) stands ready back
-      c.calls_come.ensures differ tt readable _ ready.steady.least (c.sync-called.ensures.runs (kept_of has.batches) has.open_is))
+      c.calls_come.ensures differ only readable _ ready.steady.least (c.sync-called.ensures.runs (kept_of has.batches) has.open_is))
       c.put_back.ensures;
 }
