@@ -1,0 +1,16 @@
+pub mod ShortVersions
+pub mod KeptWeights
+pub mod LastKept
+pub mod Passes
+pub mod Reaching
+pub mod Heard
+pub mod Stopping
+pub mod SyncsAnswer
+pub mod ChangeSizes
+pub mod RowEnds
+pub mod Carrying
+pub mod NoneRuns
+pub mod AskedChange
+pub mod ChangeEnds
+pub mod PasswdsAnswer
+pub mod Counts
