@@ -28,6 +28,7 @@ recovers_still reads old new c grow h =
       server = reads old.server new.server grow.server ServerOwner c.server_mark c.world.server h.server;
       devices = λ name. reads (old.devices name) (new.devices name) (grow.devices name) DeviceOwner (c.marks name) (c.world.devices name) (h.devices name);
       shows = h.shows;
+      asked_alone = h.asked_alone;
     }
 
 pub recounts_grow : ReadsThen → RecountsGrow

@@ -1,5 +1,5 @@
 -- The event of a line: what both ends did, the moves that this says, and how it ended.
-use Rattle.std.specs.Prelude.{◌≡◌, List, [], ◌++◌, Bool, false, true, Option, Some, None}
+use Rattle.std.specs.Prelude.{◌≡◌, ℕ, List, [], ◌++◌, Bool, false, true, Option, Some, None}
 use Rattle.sn_client.specs.Runs.{Act, Call, Halt, answered, broken, content, delete, edit, list, passwd, put, refused, register, sign_in, sync}
 use Rattle.sn_client.specs.declared.error.ClientError.{ClientError}
 use Rattle.sn_client.specs.declared.error.ClientError.TheVariants as client
@@ -8,7 +8,8 @@ use Rattle.sn_events.specs.Fates.{AreByLosses}
 use Rattle.sn_laws.specs.Lookups.{Bytes}
 use Rattle.sn_laws.specs.Runs.{end}
 use Rattle.sn_laws.specs.declared.ideal.Ideal.{Ideal}
-use Rattle.sn_report.specs.Labels.{Labels}
+use Rattle.sn_lines.specs.Lines.{MayHappen}
+use Rattle.sn_passwd.specs.Ends.{HasNewSet, IsAtRest}
 use Rattle.sn_report.specs.Showing.{show_lines}
 use Rattle.sn_report.specs.declared.report.Event.{Event}
 use Rattle.sn_report.specs.declared.report.Last.{Last}
@@ -18,11 +19,11 @@ use Rattle.sn_rows.specs.declared.change.Change.{Change}
 use Rattle.sn_script.specs.declared.script.Line.{Line}
 use Rattle.sn_script.specs.declared.script.Line.TheVariants as line
 use Rattle.sn_script.specs.declared.script.Ordinal.{Ordinal}
+use Rattle.sn_shown.specs.Closed.{AreClosed}
 use Rattle.sn_status.specs.declared.refusal.ClientRefusal.TheVariants as refusal
 use Rattle.sn_sync.specs.declared.answer.Answer.{Answer}
 use Rattle.sn_world.specs.Calls.{Fate, served}
-use Rattle.sn_world.specs.Sessions.{LeadsLine, MayCome, again, calls}
-use Rattle.sn_world.specs.Synced.{IsSynced}
+use Rattle.sn_world.specs.Sessions.{LeadsLine, again, calls}
 use Rattle.sn_world.specs.World.{Made, World}
 use Rattle.sn_course.specs.Courses.{Course, Reported, nth_made}
 use Rattle.sn_course.specs.Lines.{call_of, device_of, fates_of, losses_of}
@@ -56,17 +57,19 @@ EndsSo (answered given left) l = l ≡ last.Done
 EndsSo (refused why) l = EndsRefused why l
 EndsSo (broken what changes) l = ⊥
 
--- a sync that ends well leaves its device with just the undeleted last versions of its account, and no draft
-abbrev pub EndsWell : Call → Bytes → Rows → Ideal → Last → Type 0
-EndsWell sync name rows s l = l ≡ last.Done → IsSynced rows s name
-EndsWell (register identifier password cost) name rows s l = Unit {0}
-EndsWell (sign_in identifier password) name rows s l = Unit {0}
-EndsWell (put kind text) name rows s l = Unit {0}
-EndsWell (edit uuid text) name rows s l = Unit {0}
-EndsWell (delete uuid) name rows s l = Unit {0}
-EndsWell list name rows s l = Unit {0}
-EndsWell (content uuid) name rows s l = Unit {0}
-EndsWell (passwd password cost) name rows s l = Unit {0}
+-- a sync that ends well leaves its device at rest: it has just the undeleted last versions of its account, no draft, nothing to be sealed again and no set
+-- that is asked for, and holds its account's last set alone. So does a change of password; and behind it that set is a new one, the keys of the password at
+-- the cost that was set, and each undeleted last version carries it
+abbrev pub EndsWell : Call → Bytes → Ideal → Rows → Ideal → Last → Type 0
+EndsWell sync name before rows s l = l ≡ last.Done → IsAtRest rows s name
+EndsWell (passwd password cost) name before rows s l = l ≡ last.Done → (x : IsAtRest rows s name) × HasNewSet rows before x.synced.account password cost
+EndsWell (register identifier password cost) name before rows s l = Unit {0}
+EndsWell (sign_in identifier password) name before rows s l = Unit {0}
+EndsWell (put kind text) name before rows s l = Unit {0}
+EndsWell (edit uuid text) name before rows s l = Unit {0}
+EndsWell (delete uuid) name before rows s l = Unit {0}
+EndsWell list name before rows s l = Unit {0}
+EndsWell (content uuid) name before rows s l = Unit {0}
 
 -- ---- what both ends did
 
@@ -75,14 +78,14 @@ pub record Called (secret : Bytes) (c : Course) (r : Reported) (name : Bytes) (c
   pub acts : List Act
   pub fates : List Fate
   pub halt : Halt
-  pub comes : MayCome secret c.world (end c.moves) (calls name 1 call (words_of r.settings r.number) acts fates halt true)
+  pub comes : MayHappen secret c.world (end c.moves) (calls name 1 call (words_of r.settings r.number) acts fates halt true)
   pub leads : LeadsLine secret c.world (end c.moves) (calls name 1 call (words_of r.settings r.number) acts fates halt true)
   pub next_is : next ≡ leads.next
   pub moves_are : e.moves ≡ leads.moves
   pub by_losses : AreByLosses (losses_of (fates_of r.asks)) 1 acts fates
   pub at : AreServedAt r.settings.clock fates
   pub ended : EndsSo halt e.last
-  pub well : EndsWell call name (next.devices name) (end (c.moves ++ e.moves)) e.last
+  pub well : EndsWell call name (end c.moves) (next.devices name) (end (c.moves ++ e.moves)) e.last
 
 -- The request that is meant was served once more, at the line's moment, and nobody heard the answer: a line of the world.
 pub record CameAgain (secret : Bytes) (c : Course) (r : Reported) (device : Bytes) (which : Ordinal) (e : Event) (next : World) : Type 0 where
@@ -90,7 +93,7 @@ pub record CameAgain (secret : Bytes) (c : Course) (r : Reported) (device : Byte
   pub meant : nth_made device c.world.made which ≡ Some m
   pub changes : List Change
   pub given : Answer
-  pub comes : MayCome secret c.world (end c.moves) (again m.device m.request (served r.settings.clock changes given false))
+  pub comes : MayHappen secret c.world (end c.moves) (again m.device m.request (served r.settings.clock changes given false))
   pub leads : LeadsLine secret c.world (end c.moves) (again m.device m.request (served r.settings.clock changes given false))
   pub begins_is : leads.begins m.request ≡ m.begins
   pub next_is : next ≡ leads.next
@@ -121,14 +124,16 @@ abbrev pub puts_item : Line → Bool
 puts_item (line.Put device fates text) = true
 puts_item other = false
 
--- what `show` prints: a function of the state, of the labels and of the devices that have begun
-abbrev pub shown_by : Line → Labels → List Bytes → Ideal → List Bytes
-shown_by line.Show labels names s = show_lines labels names s
-shown_by other labels names s = []
+-- What `show` prints: a function of the state, of the labels, of the devices that have begun, and of which of their rows are closed, as these rows have it.
+-- No other line shows anything.
+abbrev pub ShowsAs : Line → Course → List Bytes → Type 0
+ShowsAs line.Show c lines = (closed : Bytes → Bytes → Option ℕ) × AreClosed c.world.devices (end c.moves) closed
+    × (lines ≡ show_lines c.labels c.names (end c.moves) closed)
+ShowsAs other c lines = lines ≡ []
 
 -- the event is the line's
 pub record Fits (secret : Bytes) (c : Course) (r : Reported) (e : Event) (next : World) : Type 0 where
   pub number : e.number ≡ r.number
   pub puts : e.puts ≡ puts_item r.asks
   pub happens : HappensAs r.asks secret c r e next
-  pub shown : e.shown ≡ shown_by r.asks c.labels c.names (end c.moves)
+  pub shown : ShowsAs r.asks c e.shown

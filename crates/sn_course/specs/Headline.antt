@@ -10,7 +10,6 @@ use Rattle.sn_events.specs.Slots.{slot_mark}
 use Rattle.sn_finished.specs.Finished.{CarriesLast, HasFinished}
 use Rattle.sn_items.specs.Draws.{drawn}
 use Rattle.sn_journal.specs.declared.owner.Owner.TheVariants.{Device as DeviceOwner, Server as ServerOwner}
-use Rattle.sn_keys.specs.Keys.{AreKeysOf, check_value}
 use Rattle.sn_laws.specs.Each.{Each, One}
 use Rattle.sn_laws.specs.Kept.{IsKept}
 use Rattle.sn_laws.specs.Laws.{Keeps, StandsOn}
@@ -23,18 +22,22 @@ use Rattle.sn_laws.specs.declared.ideal.Device.{Device}
 use Rattle.sn_laws.specs.declared.ideal.Version.{Version}
 use Rattle.sn_laws.specs.declared.moves.Move.{Move}
 use Rattle.sn_laws.specs.declared.moves.Move.TheVariants.{Accept, Edit, Post}
+use Rattle.sn_lines.specs.Lines.{MayHappen}
+use Rattle.sn_lines.specs.Passwords.{AreApart}
 use Rattle.sn_report.specs.declared.report.Event.{Event}
 use Rattle.sn_report.specs.declared.report.Report.{Report}
+use Rattle.sn_client.specs.States.{HasSet}
 use Rattle.sn_rows.specs.declared.change.Change.{Change}
+use Rattle.sn_rows.specs.declared.device_rows.SetRow.{SetRow}
+use Rattle.sn_rows.specs.declared.key.Slot.TheVariants.{Asked, Older}
+use Rattle.sn_shown.specs.Shown.{AreHeld}
 use Rattle.sn_script.specs.declared.script.Line.{Line}
 use Rattle.sn_script.specs.declared.script.Line.TheVariants as line
 use Rattle.sn_script.specs.declared.script.Script.{Script}
 use Rattle.sn_shows.specs.Ends.{Shows}
-use Rattle.sn_string.specs.declared.params.KeySet.{KeySet}
-use Rattle.sn_string.specs.declared.params.Params.{Params}
 use Rattle.sn_tail.specs.Shelves.{SlotReads}
 use Rattle.sn_world.specs.Holds.{TokensDiffer}
-use Rattle.sn_world.specs.Sessions.{LeadsLine, MayCome, opens}
+use Rattle.sn_world.specs.Sessions.{LeadsLine, opens}
 use Rattle.sn_world.specs.World.{World, at_first}
 use Rattle.sn_course.specs.Courses.{Course, Reported, nth_made, past, reporting, start}
 use Rattle.sn_course.specs.Fits.{Fits}
@@ -59,6 +62,8 @@ pub record Recovers (slots : Slots) (c : Course) : Type 0 where
   pub server : SlotReads slots.server ServerOwner c.server_mark c.world.server
   pub devices : (name : Bytes) → SlotReads (slots.devices name) DeviceOwner (c.marks name) (c.world.devices name)
   pub shows : Shows c.world.server c.world.devices (end c.moves)
+  -- a device that keeps a set as asked for has no older one: so with its present one it keeps two at most
+  pub asked_alone : (name : Bytes) (asked older : SetRow) → HasSet (c.world.devices name) Asked asked → ¬ (HasSet (c.world.devices name) Older older)
 
 -- ---- the events
 
@@ -84,7 +89,7 @@ pub record Opens (secret : Bytes) (words : ChaCha) (opened : World) : Type 0 whe
   pub left : ChaCha
   pub drew : (secret, left) ≡ drawn 32 words
   pub changes : List Change
-  pub comes : MayCome secret at_first empty (opens changes true)
+  pub comes : MayHappen secret at_first empty (opens changes true)
   pub leads : LeadsLine secret at_first empty (opens changes true)
   pub no_moves : leads.moves ≡ []
   pub opened_is : opened ≡ leads.next
@@ -101,14 +106,13 @@ SecretOf (r ∷ rs) secret = (left : ChaCha) × ((secret, left) ≡ drawn 32 (wo
 
 -- ---- the premises
 
--- a password with which a line of the script begins an account or signs in to one
+-- a password with which a line of the script begins an account or signs in to one, or which it gives to one
 abbrev pub IsPasswordOf : Script → Bytes → Type 0
 IsPasswordOf script password = One (λ l. password_of l ≡ Some password) script.lines
 
 -- no two passwords of the script have, under one account's parameters, one check value and different keys
 abbrev pub PasswordsApart : Script → Type 0
-PasswordsApart script = (one other : Bytes) (p : Params) (a b : KeySet) → IsPasswordOf script one → IsPasswordOf script other
-    → AreKeysOf one p a → AreKeysOf other p b → check_value a.pw ≡ check_value b.pw → a ≡ b
+PasswordsApart script = AreApart (IsPasswordOf script)
 
 -- ---- the headline
 
@@ -154,6 +158,8 @@ pub record Carried (script : Script) (slots : Slots) (secret : Bytes) (first : S
   pub recounts : Recounts slots secret (start opened) (reporting 1 first script.lines) events last
   -- the whole record is accounted for, where there is an event
   pub accounted : events ≢ [] → IsAccounted slots last
+  -- each set that an undeleted last version carries is held by a device of the script
+  pub opening : AreHeld (end (moves_in events)) last.names
   -- the moves are legal, and carry what legal moves carry
   pub legal : Legal (moves_in events)
   pub carry : MovesCarry (moves_in events)

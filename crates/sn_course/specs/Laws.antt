@@ -1,23 +1,15 @@
 -- How a replay goes on as the records of the disks grow, event by event.
 use Rattle.std.specs.Prelude.{◌≡◌, ℕ, ◌+◌, List, [], ◌∷◌, ◌++◌, length}
-use Rattle.sn_keys.specs.Keys.{AreKeysOf}
-use Rattle.sn_laws.specs.Each.{Each}
-use Rattle.sn_laws.specs.Lookups.{Bytes, empty}
-use Rattle.sn_laws.specs.Runs.{Legal, end_from}
-use Rattle.sn_laws.specs.declared.ideal.Account.{Account}
-use Rattle.sn_laws.specs.declared.ideal.Ideal.{Ideal}
+use Rattle.sn_laws.specs.Lookups.{Bytes}
+use Rattle.sn_laws.specs.Runs.{Legal}
 use Rattle.sn_laws.specs.declared.moves.Move.{Move}
-use Rattle.sn_laws.specs.declared.moves.Move.TheVariants.{Change, Register}
 use Rattle.sn_report.specs.declared.report.Event.{Event}
 use Rattle.sn_script.specs.declared.script.Line.{Line}
-use Rattle.sn_script.specs.declared.script.Script.{Script}
-use Rattle.sn_string.specs.declared.params.KeySet.{KeySet}
 use Rattle.sn_tail.specs.Shelves.{SlotGrows}
-use Rattle.sn_world.specs.Calls.{IsOnlyOf}
 use Rattle.sn_world.specs.World.{World}
 use Rattle.sn_course.specs.Courses.{Course, Reported, past, reported, reporting}
 use Rattle.sn_course.specs.Fits.{Fits}
-use Rattle.sn_course.specs.Headline.{Goes, IsPasswordOf, MovesCarry, PasswordsApart, Recounts, Recovers, Slots, moves_in}
+use Rattle.sn_course.specs.Headline.{Goes, MovesCarry, Recounts, Recovers, Slots, moves_in}
 use Rattle.sn_course.specs.Settings.{settings_after}
 use Rattle.sn_course.specs.declared.settings.Settings.{Settings}
 
@@ -65,30 +57,3 @@ MovesMore = (es : List Event) (e : Event) → moves_in (es ++ e ∷ []) ≡ move
 -- legal moves carry what is said of them
 abbrev pub CarriedOfMoves : Type 0
 CarriedOfMoves = (moves : List Move) → Legal moves → MovesCarry moves
-
--- the keys of a password of the script
-abbrev pub IsSetOf : Script → KeySet → Type 0
-IsSetOf script set = (password : Bytes) × IsPasswordOf script password × AreKeysOf password set.params set
-
--- each set of each account is of a password of the script
-abbrev pub SetsOfScript : Script → Ideal → Type 0
-SetsOfScript script s = Each (λ (a : Account). Each (IsSetOf script) a.sets) s.accounts
-
--- an account begins with such a set, and none gets another
-abbrev pub IsOfScript : Script → Move → Type 0
-IsOfScript script (Register identifier set) = IsSetOf script set
-IsOfScript script (Change identifier number set) = ⊥
-IsOfScript script m = Unit {0}
-
--- before any move there is no set; and moves of the script add no other
-abbrev pub SetsBegin : Type 0
-SetsBegin = (script : Script) → SetsOfScript script empty
-
-abbrev pub SetsStay : Type 0
-SetsStay = (script : Script) (s : Ideal) (moves : List Move) → SetsOfScript script s → Each (IsOfScript script) moves
-    → SetsOfScript script (end_from s moves)
-
--- so no second password has the check value of an account's last set
-abbrev pub OnlySetOfPassword : Type 0
-OnlySetOfPassword = (script : Script) (s : Ideal) (identifier password : Bytes) → PasswordsApart script → SetsOfScript script s → IsPasswordOf script password
-    → IsOnlyOf s identifier password

@@ -1,7 +1,7 @@
 -- What a line of a script asks for.
 use Rattle.std.specs.Prelude.{ℕ, zero, suc, List, [], ◌∷◌, Option, Some, None, codes, nat_le, if◌then◌else◌}
 use Rattle.std.specs.Option.{option_map}
-use Rattle.sn_client.specs.Runs.{Call, delete, edit, put, register, sign_in, sync}
+use Rattle.sn_client.specs.Runs.{Call, delete, edit, passwd, put, register, sign_in, sync}
 use Rattle.sn_laws.specs.Lookups.{Bytes}
 use Rattle.sn_link.specs.declared.losses.Losses.{Losses}
 use Rattle.sn_report.specs.Labels.{Labels, item_at}
@@ -45,6 +45,7 @@ fates_of (line.Put device fates text) = fates
 fates_of (line.Edit device label fates text) = fates
 fates_of (line.Delete device label fates) = fates
 fates_of (line.Sync device fates) = fates
+fates_of (line.Passwd device password fates) = fates
 fates_of (line.Seed bytes) = []
 fates_of (line.Cost n) = []
 fates_of (line.Clock n) = []
@@ -61,6 +62,7 @@ device_of (line.Put device fates text) = Some device
 device_of (line.Edit device label fates text) = Some device
 device_of (line.Delete device label fates) = Some device
 device_of (line.Sync device fates) = Some device
+device_of (line.Passwd device password fates) = Some device
 device_of (line.Late device request) = None
 device_of line.Show = None
 device_of (line.Seed bytes) = None
@@ -84,13 +86,14 @@ call_of labels settings (line.Put device fates text) = Some (put note_kind text)
 call_of labels settings (line.Edit device label fates text) = option_map (λ uuid. edit uuid text) (labelled_item labels label)
 call_of labels settings (line.Delete device label fates) = option_map delete (labelled_item labels label)
 call_of labels settings (line.Sync device fates) = Some sync
+call_of labels settings (line.Passwd device password fates) = Some (passwd password settings.cost)
 call_of labels settings (line.Late device request) = None
 call_of labels settings line.Show = None
 call_of labels settings (line.Seed bytes) = None
 call_of labels settings (line.Cost n) = None
 call_of labels settings (line.Clock n) = None
 
--- the password with which a line begins an account or signs in to one
+-- the password with which a line begins an account or signs in to one, or which it gives to one
 abbrev pub password_of : Line → Option Bytes
 password_of (line.Register device identifier password fates) = Some password
 password_of (line.SignIn device identifier password fates) = Some password
@@ -98,6 +101,7 @@ password_of (line.Put device fates text) = None
 password_of (line.Edit device label fates text) = None
 password_of (line.Delete device label fates) = None
 password_of (line.Sync device fates) = None
+password_of (line.Passwd device password fates) = Some password
 password_of (line.Late device request) = None
 password_of line.Show = None
 password_of (line.Seed bytes) = None

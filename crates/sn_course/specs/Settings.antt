@@ -26,6 +26,7 @@ settings_after s (line.Put device fates text) = s
 settings_after s (line.Edit device label fates text) = s
 settings_after s (line.Delete device label fates) = s
 settings_after s (line.Sync device fates) = s
+settings_after s (line.Passwd device password fates) = s
 settings_after s (line.Late device request) = s
 settings_after s line.Show = s
 

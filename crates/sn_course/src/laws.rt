@@ -1,7 +1,7 @@
 //! How a replay goes on as the records of the disks grow. The functions call laws of the crates below and do nothing else; their
 //! contracts are the laws.
 
-ghost use Rattle.sn_course.specs.Laws.{CarriedOfMoves, GoesMore, MovesMore, OnlySetOfPassword, RecountsGo, RecountsGrow, RecountsMore, ReportingMore, SetsBegin, SetsStay};
+ghost use Rattle.sn_course.specs.Laws.{CarriedOfMoves, GoesMore, MovesMore, RecountsGo, RecountsGrow, RecountsMore, ReportingMore};
 
 use sn_finished::finished_carries;
 use sn_laws::kept_laws::edits_kept;
@@ -58,14 +58,3 @@ pub fn carried_of_moves()
     identifiers_differ();
     nonces_differ();
 }
-
-/// Before any move there is no set, and moves of the script add none but those of its passwords.
-pub fn sets_stay()
-    ensures first { SetsBegin }
-    ensures on { SetsStay }
-{}
-
-/// No second password of the script has the check value of an account's last set.
-pub fn only_set_of_password()
-    ensures { OnlySetOfPassword }
-{}

@@ -5,7 +5,7 @@ mod laws;
 mod settings;
 
 pub use laws::{
-    carried_of_moves, goes_more, moves_more, only_set_of_password, recounts_go, recounts_grow,
-    recounts_more, reporting_more, sets_stay,
+    carried_of_moves, goes_more, moves_more, recounts_go, recounts_grow, recounts_more,
+    reporting_more,
 };
 pub use settings::Settings;

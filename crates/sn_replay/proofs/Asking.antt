@@ -1,50 +1,52 @@
 -- Each line that asks a device for a call: what its event is, whatever the call does.
-use Rattle.std.proofs.Common.{◌≡◌, ◌≢◌, ℕ, List, [], ◌++◌, Option, Some, None, true, refl, sym, ap, ◌∙◌, subst}
+use Rattle.std.proofs.Common.{◌≡◌, ◌≢◌, ℕ, List, [], ◌++◌, Option, Some, None, refl, sym, ap, ◌∙◌, subst}
 use Rattle.std.specs.Option.{option_map}
+use Rattle.hex.specs.Hex.{encode_lower}
 use Rattle.rand_chacha.specs.ChaCha.{ChaCha}
-use Rattle.sn_client.specs.Runs.{Act, Call, Halt, delete, edit, put, register, sign_in, sync}
+use Rattle.sn_client.specs.Runs.{IsNewSet, delete, edit, passwd, put, register, sign_in, sync}
 use Rattle.sn_course.specs.Courses.{Course, Reported}
-use Rattle.sn_course.specs.Fits.{CallsOf, Called, EndsSo, EndsWell}
+use Rattle.sn_course.specs.Fits.{CallsOf}
 use Rattle.sn_course.specs.Headline.{IsPasswordOf}
-use Rattle.sn_course.specs.Laws.{IsSetOf}
-use Rattle.sn_course.specs.Lines.{call_of, labelled_item, note_kind}
+use Rattle.sn_course.specs.Lines.{labelled_item, note_kind}
 use Rattle.sn_course.specs.Settings.{words_of}
 use Rattle.sn_course.specs.declared.settings.Settings.{Settings}
+use Rattle.sn_keys.specs.Keys.{AreKeysOf, derived, third}
 use Rattle.sn_laws.specs.Lookups.{Bytes}
 use Rattle.sn_laws.specs.Runs.{end}
-use Rattle.sn_report.specs.declared.report.Event.{Event}
-use Rattle.sn_report.specs.declared.report.Last.{Last}
-use Rattle.sn_rows.specs.Table.{Rows}
+use Rattle.sn_passwd.specs.Ends.{EverySyncEnds, PasswdsEnd}
 use Rattle.sn_script.specs.declared.script.Fate.{Fate}
 use Rattle.sn_script.specs.declared.script.Line.{Line}
 use Rattle.sn_script.specs.declared.script.Line.TheVariants as line
 use Rattle.sn_script.specs.declared.script.Ordinal.{Ordinal}
 use Rattle.sn_script.specs.declared.script.Script.{Script}
+use Rattle.sn_string.proofs.Facts.{same_keys, same_params}
+use Rattle.std.specs.Str.{IsUtf8}
+use Rattle.sn_string.specs.Bounds.{IsIdentifier}
 use Rattle.sn_string.specs.declared.params.KeySet.{KeySet}
-use Rattle.sn_sync.specs.declared.request.Request.{Request}
-use Rattle.sn_telling.specs.Laws.{TracesTell}
-use Rattle.sn_telling.specs.declared.calling.Calling.{Calling}
+use Rattle.sn_string.specs.declared.params.Params.{Params}
 use Rattle.sn_telling.specs.declared.calling.Calling.TheVariants as calling
-use Rattle.sn_world.specs.Calls.{BeginsBy, IsNoneOr, MayBeginBy}
-use Rattle.sn_world.specs.Holds.{TokensDiffer}
-use Rattle.sn_world.specs.Plain.{HoldsPlain}
-use Rattle.sn_world.specs.Synced.{SyncsEnd}
-use Rattle.sn_world.specs.World.{World}
+use Rattle.sn_world.specs.Holds.{Holds, TokensDiffer}
 use Rattle.sn_replay.specs.Lines.{DrawsSet}
-use Rattle.sn_replay.specs.Playing.{IsBeginsOf, IsLineOf}
-use Rattle.sn_replay.proofs.Acts.{delete_asked, edit_asked, put_asked, sign_in_asked, sync_asked}
-use Rattle.sn_replay.proofs.Registering.{all_begin, makes_first, register_asked}
-use Rattle.sn_replay.proofs.Syncing.{no_set, sync_well}
-use Rattle.sn_telling.specs.declared.calling.Asked.TheVariants as asks
+use Rattle.sn_replay.specs.Playing.{IsLineOf}
+use Rattle.sn_replay.proofs.Ending.{passwd_well, sync_well}
 
--- the sets that a call's requests may begin are of the script
-sets_of_script : (script : Script) (rows : Rows) (call : Call) → ((set : KeySet) → MayBeginBy rows call set → IsSetOf script set)
-    → (b : Request → Option KeySet) → BeginsBy rows call b → (q : Request) → IsBeginsOf script (b q)
-sets_of_script script rows call so b begins q = at (b q) (begins q)
-  where
-    at : (found : Option KeySet) → IsNoneOr (MayBeginBy rows call) found → IsBeginsOf script found
-    at None h = tt
-    at (Some set) h = so set h
+-- ---- words draw one set
+
+keys_one : (password : Bytes) (x y : KeySet) → AreKeysOf password x.params x → AreKeysOf password y.params y → x.params ≡ y.params → x ≡ y
+keys_one password x y h k same =
+    same_keys x y (ap (λ (p : Params). p.identifier) same) (ap (λ (p : Params). p.pw_cost) same) (ap (λ (p : Params). p.pw_nonce) same)
+    (h.pw ∙ ap (λ (p : Params). third 0 (derived password p)) same ∙ sym k.pw)
+    (h.mk ∙ ap (λ (p : Params). third 32 (derived password p)) same ∙ sym k.mk)
+    (h.ak ∙ ap (λ (p : Params). third 64 (derived password p)) same ∙ sym k.ak)
+
+one_new : (words left rest : ChaCha) (identifier password : Bytes) (cost : ℕ) (x y : KeySet) → IsNewSet words identifier password cost x left
+    → IsNewSet words identifier password cost y rest → x ≡ y
+one_new words left rest identifier password cost x y h k =
+    let same : h.nonce_is.bytes ≡ k.nonce_is.bytes = ap (λ (p : Bytes × ChaCha). p.0) (h.nonce_is.is_drawn ∙ sym k.nonce_is.is_drawn) in
+    let spelled : x.params.pw_nonce ≡ y.params.pw_nonce = h.nonce_is.spelled ∙ ap encode_lower same ∙ sym k.nonce_is.spelled in
+    keys_one password x y h.keys k.keys (same_params x.params y.params (h.identifier_is ∙ sym k.identifier_is) (h.cost_is ∙ sym k.cost_is) spelled)
+
+-- ---- the lines
 
 module _ (script : Script) (secret : Bytes) (c : Course) (number : ℕ) (settings : Settings) (device : Bytes) where
   abbrev reported_so : Line → Reported
@@ -62,25 +64,24 @@ module _ (script : Script) (secret : Bytes) (c : Course) (number : ℕ) (setting
     happens = λ e next h. h;
     shows = refl;
     puts = refl;
-    of_script = sets_of_script script (c.world.devices device) (register identifier password settings.cost) (λ set keys. (password, of, keys));
-    calls_so = λ acts lost halt comes x whole.
-        let so = register_asked x.begins words identifier password settings.cost set draws (c.world.devices device) x.of_line acts halt comes.runs
-        (makes_first secret c.world x.next (end c.moves) device x.begins acts lost halt x.moves whole comes.over x.goes) in
-        ((refl, all_begin x.begins identifier (Some set) acts so), so);
-    well = λ acts lost halt comes x l ended. tt;
+    fits = tt;
+    gives = of;
+    is = (refl, λ new left drawn. ap Some (one_new words draws.0 left identifier password settings.cost set new draws.1 drawn));
+    well = λ acts lost halt comes x one l ended. tt;
   }
 
-  pub sign_in_of : (identifier password : Bytes) (fates : List Fate) (known : Bytes) → identifier ≡ known
+  pub sign_in_of : (identifier password : Bytes) (fates : List Fate) (known : Bytes) → identifier ≡ known → IsIdentifier identifier → IsUtf8 identifier
+      → IsPasswordOf script password
       → IsLineOf script secret c (reported_so (line.SignIn device identifier password fates)) device (sign_in identifier password) (calling.SignIn known)
-  sign_in_of identifier password fates known is = record {
+  sign_in_of identifier password fates known is long utf8 of = record {
     named = refl;
     happens = λ e next h. h;
     shows = refl;
     puts = refl;
-    of_script = sets_of_script script (c.world.devices device) (sign_in identifier password) (λ set none. absurd none);
-    calls_so = λ acts lost halt comes x whole.
-        (is, sign_in_asked x.begins identifier password (c.world.devices device) words acts halt comes.runs);
-    well = λ acts lost halt comes x l ended. tt;
+    fits = (long, utf8);
+    gives = of;
+    is = is;
+    well = λ acts lost halt comes x one l ended. tt;
   }
 
   pub put_of : (fates : List Fate) (text kind content : Bytes) → note_kind ≡ kind → text ≡ content
@@ -90,10 +91,10 @@ module _ (script : Script) (secret : Bytes) (c : Course) (number : ℕ) (setting
     happens = λ e next h. h;
     shows = refl;
     puts = refl;
-    of_script = sets_of_script script (c.world.devices device) (put note_kind text) (λ set none. absurd none);
-    calls_so = λ acts lost halt comes x whole.
-        ((kind_is, text_is), put_asked x.begins asks.Other note_kind text (c.world.devices device) words acts halt comes.runs);
-    well = λ acts lost halt comes x l ended. tt;
+    fits = tt;
+    gives = tt;
+    is = (kind_is, text_is);
+    well = λ acts lost halt comes x one l ended. tt;
   }
 
   pub edit_of : (label : Ordinal) (fates : List Fate) (uuid text content : Bytes) → labelled_item c.labels label ≡ Some uuid → text ≡ content
@@ -105,10 +106,10 @@ module _ (script : Script) (secret : Bytes) (c : Course) (number : ℕ) (setting
         (sym found) h;
     shows = refl;
     puts = refl;
-    of_script = sets_of_script script (c.world.devices device) (edit uuid text) (λ set none. absurd none);
-    calls_so = λ acts lost halt comes x whole.
-        (text_is, edit_asked x.begins asks.Other uuid text (c.world.devices device) words acts halt comes.runs);
-    well = λ acts lost halt comes x l ended. tt;
+    fits = tt;
+    gives = tt;
+    is = text_is;
+    well = λ acts lost halt comes x one l ended. tt;
   }
 
   pub delete_of : (label : Ordinal) (fates : List Fate) (uuid : Bytes) → labelled_item c.labels label ≡ Some uuid
@@ -119,24 +120,37 @@ module _ (script : Script) (secret : Bytes) (c : Course) (number : ℕ) (setting
         subst (λ (o : Option Bytes). CallsOf secret c (reported_so (line.Delete device label fates)) (Some device) (option_map delete o) e next) (sym found) h;
     shows = refl;
     puts = refl;
-    of_script = sets_of_script script (c.world.devices device) (delete uuid) (λ set none. absurd none);
-    calls_so = λ acts lost halt comes x whole.
-        (tt, delete_asked x.begins asks.Other uuid (c.world.devices device) words acts halt comes.runs);
-    well = λ acts lost halt comes x l ended. tt;
+    fits = tt;
+    gives = tt;
+    is = tt;
+    well = λ acts lost halt comes x one l ended. tt;
   }
 
-  pub sync_of : SyncsEnd → TracesTell → TokensDiffer secret → HoldsPlain secret c.world (end c.moves) → (fates : List Fate)
+  pub sync_of : EverySyncEnds → TokensDiffer secret → Holds secret c.world (end c.moves) → (fates : List Fate)
       → IsLineOf script secret c (reported_so (line.Sync device fates)) device sync calling.Sync
-  sync_of synced tell differ h fates = record {
+  sync_of ends differ h fates = record {
     named = refl;
     happens = λ e next k. k;
     shows = refl;
     puts = refl;
-    of_script = sets_of_script script (c.world.devices device) sync
-        (λ set asked. absurd (no_set (c.world.devices device) set (h.plain.unasked device) asked));
-    calls_so = λ acts lost halt comes x whole.
-        (tt, sync_asked x.begins secret c.world (end c.moves) device words acts halt h comes.runs);
-    well = λ acts lost halt comes x l ended. sync_well synced tell secret differ c.world c.moves h device words acts lost halt comes x l ended;
+    fits = tt;
+    gives = tt;
+    is = tt;
+    well = λ acts lost halt comes x one l ended. sync_well secret differ c.world c.moves h device words ends acts lost halt comes x one l ended;
+  }
+
+  pub passwd_of : PasswdsEnd → TokensDiffer secret → Holds secret c.world (end c.moves) → (password : Bytes) (fates : List Fate) → IsPasswordOf script password
+      → IsLineOf script secret c (reported_so (line.Passwd device password fates)) device (passwd password settings.cost) calling.Passwd
+  passwd_of ends differ h password fates of = record {
+    named = refl;
+    happens = λ e next k. k;
+    shows = refl;
+    puts = refl;
+    fits = tt;
+    gives = of;
+    is = tt;
+    well = λ acts lost halt comes x one l ended.
+        passwd_well secret differ c.world c.moves h device words ends password settings.cost acts lost halt comes x one l ended;
   }
 
 -- a label that names nothing may not be named

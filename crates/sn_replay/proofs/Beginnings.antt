@@ -1,9 +1,10 @@
 -- Both ends before the first event.
-use Rattle.std.proofs.Common.{◌≡◌, ℕ, List, [], ◌∷◌, Option, None, true, refl, sym, ap, ◌∙◌, subst}
+use Rattle.std.proofs.Common.{◌≡◌, ℕ, zero, suc, List, [], ◌∷◌, Option, None, true, refl, sym, ap, ◌∙◌, subst}
 use Rattle.std.specs.List.{AllZip}
 use Rattle.rand_chacha.specs.ChaCha.{ChaCha}
 use Rattle.sn_course.specs.Courses.{made_by, start}
-use Rattle.sn_course.specs.Headline.{Opens}
+use Rattle.sn_client.specs.Laws.{StepsStaySound}
+use Rattle.sn_course.specs.Headline.{IsPasswordOf, Opens}
 use Rattle.sn_disk.specs.Shelf.{Slot, unknown}
 use Rattle.sn_disk.specs.declared.memory.MemDisk.{MemDisk}
 use Rattle.sn_events.specs.Begins.{HasBegun}
@@ -12,10 +13,12 @@ use Rattle.sn_events.specs.Standing.{Stands}
 use Rattle.sn_events.specs.declared.outcome.Begun.{Begun}
 use Rattle.sn_items.specs.Draws.{drawn}
 use Rattle.sn_journal.specs.declared.owner.Owner.TheVariants.{Device as DeviceOwner}
-use Rattle.sn_laws.specs.Each.{Each}
 use Rattle.sn_laws.specs.Lookups.{Bytes, empty}
 use Rattle.sn_laws.specs.Runs.{end, end_from}
 use Rattle.sn_laws.specs.declared.moves.Move.{Move}
+use Rattle.sn_lines.proofs.Facts.{each_holds_of, first_holds_of}
+use Rattle.sn_lines.specs.Fits.{AllFitFirst, EachFits}
+use Rattle.sn_lines.specs.Passwords.{HoldsOf}
 use Rattle.sn_row_map.specs.RowMaps.{row_in}
 use Rattle.sn_rows.specs.Table.{Rows, no_rows, row_after, rows_after}
 use Rattle.sn_rows.specs.declared.change.Change.{Change}
@@ -23,22 +26,27 @@ use Rattle.sn_rows.specs.declared.key.Key.{Key}
 use Rattle.sn_rows.specs.declared.value.Value.{Value}
 use Rattle.sn_script.specs.declared.script.Script.{Script}
 use Rattle.sn_tail.specs.Shelves.{SlotReads}
-use Rattle.sn_world.specs.Delivered.{FirstFits, TracesFit}
+use Rattle.sn_world.specs.Holders.{AreHeld}
 use Rattle.sn_world.specs.Holds.{TokensDiffer}
 use Rattle.sn_world.specs.Laws.{HoldsFirst}
-use Rattle.sn_world.specs.Sessions.{line_steps, opens}
+use Rattle.sn_world.specs.Sessions.{opens}
 use Rattle.sn_world.specs.World.{Made, World, at_first}
 use Rattle.sn_replay.specs.Keeping.{IsKeptOf, requests_of}
 use Rattle.sn_replay.specs.Mirrored.{mirrored}
-use Rattle.sn_replay.specs.Playing.{Begins, BeginsAt, IsAt, IsMadeOf}
+use Rattle.sn_replay.specs.Playing.{Begins, BeginsAt, IsAt}
 use Rattle.sn_replay.specs.declared.kept.Kept.{Kept}
 use Rattle.sn_replay.specs.declared.known.Known.{Known}
 use Rattle.sn_replay.specs.declared.known.Seen.{Seen}
 
+-- there is no account
+none_held : AreHeld empty
+none_held zero a uuid v text number at = absurd (cc)
+none_held (suc n) a uuid v text number at = absurd (cc)
+
 nothing_read : SlotReads unknown DeviceOwner 0 no_rows
 nothing_read = record { batches = []; stood = (refl, refl); rows_are = refl }
 
-module _ (first : HoldsFirst) (fitting : FirstFits) (fit : TracesFit) (words seed left : ChaCha) (same : seed ≡ words) (begun : Begun) (x : HasBegun seed left begun)
+module _ (first : HoldsFirst) (fitting : AllFitFirst) (fit : EachFits) (stay : StepsStaySound) (words seed left : ChaCha) (same : seed ≡ words) (begun : Begun) (x : HasBegun seed left begun)
     (seen : Seen) (labels_none : seen.labels ≡ []) (names_none : seen.names ≡ [])
     (rows : (key : Key) → row_in seen.server key ≡ row_after None key begun.changes)
     (none_mirrored : (name : Bytes) → mirrored seen.devices name ≡ no_rows) (none_kept : (name : Bytes) → requests_of seen.requests name ≡ []) where
@@ -62,16 +70,18 @@ module _ (first : HoldsFirst) (fitting : FirstFits) (fit : TracesFit) (words see
   at_start script differ = record {
     legal = tt;
     stands = subst (λ (ms : List Move). Stands begun.ends x.secret opened (end_from empty ms)) x.no_moves x.stands;
-    fits = fit x.secret at_first opened empty (line_steps x.leads.begins (opens x.changes true)) x.leads.moves differ (first x.secret) fitting.devices x.leads.goes;
+    fits = fit x.secret at_first empty (opens x.changes true) fitting tt tt x.leads;
+    holds_of = subst (λ (ms : List Move). HoldsOf (IsPasswordOf script) opened (end_from empty ms)) x.no_moves
+        (each_holds_of (IsPasswordOf script) stay x.secret at_first empty (opens x.changes true) (first x.secret) (first_holds_of (IsPasswordOf script)) tt tt x.leads);
+    held = none_held;
     labels_are = labels_none;
     names_are = names_none;
+    begun = λ name none. device_none name;
     server_is = server_now;
     devices_are = λ name. none_mirrored name ∙ sym (device_none name);
     requests_are = λ name.
         subst (λ (ms : List Made). AllZip IsKeptOf (made_by name ms) (requests_of seen.requests name)) (sym x.leads.made_is)
         (subst (λ (ks : List Kept). AllZip IsKeptOf (made_by name []) ks) (sym (none_kept name)) tt);
-    made_are = subst (Each (IsMadeOf script [])) (sym x.leads.made_is) tt;
-    moves_are = tt;
     marks_are = λ name. ap (λ d. slot_mark (slot_of_device d)) (sym (x.none name));
     marks_read = λ name.
         subst (λ d. SlotReads (slot_of_device d) DeviceOwner 0 (opened.devices name)) (sym (x.none name))

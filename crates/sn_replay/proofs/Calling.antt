@@ -4,30 +4,27 @@ use Rattle.rand_chacha.specs.ChaCha.{ChaCha}
 use Rattle.sn_client.specs.Runs.{Act, Call, asked, commits as committed}
 use Rattle.sn_course.specs.Courses.{Course}
 use Rattle.sn_course.specs.Headline.{IsPasswordOf, PasswordsApart}
-use Rattle.sn_course.specs.Laws.{IsOfScript, OnlySetOfPassword, SetsBegin, SetsStay}
 use Rattle.sn_events.specs.Calling.{host}
 use Rattle.sn_events.specs.Events.{AreReadableBy, AsksReadable}
 use Rattle.sn_events.specs.declared.ends.Ends.{Ends}
 use Rattle.sn_events.specs.declared.setting.Setting.{Setting}
-use Rattle.sn_laws.specs.Each.{Each}
-use Rattle.sn_laws.specs.Lookups.{Bytes, empty}
+use Rattle.sn_laws.specs.Lookups.{Bytes}
 use Rattle.sn_laws.specs.Runs.{end}
 use Rattle.sn_laws.specs.declared.ideal.Ideal.{Ideal}
-use Rattle.sn_laws.specs.declared.moves.Move.{Move}
-use Rattle.sn_laws.specs.declared.moves.Move.TheVariants.{Accept, Change, Register}
+use Rattle.sn_lines.proofs.Facts.{apart_may_call}
+use Rattle.sn_lines.specs.Lines.{MayCall}
+use Rattle.sn_lines.specs.Passwords.{GivesOf}
 use Rattle.sn_readable.specs.Laws.{AreReadableBy as ReadableBy, RunsReadable}
 use Rattle.sn_script.specs.declared.script.Script.{Script}
 use Rattle.sn_rows.specs.Table.{Rows}
-use Rattle.sn_world.specs.Calls.{IsOnlyOf, rows_behind}
-use Rattle.sn_world.specs.Delivered.{KeepsPassword}
+use Rattle.sn_world.specs.Calls.{rows_behind}
 use Rattle.sn_world.specs.Fitting.{FitsCall}
 use Rattle.sn_world.specs.World.{World}
 use Rattle.sn_replay.specs.Coming.{HasCame}
-use Rattle.sn_replay.specs.Playing.{IsAt, IsMoveOf}
+use Rattle.sn_replay.specs.Playing.{IsAt}
 use Rattle.sn_replay.specs.declared.came.Came.{Came}
 use Rattle.sn_replay.specs.declared.known.Known.{Known}
 use Rattle.sn_replay.proofs.Hosts.{host_named}
-use Rattle.sn_replay.proofs.Lists.{each_with}
 
 pub has_along : (secret : Bytes) (w : World) (s : Ideal) (call : Call) (old : Ends) (came : Came) (one other : Bytes) (words same : ChaCha) (setting set : Setting)
     → one ≡ other → words ≡ same → setting ≡ set → HasCame secret w s one call words setting old came → HasCame secret w s other call same set old came
@@ -44,20 +41,13 @@ readable_so at server (asked r reply ∷ acts) h = (h.0, λ fate answered. reada
 
 -- whatever the call does, a server reads its requests
 pub readable_of : RunsReadable → (script : Script) (secret : Bytes) (known : Known) (c : Course) (name : Bytes) (call : Call) → IsAt script secret known c
-    → FitsCall call → KeepsPassword call → AsksReadable call (c.world.devices name)
-readable_of readable script secret known c name call at fits keeps =
+    → FitsCall call → AsksReadable call (c.world.devices name)
+readable_of readable script secret known c name call at fits =
     λ words acts halt run server.
-    readable_so host server acts (readable host secret c.world (end c.moves) name 1 call words acts halt server host_named at.stands.holds (at.fits name) fits keeps run)
+    readable_so host server acts
+    (readable host secret c.world (end c.moves) name 1 call words acts halt server host_named at.stands.holds (at.fits.devices name) fits run)
 
--- no second password of the script has the check value of the account's last set
-of_script : (script : Script) (names : List Bytes) (m : Move) → IsMoveOf script names m → IsOfScript script m
-of_script script names (Register identifier set) h = h
-of_script script names (Accept device uuid stamp under) h = tt
-of_script script names (Change identifier number set) h = h
-of_script script names m h = tt
-
-pub only_of : SetsBegin → SetsStay → OnlySetOfPassword → (script : Script) (secret : Bytes) (known : Known) (c : Course) (identifier password : Bytes)
-    → PasswordsApart script → IsPasswordOf script password → IsAt script secret known c → IsOnlyOf (end c.moves) identifier password
-only_of first stay only script secret known c identifier password apart of at =
-    only script (end c.moves) identifier password apart
-    (stay script empty c.moves (first script) (each_with (IsMoveOf script c.names) (IsOfScript script) (of_script script c.names) c.moves at.moves_are)) of
+-- no second password of the script has the check value of a set's, so the call may be made
+pub may_call : (script : Script) (secret : Bytes) (known : Known) (c : Course) (name : Bytes) (call : Call) → PasswordsApart script → IsAt script secret known c
+    → GivesOf (IsPasswordOf script) call → MayCall (end c.moves) (c.world.devices name) call
+may_call script secret known c name call apart at gives = apart_may_call (IsPasswordOf script) c.world (end c.moves) name call apart at.holds_of gives

@@ -5,20 +5,26 @@ use Rattle.std.specs.List.{AllZip}
 use Rattle.std.specs.Str.{bytes_eq}
 use Rattle.std.proofs.lemmas.List.{reverse-append}
 use Rattle.sn_course.specs.Courses.{Course, Reported, made_by, nth_made, past}
+use Rattle.sn_client.specs.Laws.{StepsStaySound}
 use Rattle.sn_course.specs.Fits.{CameAgain, Fits}
+use Rattle.sn_course.specs.Headline.{IsPasswordOf}
 use Rattle.sn_course.specs.declared.settings.Settings.{Settings}
 use Rattle.sn_disk.specs.Shelf.{Slot}
 use Rattle.sn_disk.specs.declared.memory.MemDisk.{MemDisk}
+use Rattle.sn_events.specs.Calling.{host}
 use Rattle.sn_events.specs.Events.{AgainCame}
 use Rattle.sn_events.specs.Slots.{device_slot, server_slot, slot_mark, slot_of_device}
 use Rattle.sn_events.specs.Standing.{Stands}
 use Rattle.sn_events.specs.declared.outcome.Again.{Again}
 use Rattle.sn_journal.specs.declared.owner.Owner.TheVariants.{Device as DeviceOwner, Server as ServerOwner}
 use Rattle.sn_laws.proofs.Facts.{end_from-append, same_text}
-use Rattle.sn_laws.specs.Each.{Each, One}
+use Rattle.sn_laws.specs.Each.{One}
 use Rattle.sn_laws.specs.Lookups.{Bytes, empty}
 use Rattle.sn_laws.specs.Runs.{LegalFrom, end, end_from}
 use Rattle.sn_laws.specs.declared.moves.Move.{Move}
+use Rattle.sn_lines.proofs.Facts.{each_holds_of}
+use Rattle.sn_lines.specs.Fits.{EachFits}
+use Rattle.sn_lines.specs.Passwords.{HoldsOf}
 use Rattle.sn_report.specs.Labels.{Labels, labels_of}
 use Rattle.sn_report.specs.declared.report.Event.{Event}
 use Rattle.sn_report.specs.declared.report.Last.TheVariants as last
@@ -29,25 +35,26 @@ use Rattle.sn_script.specs.declared.script.Line.TheVariants as line
 use Rattle.sn_script.specs.declared.script.Ordinal.{Ordinal}
 use Rattle.sn_script.specs.declared.script.Ordinal.TheVariants as ordinal
 use Rattle.sn_script.specs.declared.script.Script.{Script}
-use Rattle.sn_string.specs.declared.params.KeySet.{KeySet}
+use Rattle.sn_server.specs.Stores.{batch_of}
 use Rattle.sn_sync.specs.declared.request.Request.{Request}
 use Rattle.sn_tail.specs.Shelves.{SlotReads}
 use Rattle.sn_telling.specs.Laws.{AgainsTell}
-use Rattle.sn_telling.specs.Telling.{fate_moves}
+use Rattle.sn_telling.specs.Walking.{IsReadAs, SaysGained, rows_behind_all}
 use Rattle.sn_world.specs.Calls.{Fate, served}
-use Rattle.sn_world.specs.Delivered.{TracesFit}
+use Rattle.sn_world.specs.Holders.{AreHeld, KeepsHeld}
 use Rattle.sn_world.specs.Holds.{TokensDiffer}
-use Rattle.sn_world.specs.Sessions.{again, line_steps}
+use Rattle.sn_world.specs.Laws.{Keeps}
+use Rattle.sn_world.specs.Sessions.{Line, again, line_steps}
 use Rattle.sn_world.specs.World.{IsMade, Made, World}
 use Rattle.sn_replay.specs.Keeping.{IsKeptOf, nth_of, requests_of}
 use Rattle.sn_replay.specs.Mirrored.{mirrored}
-use Rattle.sn_replay.specs.Playing.{IsAt, IsMadeOf, IsMoveOf, Tells}
+use Rattle.sn_replay.specs.Playing.{IsAt, Tells}
 use Rattle.sn_replay.specs.declared.kept.Kept.{Kept}
 use Rattle.sn_replay.specs.declared.known.Known.{Known}
 use Rattle.sn_replay.specs.declared.known.Seen.{Seen}
-use Rattle.sn_replay.specs.declared.known.Told.{Told}
-use Rattle.sn_replay.proofs.Lists.{each_append, each_one, one_at, zip_none, zip_there}
-use Rattle.sn_replay.proofs.MoveKinds.{IsMoveBy, fate_by, of_script}
+use Rattle.sn_replay.specs.declared.known.LineTold.{LineTold}
+use Rattle.sn_replay.proofs.Holding.{held_along}
+use Rattle.sn_replay.proofs.Lists.{one_at, zip_none, zip_there}
 use Rattle.sn_replay.proofs.Telling.{legal_append}
 
 -- ---- the request that is meant
@@ -113,21 +120,24 @@ nth_none name made kept (ordinal.Nth (suc place)) all none = zip_none IsKeptOf (
 
 -- ---- its event
 
-module _ (tell : AgainsTell) (fit : TracesFit) (script : Script) (secret : Bytes) (differ : TokensDiffer secret) (c : Course) (number : ℕ) (settings : Settings)
-    (device : Bytes) (which : Ordinal) (known : Known) (at : IsAt script secret known c) (kept : Kept) (meant : Meant device c.world.made which kept)
+rows_gained : (server : Rows) (changes : List Change) → rows_behind_all server (batch_of changes) ≡ rows_after server changes
+rows_gained server [] = refl
+rows_gained server (change ∷ changes) = refl
+
+module _ (tell : AgainsTell) (fit : EachFits) (keeps : Keeps) (stays : KeepsHeld) (stay : StepsStaySound) (script : Script) (secret : Bytes)
+    (differ : TokensDiffer secret) (c : Course) (number : ℕ) (settings : Settings) (device : Bytes) (which : Ordinal) (known : Known)
+    (at : IsAt script secret known c) (kept : Kept) (meant : Meant device c.world.made which kept)
     (gave : Again) (x : AgainCame secret c.world (end c.moves) meant.m settings.clock known.ends gave) (moves : List Move)
     (behind : Seen) (shown : List Bytes) (mark : ℕ)
-    (told : (moves ≡ fate_moves (row_in known.seen.server) device meant.m.begins meant.m.request (served settings.clock x.changes x.given false))
-    × (row_in behind.server ≡ rows_after (row_in known.seen.server) x.changes))
+    (told : (found : Option Request) × IsReadAs kept.request found
+    × SaysGained (row_in known.seen.server) (mirrored known.seen.devices device) device kept.begins found gave.batches moves)
+    (server_see : row_in behind.server ≡ rows_behind_all (row_in known.seen.server) gave.batches)
     (labels_see : behind.labels ≡ labels_of false known.seen.labels moves) (names_see : behind.names ≡ known.seen.names)
-    (devices_see : behind.devices ≡ known.seen.devices) (requests_see : behind.requests ≡ known.seen.requests) (none_shown : shown ≡ [])
+    (devices_see : (name : Bytes) → mirrored behind.devices name ≡ mirrored known.seen.devices name) (requests_see : behind.requests ≡ known.seen.requests)
+    (none_shown : shown ≡ [])
     (marked : (mark ≡ slot_mark (server_slot gave.ends)) × SlotReads (server_slot gave.ends) ServerOwner mark x.leads.next.server) where
   abbrev m : Made
   m = meant.m
-
-  -- whatever the request, the set that this one would begin
-  abbrev begins : Request → Option KeySet
-  begins q = m.begins
 
   abbrev fate : Fate
   fate = served settings.clock x.changes x.given false
@@ -138,6 +148,9 @@ module _ (tell : AgainsTell) (fit : TracesFit) (script : Script) (secret : Bytes
   abbrev next : World
   next = x.leads.next
 
+  abbrev the_line : Line
+  the_line = again m.device m.request fate
+
   abbrev r : Reported
   r = record { number = number; settings = settings; asks = line.Late device which }
 
@@ -147,15 +160,18 @@ module _ (tell : AgainsTell) (fit : TracesFit) (script : Script) (secret : Bytes
   abbrev now : Course
   now = past c r.asks e next
 
-  moves_here : moves ≡ fate_moves w.server m.device m.begins m.request fate
-  moves_here =
-      told.0 ∙ ap (λ (rows : Rows). fate_moves rows device m.begins m.request fate) at.server_is
-      ∙ ap (λ (n : Bytes). fate_moves w.server n m.begins m.request fate) (sym meant.device_is)
+  -- what was gained, over the world's rows
+  gained_here : SaysGained w.server (w.devices m.device) m.device kept.begins told.0 (batch_of x.changes) moves
+  gained_here =
+      subst (λ (rows : Rows). SaysGained rows (w.devices m.device) m.device kept.begins told.0 (batch_of x.changes) moves) at.server_is
+      (subst (λ (batches : List (List Change)). SaysGained (row_in known.seen.server) (w.devices m.device) m.device kept.begins told.0 batches moves) x.gained
+      (subst (λ (n : Bytes). SaysGained (row_in known.seen.server) (w.devices n) n kept.begins told.0 gave.batches moves) (sym meant.device_is)
+      (subst (λ (rows : Rows). SaysGained (row_in known.seen.server) rows device kept.begins told.0 gave.batches moves) (at.devices_are device) told.2)))
 
   moves_told : moves ≡ x.leads.moves
   moves_told =
-      moves_here ∙ ap (λ (b : Option KeySet). fate_moves w.server m.device b m.request fate) (sym x.begins_is)
-      ∙ sym (tell secret w (end c.moves) m.device m.request fate differ at.stands.holds x.leads)
+      tell secret host w (end c.moves) m settings.clock x.changes x.given kept.request kept.begins told.0 moves differ at.stands.holds meant.is.sent meant.is.readable
+      meant.is.begins_so told.1 gained_here x.leads x.begins_is
 
   came : CameAgain secret c r device which e next
   came = record {
@@ -177,15 +193,6 @@ module _ (tell : AgainsTell) (fit : TracesFit) (script : Script) (secret : Bytes
   end_is : end (c.moves ++ moves) ≡ end_from (end c.moves) x.leads.moves
   end_is = end_from-append empty c.moves moves ∙ ap (end_from (end c.moves)) moves_told
 
-  of_made : IsMadeOf script c.names m
-  of_made = each_one (IsMadeOf script c.names) w.made m at.made_are meant.among
-
-  moves_ours : Each (IsMoveOf script c.names) (c.moves ++ moves)
-  moves_ours =
-      each_append (IsMoveOf script c.names) c.moves moves at.moves_are
-      (of_script script c.names m.device begins moves (λ q. of_made.begins) of_made.among
-      (subst (Each (IsMoveBy m.device begins)) (sym moves_here) (fate_by w.server m.device begins m.request fate)))
-
   slot_same : (name : Bytes) → device_slot gave.ends name ≡ device_slot known.ends name
   slot_same name = ap slot_of_device (x.devices name)
 
@@ -196,16 +203,20 @@ module _ (tell : AgainsTell) (fit : TracesFit) (script : Script) (secret : Bytes
   at_now = record {
     legal = legal_append empty c.moves moves at.legal (subst (LegalFrom (end c.moves)) (sym moves_told) x.legal);
     stands = subst (Stands gave.ends secret next) (sym end_is) x.stands;
-    fits = fit secret w next (end c.moves) (line_steps x.leads.begins (again m.device m.request fate)) x.leads.moves differ at.stands.holds.holds at.fits x.leads.goes;
+    fits = fit secret w (end c.moves) the_line at.fits tt tt x.leads;
+    holds_of = subst (HoldsOf (IsPasswordOf script) next) (sym end_is)
+        (each_holds_of (IsPasswordOf script) stay secret w (end c.moves) the_line at.stands.holds at.holds_of tt tt x.leads);
+    held = subst AreHeld (sym end_is)
+        (held_along keeps stays secret differ w (end c.moves) (line_steps x.leads.begins the_line) x.leads.moves next at.stands.holds at.held x.leads.goes);
     labels_are = labels_see ∙ ap (λ (ls : Labels). labels_of false ls moves) at.labels_are;
     names_are = names_see ∙ at.names_are;
-    server_is = told.1 ∙ ap (λ (rows : Rows). rows_after rows x.changes) at.server_is ∙ sym x.leads.server_is;
-    devices_are = λ name. ap (λ d. mirrored d name) devices_see ∙ at.devices_are name ∙ sym (x.leads.devices_are name);
+    begun = λ name none. x.leads.devices_are name ∙ at.begun name none;
+    server_is = server_see ∙ ap (rows_behind_all (row_in known.seen.server)) x.gained ∙ rows_gained (row_in known.seen.server) x.changes
+        ∙ ap (λ (rows : Rows). rows_after rows x.changes) at.server_is ∙ sym x.leads.server_is;
+    devices_are = λ name. devices_see name ∙ at.devices_are name ∙ sym (x.leads.devices_are name);
     requests_are = λ name.
         subst (λ (ms : List Made). AllZip IsKeptOf (made_by name ms) (requests_of behind.requests name)) (sym made_same)
         (subst (λ q. AllZip IsKeptOf (made_by name w.made) (requests_of q name)) (sym requests_see) (at.requests_are name));
-    made_are = subst (Each (IsMadeOf script c.names)) (sym made_same) at.made_are;
-    moves_are = moves_ours;
     marks_are = λ name. at.marks_are name ∙ ap slot_mark (sym (slot_same name));
     marks_read = λ name.
         subst (λ (slot : Slot MemDisk). SlotReads slot DeviceOwner (c.marks name) (next.devices name)) (sym (slot_same name))

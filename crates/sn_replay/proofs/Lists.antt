@@ -2,11 +2,10 @@
 use Rattle.std.proofs.Common.{◌≡◌, ◌≢◌, ◌⊎◌, ℕ, zero, suc, List, [], ◌∷◌, ◌++◌, Bool, true, false, Option, Some, None, refl, sym, ap, ◌∙◌, subst, inl, inr}
 use Rattle.std.specs.Prelude.{◌||◌, IfErr, IsErrAnd, Result, slice_get}
 use Rattle.std.proofs.lemmas.Result.{err_from_is_err_and}
-use Rattle.std.specs.List.{AllZip, flat_map, list_any}
-use Rattle.std.specs.Option.{option_to_list}
+use Rattle.std.specs.List.{AllZip, list_any}
 use Rattle.std.specs.Str.{bytes_eq}
 use Rattle.sn_laws.proofs.Facts.{same_text}
-use Rattle.sn_laws.specs.Each.{Each, One}
+use Rattle.sn_laws.specs.Each.{One}
 use Rattle.sn_laws.specs.Lookups.{Bytes}
 
 -- an error that is handed on
@@ -14,23 +13,6 @@ pub handed_on : {T E : Type 0} (P : E → Type 0) (r : Result T E) (e : E) → I
 handed_on P r e exit h =
     let p = err_from_is_err_and r exit in
     rw p.1 (subst P (sym p.2) h)
-
-pub each_append : {A : Type 0} (P : A → Type 0) (xs ys : List A) → Each P xs → Each P ys → Each P (xs ++ ys)
-each_append P [] ys h k = k
-each_append P (x ∷ xs) ys h k = (h.0, each_append P xs ys h.1 k)
-
-pub each_with : {A : Type 0} (P Q : A → Type 0) → ((x : A) → P x → Q x) → (xs : List A) → Each P xs → Each Q xs
-each_with P Q f [] h = tt
-each_with P Q f (x ∷ xs) h = (f x h.0, each_with P Q f xs h.1)
-
-pub each_flat : {A B : Type 0} (P : B → Type 0) (f : A → List B) → ((x : A) → Each P (f x)) → (xs : List A) → Each P (flat_map f xs)
-each_flat P f h [] = tt
-each_flat P f h (x ∷ xs) = each_append P (f x) (flat_map f xs) (h x) (each_flat P f h xs)
-
-pub each_one : {A : Type 0} (P : A → Type 0) (xs : List A) (x : A) → Each P xs → One (λ y. y ≡ x) xs → P x
-each_one P [] x h one = absurd one
-each_one P (y ∷ xs) x h (inl is) = subst P is h.0
-each_one P (y ∷ xs) x h (inr later) = each_one P xs x h.1 later
 
 pub one_with : {A : Type 0} (P Q : A → Type 0) → ((x : A) → P x → Q x) → (xs : List A) → One P xs → One Q xs
 one_with P Q f [] h = absurd h

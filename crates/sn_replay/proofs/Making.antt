@@ -1,5 +1,5 @@
 -- Devices by their names, and the requests that a call makes with what is kept of them.
-use Rattle.std.proofs.Common.{◌≡◌, ◌≢◌, ◌⊎◌, List, [], ◌∷◌, ◌++◌, Bool, true, false, Option, Some, None, map, refl, sym, ap, ◌∙◌, subst, inl, inr, append_assoc}
+use Rattle.std.proofs.Common.{◌≡◌, ◌≢◌, ◌⊎◌, List, [], ◌∷◌, ◌++◌, Bool, true, false, Option, Some, None, refl, sym, ap, ◌∙◌, subst, inl, inr, append_assoc}
 use Rattle.std.specs.Prelude.{if◌then◌else◌, filter, reverse}
 use Rattle.std.specs.List.{AllZip, list_any}
 use Rattle.std.specs.Str.{bytes_eq}
@@ -9,27 +9,23 @@ use Rattle.sn_client.specs.Runs.{Act, asked, commits as committed}
 use Rattle.sn_course.specs.Courses.{made_by, names_with}
 use Rattle.sn_events.specs.Calling.{host}
 use Rattle.sn_laws.proofs.Facts.{same_text, text_same}
-use Rattle.sn_laws.specs.Each.{Each, One}
+use Rattle.sn_laws.specs.Each.{One}
 use Rattle.sn_laws.specs.Lookups.{Bytes}
-use Rattle.sn_laws.specs.declared.moves.Move.{Move}
-use Rattle.sn_laws.specs.declared.moves.Move.TheVariants.{Accept, Change, Register}
 use Rattle.sn_link.specs.Laws.{AreReadable, IsReadable}
 use Rattle.sn_recorder.specs.Told.{AreTold, IsToldOf}
 use Rattle.sn_recorder.specs.declared.exchanged.Exchanged.{Exchanged}
 use Rattle.sn_rows.specs.declared.change.Change.{Change as RowChange}
-use Rattle.sn_script.specs.declared.script.Script.{Script}
+use Rattle.sn_saying.specs.Served.{IsBegunAs}
 use Rattle.sn_string.specs.declared.params.KeySet.{KeySet}
 use Rattle.sn_sync.specs.declared.request.Request.{Request}
-use Rattle.sn_telling.specs.Calling.{IsAskedOf}
-use Rattle.sn_telling.specs.declared.calling.Calling.{Calling}
+use Rattle.sn_telling.specs.Laws.{AreBegunAs}
 use Rattle.sn_world.specs.Calls.{Fate, call_steps, crashed, fate_steps, served, undelivered}
 use Rattle.sn_world.specs.Happens.{Happens, makes}
 use Rattle.sn_world.specs.Sessions.{made_behind}
 use Rattle.sn_world.specs.World.{Made}
-use Rattle.sn_replay.specs.Keeping.{IsKeptOf, asked_of, kept_of}
-use Rattle.sn_replay.specs.Playing.{AreAskedSo, IsMadeOf, IsMoveOf}
+use Rattle.sn_replay.specs.Keeping.{IsKeptOf, kept_all}
 use Rattle.sn_replay.specs.declared.kept.Kept.{Kept}
-use Rattle.sn_replay.proofs.Lists.{each_with, one_before, one_last, one_named, zip_append}
+use Rattle.sn_replay.proofs.Lists.{one_before, one_last, one_named, zip_append}
 
 -- ---- names
 
@@ -54,29 +50,13 @@ names_among names name = at (list_any (λ n. bytes_eq n name) names) refl
     at true same = one_named names name same
     at false off = one_last (λ n. n ≡ name) names name refl
 
-names_grow : (P : Bytes → Type 0) (names : List Bytes) (found : Option Bytes) → One P names → One P (names_with names found)
+pub names_grow : (P : Bytes → Type 0) (names : List Bytes) (found : Option Bytes) → One P names → One P (names_with names found)
 names_grow P names None h = h
 names_grow P names (Some name) h = at (list_any (λ n. bytes_eq n name) names)
   where
     at : (b : Bool) → One P (if b then names else names ++ name ∷ [])
     at true = h
     at false = one_before P names (name ∷ []) h
-
-move_grows : (script : Script) (names : List Bytes) (found : Option Bytes) (m : Move) → IsMoveOf script names m → IsMoveOf script (names_with names found) m
-move_grows script names found (Register identifier set) h = h
-move_grows script names found (Accept device uuid stamp under) h = names_grow (λ n. n ≡ device) names found h
-move_grows script names found (Change identifier number set) h = h
-move_grows script names found m h = tt
-
-pub moves_grow : (script : Script) (names : List Bytes) (found : Option Bytes) (moves : List Move) → Each (IsMoveOf script names) moves
-    → Each (IsMoveOf script (names_with names found)) moves
-moves_grow script names found moves each = each_with (IsMoveOf script names) (IsMoveOf script (names_with names found)) (move_grows script names found) moves each
-
-pub made_grow : (script : Script) (names : List Bytes) (found : Option Bytes) (made : List Made) → Each (IsMadeOf script names) made
-    → Each (IsMadeOf script (names_with names found)) made
-made_grow script names found made each =
-    each_with (IsMadeOf script names) (IsMadeOf script (names_with names found))
-    (λ (m : Made) (h : IsMadeOf script names m). record { among = names_grow (λ n. n ≡ m.device) names found h.among; begins = h.begins }) made each
 
 -- ---- the requests of one device
 
@@ -113,38 +93,33 @@ module _ (name : Bytes) (begins : Request → Option KeySet) where
       ap (made_by other) (behind_fate (made_of r) fate (call_steps name begins acts fates) made)
       ∙ others_made other apart acts fates (made_of r ∷ made) ∙ made_other other (made_of r) made (λ e. apart (sym e))
 
-  pub each_made : (P : Made → Type 0) → ((r : Request) → P (made_of r)) → (acts : List Act) (fates : List Fate) (made : List Made) → Each P made
-      → Each P (made_behind made (call_steps name begins acts fates))
-  each_made P one [] fates made h = h
-  each_made P one (committed what changes ∷ acts) fates made h = each_made P one acts fates made h
-  each_made P one (asked r reply ∷ acts) [] made h = h
-  each_made P one (asked r reply ∷ acts) (fate ∷ fates) made h =
-      subst (Each P) (sym (behind_fate (made_of r) fate (call_steps name begins acts fates) made)) (each_made P one acts fates (made_of r ∷ made) (one r, h))
+  abbrev kept_of : Exchanged → Option KeySet → Kept
+  kept_of e told = record { request = e.request; begins = told }
 
-  module _ (call : Calling) where
-    kept_more : (made : List Made) (kept : List Kept) (r : Request) (reply : Reply) (fate : Fate) (e : Exchanged) → IsToldOf host r reply fate e
-        → IsReadable host r → IsAskedOf r (begins r) (asked_of call) → AllZip IsKeptOf (made_by name made) kept
-        → AllZip IsKeptOf (made_by name (made_of r ∷ made)) (kept ++ kept_of call e ∷ [])
-    kept_more made kept r reply fate e told readable so h =
-        subst (λ (ms : List Made). AllZip IsKeptOf ms (kept ++ kept_of call e ∷ [])) (sym (made_own name (made_of r) made refl))
-        (zip_append IsKeptOf (made_by name made) (made_of r ∷ []) kept (kept_of call e ∷ []) h
-        (record { sent = told.sent; is = so; readable = readable }, tt))
+  kept_more : (made : List Made) (kept : List Kept) (r : Request) (reply : Reply) (fate : Fate) (e : Exchanged) (told : Option KeySet) → IsToldOf host r reply fate e
+      → IsReadable host r → IsBegunAs r (begins r) told → AllZip IsKeptOf (made_by name made) kept
+      → AllZip IsKeptOf (made_by name (made_of r ∷ made)) (kept ++ kept_of e told ∷ [])
+  kept_more made kept r reply fate e told is readable so h =
+      subst (λ (ms : List Made). AllZip IsKeptOf ms (kept ++ kept_of e told ∷ [])) (sym (made_own name (made_of r) made refl))
+      (zip_append IsKeptOf (made_by name made) (made_of r ∷ []) kept (kept_of e told ∷ []) h
+      (record { sent = is.sent; begins_so = so; readable = readable }, tt))
 
-    pub own_kept : (acts : List Act) (fates : List Fate) (batches : List (List RowChange)) (exchanged : List Exchanged) (made : List Made) (kept : List Kept)
-        → AreTold host acts fates batches exchanged → AreReadable host acts → AreAskedSo begins (asked_of call) acts → AllZip IsKeptOf (made_by name made) kept
-        → AllZip IsKeptOf (made_by name (made_behind made (call_steps name begins acts fates))) (kept ++ map (kept_of call) exchanged)
-    own_kept [] fates batches exchanged made kept told readable so h =
-        subst (λ (es : List Exchanged). AllZip IsKeptOf (made_by name made) (kept ++ map (kept_of call) es)) (sym told.2)
-        (subst (λ (ks : List Kept). AllZip IsKeptOf (made_by name made) ks) (sym (append-nil kept)) h)
-    own_kept (committed what changes ∷ acts) fates [] exchanged made kept told readable so h = absurd told
-    own_kept (committed what changes ∷ acts) fates (batch ∷ batches) exchanged made kept told readable so h =
-        own_kept acts fates batches exchanged made kept told.1 readable so h
-    own_kept (asked r reply ∷ acts) [] batches exchanged made kept told readable so h = absurd told
-    own_kept (asked r reply ∷ acts) (fate ∷ fates) batches [] made kept told readable so h = absurd told
-    own_kept (asked r reply ∷ acts) (fate ∷ fates) batches (e ∷ exchanged) made kept told readable so h =
-        let more = kept_more made kept r reply fate e told.0 readable.0 so.0 h in
-        let rest = own_kept acts fates batches exchanged (made_of r ∷ made) (kept ++ kept_of call e ∷ []) told.1 readable.1 so.1 more in
-        subst (λ (ms : List Made). AllZip IsKeptOf (made_by name ms) (kept ++ kept_of call e ∷ map (kept_of call) exchanged))
-        (sym (behind_fate (made_of r) fate (call_steps name begins acts fates) made))
-        (subst (λ (ks : List Kept). AllZip IsKeptOf (made_by name (made_behind (made_of r ∷ made) (call_steps name begins acts fates))) ks)
-        (append_assoc kept (kept_of call e ∷ []) (map (kept_of call) exchanged)) rest)
+  pub own_kept : (acts : List Act) (fates : List Fate) (batches : List (List RowChange)) (exchanged : List Exchanged) (begun : List (Option KeySet)) (made : List Made)
+      (kept : List Kept) → AreTold host acts fates batches exchanged → AreReadable host acts → AreBegunAs begins acts begun → AllZip IsKeptOf (made_by name made) kept
+      → AllZip IsKeptOf (made_by name (made_behind made (call_steps name begins acts fates))) (kept ++ kept_all exchanged begun)
+  own_kept [] fates batches exchanged begun made kept told readable so h =
+      subst (λ (es : List Exchanged). AllZip IsKeptOf (made_by name made) (kept ++ kept_all es begun)) (sym told.2)
+      (subst (λ (ks : List Kept). AllZip IsKeptOf (made_by name made) ks) (sym (append-nil kept)) h)
+  own_kept (committed what changes ∷ acts) fates [] exchanged begun made kept told readable so h = absurd told
+  own_kept (committed what changes ∷ acts) fates (batch ∷ batches) exchanged begun made kept told readable so h =
+      own_kept acts fates batches exchanged begun made kept told.1 readable so h
+  own_kept (asked r reply ∷ acts) [] batches exchanged begun made kept told readable so h = absurd told
+  own_kept (asked r reply ∷ acts) (fate ∷ fates) batches [] begun made kept told readable so h = absurd told
+  own_kept (asked r reply ∷ acts) (fate ∷ fates) batches (e ∷ exchanged) [] made kept told readable so h = absurd so
+  own_kept (asked r reply ∷ acts) (fate ∷ fates) batches (e ∷ exchanged) (one ∷ begun) made kept told readable so h =
+      let more = kept_more made kept r reply fate e one told.0 readable.0 so.0 h in
+      let rest = own_kept acts fates batches exchanged begun (made_of r ∷ made) (kept ++ kept_of e one ∷ []) told.1 readable.1 so.1 more in
+      subst (λ (ms : List Made). AllZip IsKeptOf (made_by name ms) (kept ++ kept_of e one ∷ kept_all exchanged begun))
+      (sym (behind_fate (made_of r) fate (call_steps name begins acts fates) made))
+      (subst (λ (ks : List Kept). AllZip IsKeptOf (made_by name (made_behind (made_of r ∷ made) (call_steps name begins acts fates))) ks)
+      (append_assoc kept (kept_of e one ∷ []) (kept_all exchanged begun)) rest)

@@ -9,13 +9,14 @@ use Rattle.sn_course.specs.Settings.{AreFirst, settings_after, words_of}
 use Rattle.sn_course.specs.declared.settings.Settings.{Settings}
 use Rattle.sn_laws.specs.Each.{Each, One}
 use Rattle.sn_laws.specs.Lookups.{Bytes}
-use Rattle.sn_laws.specs.Runs.{Legal}
+use Rattle.sn_laws.specs.Runs.{Legal, end}
 use Rattle.sn_laws.specs.declared.moves.Move.{Move}
 use Rattle.sn_report.specs.declared.report.Event.{Event}
 use Rattle.sn_report.specs.declared.report.Report.{Report}
 use Rattle.sn_script.specs.declared.script.Line.{Line}
 use Rattle.sn_script.specs.declared.script.Line.TheVariants as line
 use Rattle.sn_script.specs.declared.script.Script.{Script}
+use Rattle.sn_shown.specs.Shown.{AreHeld}
 use Rattle.sn_world.specs.Holds.{TokensDiffer}
 use Rattle.sn_world.specs.World.{World, at_first}
 use Rattle.sn_replay.specs.Lines.{IsBounded, IsRefusalAt, IsReplayRefusal, reports}
@@ -23,9 +24,10 @@ use Rattle.sn_replay.specs.Playing.{AreSlotsOf, Begins, HasPlayed, HasPlayedAll,
 use Rattle.sn_replay.specs.declared.error.ReplayError.{ReplayError}
 use Rattle.sn_replay.specs.declared.error.ReplayError.TheVariants as refusal
 use Rattle.sn_replay.specs.declared.known.Known.{Known}
-use Rattle.sn_replay.specs.declared.known.Told.{Told}
+use Rattle.sn_replay.specs.declared.known.LineTold.{LineTold}
 use Rattle.sn_replay.specs.declared.run.State.{State}
 use Rattle.sn_replay.specs.declared.settings.Moment.{Moment}
+use Rattle.sn_replay.proofs.Holding.{held_by_script}
 
 -- ---- lines
 
@@ -40,6 +42,7 @@ reported_so number settings (line.Put device fates text) e = refl
 reported_so number settings (line.Edit device label fates text) e = refl
 reported_so number settings (line.Delete device label fates) e = refl
 reported_so number settings (line.Sync device fates) e = refl
+reported_so number settings (line.Passwd device password fates) e = refl
 reported_so number settings (line.Late device request) e = refl
 reported_so number settings line.Show e = refl
 
@@ -53,6 +56,7 @@ reported_none number settings (line.Put device fates text) e = absurd (cc)
 reported_none number settings (line.Edit device label fates text) e = absurd (cc)
 reported_none number settings (line.Delete device label fates) e = absurd (cc)
 reported_none number settings (line.Sync device fates) e = absurd (cc)
+reported_none number settings (line.Passwd device password fates) e = absurd (cc)
 reported_none number settings (line.Late device request) e = absurd (cc)
 reported_none number settings line.Show e = absurd (cc)
 
@@ -66,6 +70,7 @@ settings_kept settings (line.Put device fates text) e = refl
 settings_kept settings (line.Edit device label fates text) e = refl
 settings_kept settings (line.Delete device label fates) e = refl
 settings_kept settings (line.Sync device fates) e = refl
+settings_kept settings (line.Passwd device password fates) e = refl
 settings_kept settings (line.Late device request) e = refl
 settings_kept settings line.Show e = refl
 
@@ -150,7 +155,7 @@ before script secret rs at l (Some known) k events (some, is, played) same =
 
 module _ (grow : RecountsGrow) (more : RecountsMore) (moves_more : MovesMore) (script : Script) where
   -- what its event makes of it
-  played_on : (secret : Bytes) (rs : List Reported) (r : Reported) (k : Known) (events : List Event) (told : Told)
+  played_on : (secret : Bytes) (rs : List Reported) (r : Reported) (k : Known) (events : List Event) (told : LineTold)
       → (b : StandsBefore script secret rs r k events) → Tells script secret k b.last r told
       → HasPlayed script secret (rs ++ r ∷ []) told.known (events ++ told.event ∷ [])
   played_on secret rs r k events told b t =
@@ -159,7 +164,8 @@ module _ (grow : RecountsGrow) (more : RecountsMore) (moves_more : MovesMore) (s
       let recovers : Recovers (ends_slots told.known.ends) now = record {
         server = t.server_reads;
         devices = t.at.marks_read;
-        shows = record { server = t.at.stands.holds.holds.server; devices = t.at.stands.holds.holds.devices };
+        shows = record { server = t.at.stands.holds.server; devices = t.at.stands.holds.devices };
+        asked_alone = λ name. (t.at.stands.holds.sound name).sets.asked_alone;
       } in
       record {
         opened = b.opened;
@@ -207,7 +213,7 @@ module _ (grow : RecountsGrow) (more : RecountsMore) (moves_more : MovesMore) (s
       is_before = before script p.secret rs (record { number = number; settings = state.settings }) l state.known k state.events p.plays known_is
 
       -- and one that reports
-      pub played_line : (told : Told) → ((secret : Bytes) (c : Course) → TokensDiffer secret → PasswordsApart script → IsAt script secret k c → Tells script secret k c r told)
+      pub played_line : (told : LineTold) → ((secret : Bytes) (c : Course) → TokensDiffer secret → PasswordsApart script → IsAt script secret k c → Tells script secret k c r told)
           → IsPlayed script first (lines ++ l ∷ []) (record { settings = state.settings; known = Some told.known; events = state.events ++ told.event ∷ [] })
       played_line told tells =
           let b = is_before in
@@ -260,6 +266,7 @@ cost_after settings later l cost bounded is = subst (λ (s : Settings). 1 ≤ s.
     kept (line.Edit device label fates text) h = cost
     kept (line.Delete device label fates) h = cost
     kept (line.Sync device fates) h = cost
+    kept (line.Passwd device password fates) h = cost
     kept (line.Late device request) h = cost
     kept line.Show h = cost
 
@@ -350,6 +357,7 @@ carries_none carry script first slots events is none no_events = record {
         last = start at_first;
         recounts = subst (λ (xs : List Reported). Recounts slots [] (start at_first) xs [] (start at_first)) (sym none) refl;
         accounted = λ some. absurd (some refl);
+        opening = λ a uuid v text number one. absurd one;
         legal = tt;
         carry = carry [] tt;
       });
@@ -374,6 +382,8 @@ carries_some carry script first slots secret k events is secret_is same played =
         last = p.last;
         recounts = p.recounts;
         accounted = λ some. record { server = p.mark; devices = p.at.marks_are };
+        opening = subst (λ (ms : List Move). AreHeld (end ms) p.last.names) (sym p.moves_are)
+            (held_by_script p.last.names p.last.world.devices (end p.last.moves) p.at.begun p.at.stands.holds.devices p.at.held);
         legal = legal;
         carry = carry (moves_in events) legal;
       });

@@ -17,6 +17,7 @@ line_bounded ws (line.Put device fates text) h = tt
 line_bounded ws (line.Edit device label fates text) h = tt
 line_bounded ws (line.Delete device label fates) h = tt
 line_bounded ws (line.Sync device fates) h = tt
+line_bounded ws (line.Passwd device password fates) h = tt
 line_bounded ws (line.Late device request) h = tt
 line_bounded ws line.Show h = tt
 

@@ -3,16 +3,16 @@ use Rattle.std.proofs.Common.{◌≡◌, ℕ, List, [], ◌++◌, Option, None, 
 use Rattle.std.proofs.lemmas.List.{append-nil}
 use Rattle.sn_course.specs.Courses.{Course, Reported, past}
 use Rattle.sn_course.specs.Fits.{Fits}
+use Rattle.sn_course.specs.Headline.{IsPasswordOf}
 use Rattle.sn_course.specs.declared.settings.Settings.{Settings}
 use Rattle.sn_events.specs.Slots.{device_slot, server_slot, slot_mark}
 use Rattle.sn_events.specs.Standing.{Stands}
 use Rattle.sn_journal.specs.declared.owner.Owner.{Owner}
 use Rattle.sn_journal.specs.declared.owner.Owner.TheVariants.{Device as DeviceOwner, Server as ServerOwner}
-use Rattle.sn_laws.specs.Each.{Each}
 use Rattle.sn_laws.specs.Lookups.{Bytes}
 use Rattle.sn_laws.specs.Runs.{Legal, end}
 use Rattle.sn_laws.specs.declared.moves.Move.{Move}
-use Rattle.sn_laws.specs.declared.moves.Move.TheVariants.{Accept, Change, Register}
+use Rattle.sn_lines.specs.Passwords.{HoldsOf}
 use Rattle.sn_report.specs.Labels.{Labels, labels_of}
 use Rattle.sn_report.specs.Showing.{show_lines}
 use Rattle.sn_report.specs.declared.report.Event.{Event}
@@ -21,26 +21,19 @@ use Rattle.sn_row_map.specs.RowMaps.{row_in}
 use Rattle.sn_rows.specs.Table.{Rows}
 use Rattle.sn_script.specs.declared.script.Line.TheVariants as line
 use Rattle.sn_script.specs.declared.script.Script.{Script}
-use Rattle.sn_shown.specs.HeldLaws.{ChangesNoSet, IsAcceptAmong, VersionsHeld}
+use Rattle.sn_shown.specs.Closed.{AreClosed}
 use Rattle.sn_shown.specs.Laws.{StatesRegular}
 use Rattle.sn_shown.specs.Shown.{AreHeld, EndsShow}
 use Rattle.sn_shows.specs.Devices.{ShowsDevice}
 use Rattle.sn_shows.specs.Servers.{ShowsServer}
 use Rattle.sn_tail.specs.Shelves.{SlotGrows, SlotReads}
+use Rattle.sn_world.specs.Holders.{AreHeld as AreHeldBySome}
 use Rattle.sn_disk.specs.Shelf.{Slot, holds, out, unknown}
 use Rattle.sn_disk.specs.declared.memory.MemDisk.{MemDisk}
 use Rattle.sn_replay.specs.Mirrored.{mirrored}
-use Rattle.sn_replay.specs.Playing.{IsAt, IsMoveOf, Tells}
+use Rattle.sn_replay.specs.Playing.{IsAt, Tells}
 use Rattle.sn_replay.specs.declared.known.Known.{Known}
-use Rattle.sn_replay.proofs.Lists.{each_with}
-
-changes_none : (script : Script) (names : List Bytes) (m : Move) → IsMoveOf script names m → ChangesNoSet m
-changes_none script names (Change identifier number set) h = h
-changes_none script names m h = tt
-
-accept_among : (script : Script) (names : List Bytes) (m : Move) → IsMoveOf script names m → IsAcceptAmong names m
-accept_among script names (Accept device uuid stamp under) h = h
-accept_among script names m h = tt
+use Rattle.sn_replay.proofs.Holding.{held_by_script}
 
 -- a slot goes on as it is
 grows_same : ((disk : MemDisk) → SlotGrows (holds disk) (holds disk)) → (slot : Slot MemDisk) (owner : Owner) (mark : ℕ) (rows : Rows)
@@ -49,23 +42,25 @@ grows_same same unknown owner mark rows reads = tt
 grows_same same out owner mark rows reads = absurd reads.stood
 grows_same same (holds disk) owner mark rows reads = same disk
 
-module _ (regular : StatesRegular) (held : VersionsHeld) (script : Script) (secret : Bytes) (known : Known) (c : Course) (at : IsAt script secret known c) where
+module _ (regular : StatesRegular) (script : Script) (secret : Bytes) (known : Known) (c : Course) (at : IsAt script secret known c) where
   held_now : AreHeld (end c.moves) c.names
-  held_now =
-      held c.moves at.legal (each_with (IsMoveOf script c.names) ChangesNoSet (changes_none script c.names) c.moves at.moves_are) c.names
-      (each_with (IsMoveOf script c.names) (IsAcceptAmong c.names) (accept_among script c.names) c.moves at.moves_are)
+  held_now = held_by_script c.names c.world.devices (end c.moves) at.begun at.stands.holds.devices at.held
+
+  devices_same : (λ name. mirrored known.seen.devices name) ≡ c.world.devices
+  devices_same = λ i name. at.devices_are name i
 
   -- the rows that were seen show the state
   pub ends_show : EndsShow (row_in known.seen.server) (λ name. mirrored known.seen.devices name) known.seen.names (end c.moves)
   ends_show = record {
     regular = regular c.moves at.legal;
-    accounts = subst (λ (rows : Rows). ShowsServer rows (end c.moves).accounts) (sym at.server_is) at.stands.holds.holds.server;
-    each = λ name. subst (λ (rows : Rows). ShowsDevice rows (end c.moves) name) (sym (at.devices_are name)) (at.stands.holds.holds.devices name);
+    accounts = subst (λ (rows : Rows). ShowsServer rows (end c.moves).accounts) (sym at.server_is) at.stands.holds.server;
+    each = λ name. subst (λ (rows : Rows). ShowsDevice rows (end c.moves) name) (sym (at.devices_are name)) (at.stands.holds.devices name);
     held = subst (AreHeld (end c.moves)) (sym at.names_are) held_now;
   }
 
   module _ (number : ℕ) (settings : Settings) (none : List Move) (shown : List Bytes) (mark : ℕ) (no_moves : none ≡ [])
-      (shown_is : shown ≡ show_lines known.seen.labels known.seen.names (end c.moves))
+      (shown_is : (closed : Bytes → Bytes → Option ℕ) × AreClosed (λ name. mirrored known.seen.devices name) (end c.moves) closed
+      × (shown ≡ show_lines known.seen.labels known.seen.names (end c.moves) closed))
       (marked : (mark ≡ slot_mark (server_slot known.ends)) × SlotReads (server_slot known.ends) ServerOwner mark c.world.server)
       (same : (disk : MemDisk) → SlotGrows (holds disk) (holds disk)) where
     abbrev r : Reported
@@ -82,8 +77,12 @@ module _ (regular : StatesRegular) (held : VersionsHeld) (script : Script) (secr
       number = refl;
       puts = refl;
       happens = record { next_is = refl; moves_are = no_moves; ended = refl };
-      shown = shown_is ∙ ap (λ (ls : Labels). show_lines ls known.seen.names (end c.moves)) at.labels_are
-          ∙ ap (λ (ns : List Bytes). show_lines c.labels ns (end c.moves)) at.names_are;
+      shown = (
+        shown_is.0,
+        subst (λ (rows : Bytes → Rows). AreClosed rows (end c.moves) shown_is.0) devices_same shown_is.1,
+        shown_is.2 ∙ ap (λ (ls : Labels). show_lines ls known.seen.names (end c.moves) shown_is.0) at.labels_are
+            ∙ ap (λ (ns : List Bytes). show_lines c.labels ns (end c.moves) shown_is.0) at.names_are,
+      );
     }
 
     at_now : IsAt script secret known (past c r.asks e c.world)
@@ -91,13 +90,14 @@ module _ (regular : StatesRegular) (held : VersionsHeld) (script : Script) (secr
       legal = subst Legal (sym moves_same) at.legal;
       stands = subst (λ (ms : List Move). Stands known.ends secret c.world (end ms)) (sym moves_same) at.stands;
       fits = at.fits;
+      holds_of = subst (λ (ms : List Move). HoldsOf (IsPasswordOf script) c.world (end ms)) (sym moves_same) at.holds_of;
+      held = subst (λ (ms : List Move). AreHeldBySome (end ms)) (sym moves_same) at.held;
       labels_are = at.labels_are ∙ ap (labels_of false c.labels) (sym no_moves);
       names_are = at.names_are;
+      begun = at.begun;
       server_is = at.server_is;
       devices_are = at.devices_are;
       requests_are = at.requests_are;
-      made_are = at.made_are;
-      moves_are = subst (Each (IsMoveOf script c.names)) (sym moves_same) at.moves_are;
       marks_are = at.marks_are;
       marks_read = at.marks_read;
     }

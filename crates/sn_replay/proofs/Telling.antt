@@ -4,9 +4,11 @@ use Rattle.std.specs.Prelude.{if◌then◌else◌}
 use Rattle.std.specs.List.{AllZip}
 use Rattle.std.specs.Str.{bytes_eq}
 use Rattle.rand_chacha.specs.ChaCha.{ChaCha}
-use Rattle.sn_client.specs.Runs.{Act, Call, Halt, Run, answered, broken, refused, rows_done}
+use Rattle.sn_client.specs.Laws.{StepsStaySound}
+use Rattle.sn_client.specs.Runs.{Act, Call, Halt, answered, broken, refused, rows_done}
 use Rattle.sn_course.specs.Courses.{Course, Reported, made_by, marks_with, names_with, past}
-use Rattle.sn_course.specs.Fits.{Called, EndsSo, EndsWell, Fits}
+use Rattle.sn_course.specs.Fits.{Called, EndsSo, EndsWell, Fits, ShowsAs}
+use Rattle.sn_course.specs.Headline.{IsPasswordOf}
 use Rattle.sn_course.specs.Lines.{device_of, fates_of}
 use Rattle.sn_course.specs.Settings.{words_of}
 use Rattle.sn_disk.specs.Shelf.{Slot}
@@ -17,45 +19,46 @@ use Rattle.sn_events.specs.Standing.{Stands}
 use Rattle.sn_events.specs.declared.ends.Ends.{Ends}
 use Rattle.sn_journal.specs.declared.owner.Owner.TheVariants.{Device as DeviceOwner}
 use Rattle.sn_laws.proofs.Facts.{end_from-append, text_same}
-use Rattle.sn_laws.specs.Each.{Each}
+use Rattle.sn_laws.specs.Each.{One}
 use Rattle.sn_laws.specs.Lookups.{Bytes, empty}
 use Rattle.sn_laws.specs.Moves.{after}
 use Rattle.sn_laws.specs.Runs.{Legal, LegalFrom, end, end_from}
 use Rattle.sn_laws.specs.declared.ideal.Ideal.{Ideal}
 use Rattle.sn_laws.specs.declared.moves.Move.{Move}
-use Rattle.sn_recorder.specs.Told.{AreTold}
+use Rattle.sn_lines.proofs.Facts.{each_holds_of}
+use Rattle.sn_lines.specs.Fits.{EachFits}
+use Rattle.sn_lines.specs.Passwords.{HoldsOf}
 use Rattle.sn_report.specs.Labels.{Labels, labels_of}
 use Rattle.sn_report.specs.declared.report.DeviceMark.{DeviceMark}
 use Rattle.sn_report.specs.declared.report.Event.{Event}
 use Rattle.sn_row_map.specs.RowMaps.{row_in}
-use Rattle.sn_rows.specs.Table.{Rows}
+use Rattle.sn_rows.specs.Table.{Rows, no_rows}
 use Rattle.sn_script.specs.declared.script.Script.{Script}
 use Rattle.sn_string.specs.declared.params.KeySet.{KeySet}
 use Rattle.sn_sync.specs.declared.request.Request.{Request}
 use Rattle.sn_tail.specs.Shelves.{SlotReads}
-use Rattle.sn_telling.specs.Calling.{IsCallingOf}
-use Rattle.sn_telling.specs.Laws.{CallsTell, IsWhole}
-use Rattle.sn_telling.specs.Telling.{told_moves}
+use Rattle.sn_telling.specs.Laws.{CallsTell, IsTelling, IsWhole}
+use Rattle.sn_telling.specs.Walking.{SaysWalk}
 use Rattle.sn_telling.specs.declared.calling.Calling.{Calling}
-use Rattle.sn_world.specs.Calls.{Fate, call_steps, rows_served}
-use Rattle.sn_world.specs.Delivered.{TracesFit}
+use Rattle.sn_world.specs.Calls.{Fate, call_steps}
 use Rattle.sn_world.specs.Happens.{Happens}
+use Rattle.sn_world.specs.Holders.{AreHeld, KeepsHeld}
 use Rattle.sn_world.specs.Holds.{TokensDiffer}
-use Rattle.sn_world.specs.Sessions.{calls, line_steps, made_behind, rows_ended, with_end}
+use Rattle.sn_world.specs.Laws.{Keeps}
+use Rattle.sn_world.specs.Sessions.{LeadsLine, Line, calls, line_steps, made_behind, rows_ended, with_end}
 use Rattle.sn_world.specs.World.{Made, World}
-use Rattle.sn_replay.specs.Coming.{HasCame, IsEventOf, SeesMoves}
-use Rattle.sn_replay.specs.Keeping.{IsKeptOf, asked_of, kept_of, puts_of, requests_of}
+use Rattle.sn_replay.specs.Coming.{HasCame, IsEventOf}
+use Rattle.sn_replay.specs.Keeping.{IsKeptOf, kept_all, puts_of, requests_of}
 use Rattle.sn_replay.specs.Lines.{setting_at}
 use Rattle.sn_replay.specs.Mirrored.{mirrored}
-use Rattle.sn_replay.specs.Playing.{AreAskedSo, IsAt, IsBeginsOf, IsLineOf, IsMadeOf, IsMoveOf, Tells}
+use Rattle.sn_replay.specs.Playing.{IsAt, IsLineOf, SaysOneList, Tells}
 use Rattle.sn_replay.specs.declared.came.Came.{Came}
 use Rattle.sn_replay.specs.declared.kept.Kept.{Kept}
 use Rattle.sn_replay.specs.declared.known.Known.{Known}
 use Rattle.sn_replay.specs.declared.known.Seen.{Seen}
-use Rattle.sn_replay.specs.declared.known.Told.{Told}
-use Rattle.sn_replay.proofs.MoveKinds.{IsMoveBy, of_script, told_by}
-use Rattle.sn_replay.proofs.Lists.{each_append}
-use Rattle.sn_replay.proofs.Making.{bytes_apart, each_made, made_grow, moves_grow, names_among, others_made, own_kept, same_or_apart}
+use Rattle.sn_replay.specs.declared.known.LineTold.{LineTold}
+use Rattle.sn_replay.proofs.Holding.{held_along}
+use Rattle.sn_replay.proofs.Making.{bytes_apart, names_among, names_grow, others_made, own_kept, same_or_apart}
 
 pub legal_append : (s : Ideal) (xs ys : List Move) → LegalFrom s xs → LegalFrom (end_from s xs) ys → LegalFrom s (xs ++ ys)
 legal_append s [] ys h k = k
@@ -78,17 +81,16 @@ pub by_name : (P : Bytes → Type 0) (name : Bytes) → P name → ((other : Byt
 by_name P name own others other =
     ⊎_elim (λ (e : other ≡ name). subst P (sym e) own) (λ (k : other ≢ name). others other k) (same_or_apart other name)
 
-module _ (tell : CallsTell) (fit : TracesFit) (script : Script) (secret : Bytes) (differ : TokensDiffer secret) (c : Course) (r : Reported) (name : Bytes)
-    (call : Call) (calling : Calling) (old : Ends) (seen behind : Seen) (came : Came) (moves : List Move) (e : Event)
+module _ (tell : CallsTell) (fit : EachFits) (keeps : Keeps) (stays : KeepsHeld) (stay : StepsStaySound) (script : Script) (secret : Bytes)
+    (differ : TokensDiffer secret) (c : Course) (r : Reported) (name : Bytes) (call : Call) (calling : Calling) (old : Ends) (seen behind : Seen) (came : Came)
+    (moves : List Move) (begun : List (Option KeySet)) (e : Event)
     (at : IsAt script secret (record { ends = old; seen = seen }) c) (l : IsLineOf script secret c r name call calling)
     (x : HasCame secret c.world (end c.moves) name call (words_of r.settings r.number) (setting_at r.settings (fates_of r.asks)) old came)
-    (sees : (begins : Request → Option KeySet) → IsCallingOf call begins x.acts calling
-    → Run 1 call (mirrored seen.devices name) (words_of r.settings r.number) x.acts x.halt → IsWhole x.halt
-    → AreTold host x.acts x.fates came.batches came.exchanged
-    → SeesMoves (row_in seen.server) (row_in behind.server) (mirrored seen.devices name) (mirrored behind.devices name) name begins x.acts x.fates moves)
+    (walk : SaysWalk calling name (row_in seen.server) (mirrored seen.devices name) false None came.batches came.exchanged moves begun (row_in behind.server)
+    (mirrored behind.devices name))
     (others_see : (other : Bytes) → other ≢ name → mirrored behind.devices other ≡ mirrored seen.devices other)
     (labels_see : behind.labels ≡ labels_of (puts_of calling) seen.labels moves) (names_see : behind.names ≡ names_with seen.names (Some name))
-    (requests_see : requests_of behind.requests name ≡ requests_of seen.requests name ++ map (kept_of calling) came.exchanged)
+    (requests_see : requests_of behind.requests name ≡ requests_of seen.requests name ++ kept_all came.exchanged begun)
     (others_keep : (other : Bytes) → other ≢ name → requests_of behind.requests other ≡ requests_of seen.requests other)
     (event : IsEventOf came.ends x.leads.next r.number name (puts_of calling) moves came.last e) where
   abbrev words : ChaCha
@@ -106,23 +108,31 @@ module _ (tell : CallsTell) (fit : TracesFit) (script : Script) (secret : Bytes)
   abbrev now : Course
   now = past c r.asks e next
 
-  so : IsCallingOf call begins x.acts calling × AreAskedSo begins (asked_of calling) x.acts
-  so = l.calls_so x.acts x.fates x.halt x.comes x.leads x.whole
+  abbrev the_line : Line
+  the_line = calls name 1 call words x.acts x.fates x.halt true
 
-  run : Run 1 call (mirrored seen.devices name) words x.acts x.halt
-  run = subst (λ (rows : Rows). Run 1 call rows words x.acts x.halt) (sym (at.devices_are name)) x.comes.runs
+  -- ---- what is told
 
-  s : SeesMoves (row_in seen.server) (row_in behind.server) (mirrored seen.devices name) (mirrored behind.devices name) name begins x.acts x.fates moves
-  s = sees begins so.0 run x.whole x.told
+  walk_here : SaysWalk calling name w.server (w.devices name) false None came.batches came.exchanged moves begun (row_in behind.server) (mirrored behind.devices name)
+  walk_here =
+      subst (λ (rows : Rows). SaysWalk calling name rows (w.devices name) false None came.batches came.exchanged moves begun (row_in behind.server) (mirrored behind.devices name))
+      at.server_is
+      (subst (λ (rows : Rows). SaysWalk calling name (row_in seen.server) rows false None came.batches came.exchanged moves begun (row_in behind.server)
+      (mirrored behind.devices name)) (at.devices_are name) walk)
+
+  told : (other : LeadsLine secret w (end c.moves) the_line)
+      → IsTelling w name other.begins x.acts x.fates other.moves moves begun (row_in behind.server) (mirrored behind.devices name)
+  told other =
+      tell secret host w (end c.moves) name call calling words x.acts x.fates x.halt came.batches came.exchanged moves begun (row_in behind.server)
+      (mirrored behind.devices name) differ at.stands.holds x.whole l.is x.comes.runs x.comes.over x.told x.readable walk_here other
+
+  one_list : SaysOneList secret c r name call x.acts x.fates x.halt x.leads.moves
+  one_list other = sym (told other).moves_are ∙ (told x.leads).moves_are
 
   -- ---- the moves
 
   moves_told : e.moves ≡ x.leads.moves
-  moves_told =
-      event.moves_are ∙ s.moves_are
-      ∙ ap (λ (rows : Rows). told_moves rows (mirrored seen.devices name) name begins x.acts x.fates) at.server_is
-      ∙ ap (λ (rows : Rows). told_moves w.server rows name begins x.acts x.fates) (at.devices_are name)
-      ∙ sym (tell secret w (end c.moves) name 1 call words x.acts x.fates x.halt differ at.stands.holds x.whole x.comes x.leads)
+  moves_told = event.moves_are ∙ (told x.leads).moves_are
 
   end_is : end (c.moves ++ e.moves) ≡ end_from (end c.moves) x.leads.moves
   end_is = end_from-append empty c.moves e.moves ∙ ap (end_from (end c.moves)) moves_told
@@ -142,8 +152,8 @@ module _ (tell : CallsTell) (fit : TracesFit) (script : Script) (secret : Bytes)
     by_losses = x.by_losses;
     at = x.at;
     ended = ended;
-    well = subst (λ (ms : List Move). EndsWell call name (next.devices name) (end (c.moves ++ ms)) e.last) (sym moves_told)
-        (l.well x.acts x.fates x.halt x.comes x.leads e.last ended);
+    well = subst (λ (ms : List Move). EndsWell call name (end c.moves) (next.devices name) (end (c.moves ++ ms)) e.last) (sym moves_told)
+        (l.well x.acts x.fates x.halt x.comes x.leads one_list e.last ended);
   }
 
   fits : Fits secret c r e next
@@ -151,7 +161,7 @@ module _ (tell : CallsTell) (fit : TracesFit) (script : Script) (secret : Bytes)
     number = event.number_is;
     puts = event.puts_is ∙ sym l.puts;
     happens = l.happens e next called;
-    shown = event.shown_none ∙ sym l.shows;
+    shown = subst (ShowsAs r.asks c) (sym event.shown_none) l.shows;
   }
 
   -- ---- the rows
@@ -168,12 +178,12 @@ module _ (tell : CallsTell) (fit : TracesFit) (script : Script) (secret : Bytes)
       ∙ ap (λ (b : Bool). if b then rows_ended x.halt true (rows_done (w.devices other) x.acts) else w.devices other) (bytes_apart other name apart)
 
   server_now : row_in behind.server ≡ next.server
-  server_now = s.server_is ∙ ap (λ (rows : Rows). rows_served rows x.fates) at.server_is ∙ sym x.leads.server_is
+  server_now = (told x.leads).server_is ∙ sym x.leads.server_is
 
   devices_now : (other : Bytes) → mirrored behind.devices other ≡ next.devices other
   devices_now =
       by_name (λ (n : Bytes). mirrored behind.devices n ≡ next.devices n) name
-      (s.rows_are ∙ ap (λ (rows : Rows). rows_done rows x.acts) (at.devices_are name) ∙ sym next_own)
+      ((told x.leads).rows_are ∙ sym next_own)
       (λ other apart. others_see other apart ∙ at.devices_are other ∙ sym (next_other other apart))
 
   -- ---- the requests
@@ -186,29 +196,32 @@ module _ (tell : CallsTell) (fit : TracesFit) (script : Script) (secret : Bytes)
       by_name (λ (n : Bytes). AllZip IsKeptOf (made_by n next.made) (requests_of behind.requests n)) name
       (subst (λ (ms : List Made). AllZip IsKeptOf (made_by name ms) (requests_of behind.requests name)) (sym made_now)
       (subst (λ (ks : List Kept). AllZip IsKeptOf (made_by name (made_behind w.made (call_steps name begins x.acts x.fates))) ks) (sym requests_see)
-      (own_kept name begins calling x.acts x.fates came.batches came.exchanged w.made (requests_of seen.requests name) x.told x.readable so.1 (at.requests_are name))))
+      (own_kept name begins x.acts x.fates came.batches came.exchanged begun w.made (requests_of seen.requests name) x.told x.readable (told x.leads).begun_are
+      (at.requests_are name))))
       (λ other apart.
       subst (λ (ms : List Made). AllZip IsKeptOf (made_by other ms) (requests_of behind.requests other)) (sym made_now)
       (subst (λ (ms : List Made). AllZip IsKeptOf ms (requests_of behind.requests other)) (sym (others_made name begins other apart x.acts x.fates w.made))
       (subst (λ (ks : List Kept). AllZip IsKeptOf (made_by other w.made) ks) (sym (others_keep other apart)) (at.requests_are other))))
 
-  begins_so : (q : Request) → IsBeginsOf script (begins q)
-  begins_so = l.of_script begins x.leads.of_line
+  -- ---- what holds of the sets, and which devices have begun
 
-  made_ours : Each (IsMadeOf script now.names) next.made
-  made_ours =
-      subst (λ (d : Option Bytes). Each (IsMadeOf script (names_with c.names d)) next.made) (sym l.named)
-      (subst (Each (IsMadeOf script (names_with c.names (Some name)))) (sym made_now)
-      (each_made name begins (IsMadeOf script (names_with c.names (Some name))) (λ q. record { among = names_among c.names name; begins = begins_so q })
-      x.acts x.fates w.made (made_grow script c.names (Some name) w.made at.made_are)))
+  holds_now : HoldsOf (IsPasswordOf script) next (end (c.moves ++ e.moves))
+  holds_now =
+      subst (HoldsOf (IsPasswordOf script) next) (sym end_is)
+      (each_holds_of (IsPasswordOf script) stay secret w (end c.moves) the_line at.stands.holds at.holds_of l.gives x.comes.runs x.leads)
 
-  moves_ours : Each (IsMoveOf script now.names) (c.moves ++ e.moves)
-  moves_ours =
-      subst (λ (d : Option Bytes). Each (IsMoveOf script (names_with c.names d)) (c.moves ++ e.moves)) (sym l.named)
-      (each_append (IsMoveOf script (names_with c.names (Some name))) c.moves e.moves (moves_grow script c.names (Some name) c.moves at.moves_are)
-      (of_script script (names_with c.names (Some name)) name begins e.moves begins_so (names_among c.names name)
-      (subst (Each (IsMoveBy name begins)) (sym (event.moves_are ∙ s.moves_are))
-      (told_by (row_in seen.server) (mirrored seen.devices name) name begins x.acts x.fates))))
+  held_now : AreHeld (end (c.moves ++ e.moves))
+  held_now =
+      subst AreHeld (sym end_is)
+      (held_along keeps stays secret differ w (end c.moves) (line_steps begins the_line) x.leads.moves next at.stands.holds at.held x.leads.goes)
+
+  begun_own : (other : Bytes) → ¬ (One (λ n. n ≡ other) (names_with c.names (Some name))) → next.devices other ≡ no_rows
+  begun_own other none =
+      ⊎_elim (λ (e : other ≡ name). absurd (none (subst (λ (n : Bytes). One (λ m. m ≡ n) (names_with c.names (Some name))) (sym e) (names_among c.names name))))
+      (λ (k : other ≢ name). next_other other k ∙ at.begun other (λ one. none (names_grow (λ n. n ≡ other) c.names (Some name) one))) (same_or_apart other name)
+
+  begun_now : (other : Bytes) → ¬ (One (λ n. n ≡ other) now.names) → next.devices other ≡ no_rows
+  begun_now = subst (λ (d : Option Bytes). (other : Bytes) → ¬ (One (λ n. n ≡ other) (names_with c.names d)) → next.devices other ≡ no_rows) (sym l.named) begun_own
 
   -- ---- the marks
 
@@ -248,15 +261,16 @@ module _ (tell : CallsTell) (fit : TracesFit) (script : Script) (secret : Bytes)
   at_now = record {
     legal = legal_append empty c.moves e.moves at.legal (subst (LegalFrom (end c.moves)) (sym moves_told) x.legal);
     stands = subst (Stands came.ends secret next) (sym end_is) x.stands;
-    fits = fit secret w next (end c.moves) (line_steps begins (calls name 1 call words x.acts x.fates x.halt true)) x.leads.moves differ at.stands.holds.holds at.fits x.leads.goes;
+    fits = fit secret w (end c.moves) the_line at.fits l.fits x.comes.runs x.leads;
+    holds_of = holds_now;
+    held = held_now;
     labels_are = labels_see ∙ ap (λ (ls : Labels). labels_of (puts_of calling) ls moves) at.labels_are
         ∙ ap (λ (b : Bool). labels_of b c.labels moves) (sym event.puts_is) ∙ ap (labels_of e.puts c.labels) (sym event.moves_are);
     names_are = names_see ∙ ap (λ (ns : List Bytes). names_with ns (Some name)) at.names_are ∙ ap (names_with c.names) (sym l.named);
+    begun = begun_now;
     server_is = server_now;
     devices_are = devices_now;
     requests_are = requests_now;
-    made_are = made_ours;
-    moves_are = moves_ours;
     marks_are = marks_now;
     marks_read = reads_now;
   }

@@ -1,7 +1,7 @@
 -- What came of a call, and the event that is told of it.
 use Rattle.std.specs.Prelude.{◌≡◌, ℕ, List, [], Bool, Option, Some, true}
 use Rattle.rand_chacha.specs.ChaCha.{ChaCha}
-use Rattle.sn_client.specs.Runs.{Act, Call, Halt, rows_done}
+use Rattle.sn_client.specs.Runs.{Act, Call, Halt}
 use Rattle.sn_course.specs.Fits.{EndsSo}
 use Rattle.sn_events.specs.Calling.{host}
 use Rattle.sn_events.specs.Events.{AreServedAt}
@@ -16,19 +16,16 @@ use Rattle.sn_laws.specs.Lookups.{Bytes}
 use Rattle.sn_laws.specs.Runs.{LegalFrom, end_from}
 use Rattle.sn_laws.specs.declared.ideal.Ideal.{Ideal}
 use Rattle.sn_laws.specs.declared.moves.Move.{Move}
+use Rattle.sn_lines.specs.Lines.{MayHappen}
 use Rattle.sn_link.specs.Laws.{AreReadable}
 use Rattle.sn_recorder.specs.Told.{AreTold}
 use Rattle.sn_report.specs.declared.report.DeviceMark.{DeviceMark}
 use Rattle.sn_report.specs.declared.report.Event.{Event}
 use Rattle.sn_report.specs.declared.report.Last.{Last}
-use Rattle.sn_rows.specs.Table.{Rows}
-use Rattle.sn_string.specs.declared.params.KeySet.{KeySet}
-use Rattle.sn_sync.specs.declared.request.Request.{Request}
 use Rattle.sn_tail.specs.Shelves.{SlotReads}
 use Rattle.sn_telling.specs.Laws.{IsWhole}
-use Rattle.sn_telling.specs.Telling.{told_moves}
-use Rattle.sn_world.specs.Calls.{Fate, rows_served}
-use Rattle.sn_world.specs.Sessions.{LeadsLine, MayCome, calls}
+use Rattle.sn_world.specs.Calls.{Fate}
+use Rattle.sn_world.specs.Sessions.{LeadsLine, calls}
 use Rattle.sn_world.specs.World.{World}
 use Rattle.sn_replay.specs.declared.came.Came.{Came}
 
@@ -39,7 +36,7 @@ pub record HasCame (secret : Bytes) (w : World) (s : Ideal) (name : Bytes) (call
   pub acts : List Act
   pub fates : List Fate
   pub halt : Halt
-  pub comes : MayCome secret w s (calls name 1 call words acts fates halt true)
+  pub comes : MayHappen secret w s (calls name 1 call words acts fates halt true)
   pub leads : LeadsLine secret w s (calls name 1 call words acts fates halt true)
   pub legal : LegalFrom s leads.moves
   pub stands : Stands came.ends secret leads.next (end_from s leads.moves)
@@ -51,13 +48,6 @@ pub record HasCame (secret : Bytes) (w : World) (s : Ideal) (name : Bytes) (call
   pub readable : AreReadable host acts
   pub goes_on : EndsGoOn name old came.ends
   pub grow : EndsGrow old came.ends
-
--- its moves, by the rows of both ends before it, and the rows behind it
-pub record SeesMoves (server server_behind rows rows_behind : Rows) (name : Bytes) (begins : Request → Option KeySet) (acts : List Act) (fates : List Fate)
-    (moves : List Move) : Type 0 where
-  pub moves_are : moves ≡ told_moves server rows name begins acts fates
-  pub server_is : server_behind ≡ rows_served server fates
-  pub rows_are : rows_behind ≡ rows_done rows acts
 
 -- ---- the event
 

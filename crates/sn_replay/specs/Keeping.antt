@@ -1,15 +1,14 @@
 -- What is kept of the requests that devices made.
-use Rattle.std.specs.Prelude.{ℕ, zero, suc, List, [], Bool, true, false, Option, Some, None, slice_get}
+use Rattle.std.specs.Prelude.{ℕ, zero, suc, List, [], ◌∷◌, Bool, true, false, Option, Some, None, slice_get}
 use Rattle.std.specs.BTreeMap.{get_by_text}
 use Rattle.sn_client.specs.Asking.{IsRequestBytes}
 use Rattle.sn_events.specs.Calling.{host}
 use Rattle.sn_link.specs.Laws.{IsReadable}
 use Rattle.sn_recorder.specs.declared.exchanged.Exchanged.{Exchanged}
+use Rattle.sn_saying.specs.Served.{IsBegunAs}
 use Rattle.sn_script.specs.declared.script.Ordinal.{Ordinal}
 use Rattle.sn_script.specs.declared.script.Ordinal.TheVariants as ordinal
-use Rattle.sn_telling.specs.Calling.{IsAskedOf}
-use Rattle.sn_telling.specs.declared.calling.Asked.{Asked}
-use Rattle.sn_telling.specs.declared.calling.Asked.TheVariants as asked
+use Rattle.sn_string.specs.declared.params.KeySet.{KeySet}
 use Rattle.sn_telling.specs.declared.calling.Calling.{Calling}
 use Rattle.sn_telling.specs.declared.calling.Calling.TheVariants as calling
 use Rattle.sn_world.specs.World.{Made}
@@ -41,24 +40,18 @@ puts_of (calling.SignIn identifier) = false
 puts_of (calling.Edit text) = false
 puts_of calling.Delete = false
 puts_of calling.Sync = false
+puts_of calling.Passwd = false
 
--- what each of its requests is
-abbrev pub asked_of : Calling → Asked
-asked_of (calling.Register identifier set) = asked.Register identifier set
-asked_of (calling.SignIn identifier) = asked.Other
-asked_of (calling.Put kind text) = asked.Other
-asked_of (calling.Edit text) = asked.Other
-asked_of calling.Delete = asked.Other
-asked_of calling.Sync = asked.Sync
-
--- what is kept of an exchange
-abbrev pub kept_of : Calling → Exchanged → Kept
-kept_of call exchange = record { request = exchange.request; asked = asked_of call }
+-- of each exchange its request, with the set that this would begin
+abbrev pub kept_all : List Exchanged → List (Option KeySet) → List Kept
+kept_all [] begun = []
+kept_all (e ∷ exchanged) [] = []
+kept_all (e ∷ exchanged) (begins ∷ begun) = record { request = e.request; begins = begins } ∷ kept_all exchanged begun
 
 -- ---- what it stands for
 
--- the bytes of the request, which a server reads, and what it is
+-- the bytes of the request, which a server reads, and the set that it would begin
 pub record IsKeptOf (m : Made) (k : Kept) : Type 0 where
   pub sent : IsRequestBytes host m.request k.request
-  pub is : IsAskedOf m.request m.begins k.asked
+  pub begins_so : IsBegunAs m.request m.begins k.begins
   pub readable : IsReadable host m.request

@@ -39,6 +39,7 @@ reports (line.Put device fates text) = true
 reports (line.Edit device label fates text) = true
 reports (line.Delete device label fates) = true
 reports (line.Sync device fates) = true
+reports (line.Passwd device password fates) = true
 reports (line.Late device request) = true
 reports line.Show = true
 

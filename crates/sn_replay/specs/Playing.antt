@@ -2,11 +2,11 @@
 use Rattle.std.specs.Prelude.{◌≡◌, ◌≢◌, ℕ, ◌+◌, ◌≤◌, List, [], ◌∷◌, ◌++◌, length, Option, Some, None, true}
 use Rattle.std.specs.List.{AllZip}
 use Rattle.rand_chacha.specs.ChaCha.{ChaCha}
-use Rattle.sn_client.specs.Runs.{Act, Call, Halt, asked, commits as committed}
+use Rattle.sn_client.specs.Runs.{Act, Call, Halt}
 use Rattle.sn_course.specs.Courses.{Course, Reported, made_by, past, reporting, start}
-use Rattle.sn_course.specs.Fits.{Called, EndsSo, EndsWell, Fits, HappensAs, puts_item, shown_by}
-use Rattle.sn_course.specs.Headline.{Goes, MayStand, OpensWith, Opens, PasswordsApart, Recounts, SecretOf, Slots, moves_in}
-use Rattle.sn_course.specs.Laws.{Grow, IsSetOf, settings_behind}
+use Rattle.sn_course.specs.Fits.{Called, EndsSo, EndsWell, Fits, HappensAs, ShowsAs, puts_item}
+use Rattle.sn_course.specs.Headline.{Goes, IsPasswordOf, MayStand, OpensWith, Opens, PasswordsApart, Recounts, SecretOf, Slots, moves_in}
+use Rattle.sn_course.specs.Laws.{Grow, settings_behind}
 use Rattle.sn_course.specs.Lines.{device_of}
 use Rattle.sn_course.specs.Settings.{AreFirst, words_of}
 use Rattle.sn_course.specs.declared.settings.Settings.{Settings}
@@ -15,57 +15,38 @@ use Rattle.sn_events.specs.Standing.{Stands}
 use Rattle.sn_events.specs.declared.ends.Ends.{Ends}
 use Rattle.sn_items.specs.Draws.{drawn}
 use Rattle.sn_journal.specs.declared.owner.Owner.TheVariants.{Device as DeviceOwner, Server as ServerOwner}
-use Rattle.sn_laws.specs.Each.{Each, One}
+use Rattle.sn_laws.specs.Each.{One}
 use Rattle.sn_laws.specs.Lookups.{Bytes}
 use Rattle.sn_laws.specs.Runs.{Legal, end}
 use Rattle.sn_laws.specs.declared.moves.Move.{Move}
-use Rattle.sn_laws.specs.declared.moves.Move.TheVariants.{Accept, Change, Register}
+use Rattle.sn_lines.specs.Fits.{FitsAll}
+use Rattle.sn_lines.specs.Lines.{MayHappen}
+use Rattle.sn_lines.specs.Passwords.{GivesOf, HoldsOf}
 use Rattle.sn_report.specs.declared.report.Event.{Event}
 use Rattle.sn_report.specs.declared.report.Last.{Last}
 use Rattle.sn_row_map.specs.RowMaps.{row_in}
+use Rattle.sn_rows.specs.Table.{no_rows}
 use Rattle.sn_script.specs.declared.script.Line.{Line}
 use Rattle.sn_script.specs.declared.script.Script.{Script}
-use Rattle.sn_string.specs.declared.params.KeySet.{KeySet}
-use Rattle.sn_sync.specs.declared.request.Request.{Request}
 use Rattle.sn_tail.specs.Shelves.{SlotReads}
-use Rattle.sn_telling.specs.Calling.{IsAskedOf, IsCallingOf}
-use Rattle.sn_telling.specs.Laws.{IsWhole}
-use Rattle.sn_telling.specs.declared.calling.Asked.{Asked}
+use Rattle.sn_telling.specs.Calling.{IsCallingOf}
 use Rattle.sn_telling.specs.declared.calling.Calling.{Calling}
-use Rattle.sn_world.specs.Calls.{BeginsBy, Fate}
-use Rattle.sn_world.specs.Delivered.{FitsDevices}
+use Rattle.sn_world.specs.Calls.{Fate}
+use Rattle.sn_world.specs.Fitting.{FitsCall}
+use Rattle.sn_world.specs.Holders.{AreHeld}
 use Rattle.sn_world.specs.Holds.{TokensDiffer}
-use Rattle.sn_world.specs.Sessions.{LeadsLine, MayCome, calls}
-use Rattle.sn_world.specs.World.{Made, World}
-use Rattle.sn_replay.specs.Keeping.{IsKeptOf, asked_of, puts_of, requests_of}
+use Rattle.sn_world.specs.Sessions.{LeadsLine, calls}
+use Rattle.sn_world.specs.World.{World}
+use Rattle.sn_replay.specs.Keeping.{IsKeptOf, puts_of, requests_of}
 use Rattle.sn_replay.specs.Lines.{reports}
 pub use Rattle.sn_replay.specs.Lines.{IsReplayRefusal}
 use Rattle.sn_replay.specs.Mirrored.{mirrored}
 use Rattle.sn_replay.specs.declared.error.ReplayError.{ReplayError}
 use Rattle.sn_replay.specs.declared.error.ReplayError.TheVariants as refusal
 use Rattle.sn_replay.specs.declared.known.Known.{Known}
-use Rattle.sn_replay.specs.declared.known.Told.{Told}
+use Rattle.sn_replay.specs.declared.known.LineTold.{LineTold}
 use Rattle.sn_replay.specs.declared.run.State.{State}
 use Rattle.sn_replay.specs.declared.settings.Moment.{Moment}
-
--- ---- what is of the script
-
--- a set that a request would begin is that of a password of the script
-abbrev pub IsBeginsOf : Script → Option KeySet → Type 0
-IsBeginsOf script None = Unit {0}
-IsBeginsOf script (Some set) = IsSetOf script set
-
--- a request is of a device that has begun
-pub record IsMadeOf (script : Script) (names : List Bytes) (m : Made) : Type 0 where
-  pub among : One (λ n. n ≡ m.device) names
-  pub begins : IsBeginsOf script m.begins
-
--- an account begins with a set of the script, and none gets another; a version is of a device that has begun
-abbrev pub IsMoveOf : Script → List Bytes → Move → Type 0
-IsMoveOf script names (Register identifier set) = IsSetOf script set
-IsMoveOf script names (Accept device uuid stamp under) = One (λ n. n ≡ device) names
-IsMoveOf script names (Change identifier number set) = ⊥
-IsMoveOf script names m = Unit {0}
 
 -- ---- between two lines
 
@@ -76,21 +57,24 @@ ends_slots ends = record { server = server_slot ends; devices = λ name. device_
 pub record IsAt (script : Script) (secret : Bytes) (known : Known) (c : Course) : Type 0 where
   pub legal : Legal c.moves
   pub stands : Stands known.ends secret c.world (end c.moves)
-  pub fits : FitsDevices c.world
+  -- what devices ask is within the bounds of what is read; each set is of a password of the script; and a device holds each set that a last version carries
+  pub fits : FitsAll c.world
+  pub holds_of : HoldsOf (IsPasswordOf script) c.world (end c.moves)
+  pub held : AreHeld (end c.moves)
   pub labels_are : known.seen.labels ≡ c.labels
   pub names_are : known.seen.names ≡ c.names
+  -- a device that has begun nothing has no rows
+  pub begun : (name : Bytes) → ¬ (One (λ n. n ≡ name) c.names) → c.world.devices name ≡ no_rows
   pub server_is : row_in known.seen.server ≡ c.world.server
   pub devices_are : (name : Bytes) → mirrored known.seen.devices name ≡ c.world.devices name
   pub requests_are : (name : Bytes) → AllZip IsKeptOf (made_by name c.world.made) (requests_of known.seen.requests name)
-  pub made_are : Each (IsMadeOf script c.names) c.world.made
-  pub moves_are : Each (IsMoveOf script c.names) c.moves
   pub marks_are : (name : Bytes) → c.marks name ≡ slot_mark (device_slot known.ends name)
   pub marks_read : (name : Bytes) → SlotReads (device_slot known.ends name) DeviceOwner (c.marks name) (c.world.devices name)
 
 -- ---- the event of a line
 
 -- it fits the line, the records grew, and the course goes on behind it
-pub record Tells (script : Script) (secret : Bytes) (known : Known) (c : Course) (r : Reported) (told : Told) : Type 0 where
+pub record Tells (script : Script) (secret : Bytes) (known : Known) (c : Course) (r : Reported) (told : LineTold) : Type 0 where
   pub next : World
   pub grow : Grow (ends_slots known.ends) (ends_slots told.known.ends)
   pub fits : Fits secret c r told.event next
@@ -98,27 +82,25 @@ pub record Tells (script : Script) (secret : Bytes) (known : Known) (c : Course)
   pub server_mark : told.event.server_mark ≡ slot_mark (server_slot told.known.ends)
   pub server_reads : SlotReads (server_slot told.known.ends) ServerOwner told.event.server_mark next.server
 
--- each request among the acts is this, where a registration would begin the set that is said of it
-abbrev pub AreAskedSo : (Request → Option KeySet) → Asked → List Act → Type 0
-AreAskedSo begins a [] = Unit {0}
-AreAskedSo begins a (committed what changes ∷ acts) = AreAskedSo begins a acts
-AreAskedSo begins a (asked r reply ∷ acts) = IsAskedOf r (begins r) a × AreAskedSo begins a acts
+-- wherever the line of a call leads, it says one list of moves
+abbrev pub SaysOneList : Bytes → Course → Reported → Bytes → Call → List Act → List Fate → Halt → List Move → Type 0
+SaysOneList secret c r name call acts fates halt moves =
+    (other : LeadsLine secret c.world (end c.moves) (calls name 1 call (words_of r.settings r.number) acts fates halt true)) → other.moves ≡ moves
 
 -- the line asks this device for this call: what the event of such a line is, whatever the call
 pub record IsLineOf (script : Script) (secret : Bytes) (c : Course) (r : Reported) (name : Bytes) (call : Call) (calling : Calling) : Type 0 where
   pub named : device_of r.asks ≡ Some name
   pub happens : (e : Event) (next : World) → Called secret c r name call e next → HappensAs r.asks secret c r e next
-  pub shows : shown_by r.asks c.labels c.names (end c.moves) ≡ []
+  pub shows : ShowsAs r.asks c []
   pub puts : puts_item r.asks ≡ puts_of calling
-  pub of_script : (begins : Request → Option KeySet) → BeginsBy (c.world.devices name) call begins → (q : Request) → IsBeginsOf script (begins q)
-  pub calls_so : (acts : List Act) (fates : List Fate) (halt : Halt)
-      → MayCome secret c.world (end c.moves) (calls name 1 call (words_of r.settings r.number) acts fates halt true)
-      → (leads : LeadsLine secret c.world (end c.moves) (calls name 1 call (words_of r.settings r.number) acts fates halt true)) → IsWhole halt
-      → IsCallingOf call leads.begins acts calling × AreAskedSo leads.begins (asked_of calling) acts
+  pub fits : FitsCall call
+  pub gives : GivesOf (IsPasswordOf script) call
+  pub is : IsCallingOf (words_of r.settings r.number) call calling
   pub well : (acts : List Act) (fates : List Fate) (halt : Halt)
-      → MayCome secret c.world (end c.moves) (calls name 1 call (words_of r.settings r.number) acts fates halt true)
-      → (leads : LeadsLine secret c.world (end c.moves) (calls name 1 call (words_of r.settings r.number) acts fates halt true)) → (last : Last) → EndsSo halt last
-      → EndsWell call name (leads.next.devices name) (end (c.moves ++ leads.moves)) last
+      → MayHappen secret c.world (end c.moves) (calls name 1 call (words_of r.settings r.number) acts fates halt true)
+      → (leads : LeadsLine secret c.world (end c.moves) (calls name 1 call (words_of r.settings r.number) acts fates halt true))
+      → SaysOneList secret c r name call acts fates halt leads.moves → (last : Last) → EndsSo halt last
+      → EndsWell call name (end c.moves) (leads.next.devices name) (end (c.moves ++ leads.moves)) last
 
 -- ---- the beginning
 

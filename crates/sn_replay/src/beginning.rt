@@ -8,11 +8,13 @@ use crate::kept::Requests;
 use crate::known::{Known, Seen};
 use crate::mirrors::Mirrors;
 use crate::settings::{Moment, line_words};
+use sn_client::steps_stay_sound;
 use sn_events::{Begun, Ends};
+use sn_lines::{all_fit_first, each_fits};
 use sn_report::Labels;
 use sn_row_map::RowMap;
 use sn_string::Many;
-use sn_world::{first_fits, holds_first, traces_fit};
+use sn_world::holds_first;
 use std::alloc::{AllocError, Global};
 
 /// A fresh server, which draws its secret from the words of the first line that reports, and no device.
@@ -20,8 +22,9 @@ pub(crate) fn begin(alloc: Global, at: &Moment) -> Result<Known, AllocError>
     ensures { IfOk result (Begins (words_of at.now.settings at.now.number)) }
 {
     holds_first();
-    first_fits();
-    traces_fit();
+    all_fit_first();
+    each_fits();
+    steps_stay_sound();
     let mut words = line_words(at);
     let Begun { ends, changes } = Ends::begin(alloc, &mut words)?;
     let mut server = RowMap::new(alloc);

@@ -13,19 +13,18 @@ ghost use Rattle.sn_world.specs.Holds.{TokensDiffer};
 
 use crate::came::came_of;
 use crate::error::ReplayError;
-use crate::known::{Known, Told};
+use crate::known::{Known, LineTold};
 use crate::labelled::labelled_item;
 use crate::losses::losses_of;
 use crate::new_set::new_set;
 use crate::settings::{Moment, line_words};
 use crate::told::told;
-use sn_course::{only_set_of_password, sets_stay};
 use sn_events::Setting;
+use sn_passwd::{every_sync_ends, passwds_end};
 use sn_readable::runs_readable;
 use sn_script::{Fate, Ordinal};
 use sn_string::{Text, Twin};
-use sn_telling::{Calling, traces_tell};
-use sn_world::syncs_end;
+use sn_telling::Calling;
 use std::alloc::{AllocError, Global};
 
 /// The type of each item that a script puts.
@@ -40,7 +39,7 @@ pub(crate) fn register_line(
     identifier: &Text,
     password: &Text,
     fates: &[Fate],
-) -> Result<Told, AllocError>
+) -> Result<LineTold, AllocError>
     requires identifier { IsIdentifier identifier.now }
     requires cost { 1 ≤ at.now.settings.cost }
     ensures { (script : Script) (secret : Bytes) (c : Course) → TokensDiffer secret → IsPasswordOf script password.now → IsAt script secret known c
@@ -70,15 +69,13 @@ pub(crate) fn sign_in_line(
     identifier: &Text,
     password: &Text,
     fates: &[Fate],
-) -> Result<Told, AllocError>
+) -> Result<LineTold, AllocError>
     requires identifier { IsIdentifier identifier.now }
     ensures { (script : Script) (secret : Bytes) (c : Course) → TokensDiffer secret → PasswordsApart script → IsPasswordOf script password.now
         → IsAt script secret known c
         → IfOk result (Tells script secret known c (reported_at at.now (line.SignIn device.now identifier.now password.now fates.now))) }
 {
     runs_readable();
-    sets_stay();
-    only_set_of_password();
     let Known { ends, seen } = known;
     let calling = Calling::SignIn {
         identifier: identifier.twin(alloc)?,
@@ -102,7 +99,7 @@ pub(crate) fn put_line(
     device: &Text,
     fates: &[Fate],
     text: &Text,
-) -> Result<Told, AllocError>
+) -> Result<LineTold, AllocError>
     ensures { (script : Script) (secret : Bytes) (c : Course) → TokensDiffer secret → IsAt script secret known c
         → IfOk result (Tells script secret known c (reported_at at.now (line.Put device.now fates.now text.now))) }
 {
@@ -131,7 +128,7 @@ pub(crate) fn edit_line(
     label: Ordinal,
     fates: &[Fate],
     text: &Text,
-) -> Result<Told, ReplayError>
+) -> Result<LineTold, ReplayError>
     ensures told { (script : Script) (secret : Bytes) (c : Course) → TokensDiffer secret → IsAt script secret known c
         → IfOk result (Tells script secret known c (reported_at at.now (line.Edit device.now label fates.now text.now))) }
     ensures refused { (script : Script) (secret : Bytes) (c : Course) → IsAt script secret known c
@@ -164,7 +161,7 @@ pub(crate) fn delete_line(
     device: &Text,
     label: Ordinal,
     fates: &[Fate],
-) -> Result<Told, ReplayError>
+) -> Result<LineTold, ReplayError>
     ensures told { (script : Script) (secret : Bytes) (c : Course) → TokensDiffer secret → IsAt script secret known c
         → IfOk result (Tells script secret known c (reported_at at.now (line.Delete device.now label fates.now))) }
     ensures refused { (script : Script) (secret : Bytes) (c : Course) → IsAt script secret known c
@@ -193,13 +190,12 @@ pub(crate) fn sync_line(
     at: &Moment,
     device: &Text,
     fates: &[Fate],
-) -> Result<Told, AllocError>
-    ensures { (script : Script) (secret : Bytes) (c : Course) → TokensDiffer secret → IsAt script secret known c
+) -> Result<LineTold, AllocError>
+    ensures { (script : Script) (secret : Bytes) (c : Course) → TokensDiffer secret → PasswordsApart script → IsAt script secret known c
         → IfOk result (Tells script secret known c (reported_at at.now (line.Sync device.now fates.now))) }
 {
     runs_readable();
-    traces_tell();
-    syncs_end();
+    every_sync_ends();
     let Known { ends, seen } = known;
     let mut words = line_words(at);
     let outcome = ends.sync(setting_at(at, fates), device.as_str(), &mut words)?;
@@ -210,6 +206,41 @@ pub(crate) fn sync_line(
         at.number,
         device,
         &Calling::Sync,
+    )
+}
+
+/// A line that gives the account of a device another password.
+pub(crate) fn passwd_line(
+    alloc: Global,
+    known: Known,
+    at: &Moment,
+    device: &Text,
+    password: &Text,
+    fates: &[Fate],
+) -> Result<LineTold, AllocError>
+    requires cost { 1 ≤ at.now.settings.cost }
+    ensures { (script : Script) (secret : Bytes) (c : Course) → TokensDiffer secret → PasswordsApart script → IsPasswordOf script password.now
+        → IsAt script secret known c
+        → IfOk result (Tells script secret known c (reported_at at.now (line.Passwd device.now password.now fates.now))) }
+{
+    runs_readable();
+    passwds_end();
+    let Known { ends, seen } = known;
+    let mut words = line_words(at);
+    let outcome = ends.passwd(
+        setting_at(at, fates),
+        device.as_str(),
+        &mut words,
+        password.as_str(),
+        at.settings.cost,
+    )?;
+    told(
+        alloc,
+        seen,
+        came_of(outcome)?,
+        at.number,
+        device,
+        &Calling::Passwd,
     )
 }
 

@@ -1,20 +1,19 @@
 //! The requests that devices ever made, for lines that deliver one of them late or again.
 
-ghost use Rattle.std.specs.Prelude.{◌≡◌, ◌++◌, IfOk, OnOk, map};
-ghost use Rattle.sn_replay.specs.Keeping.{asked_of, kept_of};
+ghost use Rattle.std.specs.Prelude.{◌≡◌, ◌++◌, OnOk};
+ghost use Rattle.sn_replay.specs.Keeping.{kept_all};
 
 use sn_recorder::Exchanged;
 use sn_script::Ordinal;
-use sn_string::{Many, Twin};
-use sn_telling::{Asked, Calling};
+use sn_string::{KeySet, Many, Twin};
 use std::alloc::{AllocError, Global};
 use std::collections::BTreeMap;
 
-/// A request that a device made: its bytes, and what it is.
+/// A request that a device made: its bytes, and the set that it would begin.
 #[derive(Drop)]
 pub(crate) struct Kept {
     pub(crate) request: Many<u8>,
-    pub(crate) asked: Asked,
+    pub(crate) begins: Option<KeySet>,
 }
 
 /// The requests of each device by its name, the first of them first.
@@ -38,18 +37,18 @@ impl Requests {
         }
     }
 
-    /// Keeps the requests of a call's exchanges, behind those that its device made before.
+    /// Keeps the requests of a call's exchanges, each with the set that it would begin, behind those that its device made before.
     pub(crate) fn add(
         &mut self,
         name: &str,
         exchanged: Many<Exchanged>,
-        calling: &Calling,
+        begun: Many<Option<KeySet>>,
     ) -> Result<(), AllocError>
-        ensures own { OnOk result (requests_of self.new name.now ≡ requests_of self.old name.now ++ map (kept_of calling.now) exchanged) }
+        ensures own { OnOk result (requests_of self.new name.now ≡ requests_of self.old name.now ++ kept_all exchanged begun) }
         ensures others { (other : List ℕ) → other ≢ name.now → requests_of self.new other ≡ requests_of self.old other }
     {
         let mut kept = self.take(name);
-        keep_all(self.alloc, &mut kept, exchanged, calling)?;
+        keep_all(self.alloc, &mut kept, exchanged, begun.as_slice())?;
         self.put(name, kept)
     }
 
@@ -93,45 +92,24 @@ impl Requests {
     }
 }
 
-// The requests of exchanges behind others.
+// The requests of exchanges behind others, each with the set that it would begin.
 fn keep_all(
     alloc: Global,
     kept: &mut Many<Kept>,
     exchanged: Many<Exchanged>,
-    calling: &Calling,
+    begun: &[Option<KeySet>],
 ) -> Result<(), AllocError>
-    ensures { OnOk result (kept.new ≡ kept.old ++ map (kept_of calling.now) exchanged) }
+    ensures { OnOk result (kept.new ≡ kept.old ++ kept_all exchanged begun.now) }
 {
+    let mut place = 0usize;
     'exchanges: for exchange in exchanged.into_vec() {
-        let request = kept_of(alloc, exchange, calling)?;
-        kept.push(request)?;
+        let Some(begins) = begun.get(place) else {
+            return Ok(());
+        };
+        let Exchanged { request, .. } = exchange;
+        let begins = begins.twin(alloc)?;
+        kept.push(Kept { request, begins })?;
+        place += 1;
     }
     Ok(())
-}
-
-// The request of an exchange of this call.
-fn kept_of(alloc: Global, exchange: Exchanged, calling: &Calling) -> Result<Kept, AllocError>
-    ensures { IfOk result (λ kept. kept ≡ kept_of calling.now exchange) }
-{
-    let Exchanged { request, .. } = exchange;
-    let asked = asked_of(alloc, calling)?;
-    Ok(Kept { request, asked })
-}
-
-// What each request of a call is.
-fn asked_of(alloc: Global, calling: &Calling) -> Result<Asked, AllocError>
-    ensures { IfOk result (λ asked. asked ≡ asked_of calling.now) }
-{
-    match calling {
-        Calling::Register { identifier, set } => {
-            let identifier = identifier.twin(alloc)?;
-            let set = set.twin(alloc)?;
-            Ok(Asked::Register { identifier, set })
-        }
-        Calling::Sync => Ok(Asked::Sync),
-        Calling::SignIn { .. } => Ok(Asked::Other),
-        Calling::Put { .. } => Ok(Asked::Other),
-        Calling::Edit { .. } => Ok(Asked::Other),
-        Calling::Delete => Ok(Asked::Other),
-    }
 }

@@ -27,7 +27,7 @@ pub(crate) struct Known {
 
 /// The event of a line, and what is known behind it.
 #[derive(Drop)]
-pub(crate) struct Told {
+pub(crate) struct LineTold {
     pub(crate) known: Known,
     pub(crate) event: Event,
 }

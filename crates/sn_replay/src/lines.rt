@@ -10,9 +10,11 @@ ghost use Rattle.sn_replay.specs.Playing.{IsAt, Tells};
 ghost use Rattle.sn_script.specs.declared.script.Script.{Script};
 ghost use Rattle.sn_world.specs.Holds.{TokensDiffer};
 
-use crate::calls::{delete_line, edit_line, put_line, register_line, sign_in_line, sync_line};
+use crate::calls::{
+    delete_line, edit_line, passwd_line, put_line, register_line, sign_in_line, sync_line,
+};
 use crate::error::ReplayError;
-use crate::known::{Known, Told};
+use crate::known::{Known, LineTold};
 use crate::late::late_line;
 use crate::settings::Moment;
 use crate::showing::show_line;
@@ -25,7 +27,7 @@ pub(crate) fn line_told(
     known: Known,
     at: &Moment,
     line: &Line,
-) -> Result<Told, ReplayError>
+) -> Result<LineTold, ReplayError>
     requires bounded { IsBounded line.now }
     requires cost { 1 ≤ at.now.settings.cost }
     requires reports { reports line.now ≡ true }
@@ -78,6 +80,14 @@ pub(crate) fn line_told(
         } => delete_line(alloc, known, at, device, *label, fates.as_slice()),
         Line::Sync { device, fates } => {
             let told = sync_line(alloc, known, at, device, fates.as_slice())?;
+            Ok(told)
+        }
+        Line::Passwd {
+            device,
+            password,
+            fates,
+        } => {
+            let told = passwd_line(alloc, known, at, device, password, fates.as_slice())?;
             Ok(told)
         }
         Line::Late { device, request } => late_line(alloc, known, at, device, *request),

@@ -14,7 +14,7 @@ ghost use Rattle.sn_script.specs.declared.script.Script.{Script};
 
 use crate::beginning::begin;
 use crate::error::ReplayError;
-use crate::known::{Known, Told};
+use crate::known::{Known, LineTold};
 use crate::lines::line_told;
 use crate::settings::{Moment, after_line, first_settings, reports};
 use sn_course::{
@@ -108,7 +108,7 @@ fn step(alloc: Global, state: State, number: u64, line: &Line) -> Result<State, 
     }
     let at = Moment { number, settings };
     let known = known_or(alloc, known, &at)?;
-    let Told { known, event } = line_told(alloc, known, &at, line)?;
+    let LineTold { known, event } = line_told(alloc, known, &at, line)?;
     events.push(event)?;
     Ok(State {
         settings,

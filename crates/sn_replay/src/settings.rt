@@ -49,6 +49,7 @@ pub(crate) fn after_line(settings: Settings, line: &Line) -> Settings
         | Line::Edit { .. }
         | Line::Delete { .. }
         | Line::Sync { .. }
+        | Line::Passwd { .. }
         | Line::Late { .. }
         | Line::Show => settings,
     }
@@ -66,6 +67,7 @@ pub(crate) fn reports(line: &Line) -> bool
         | Line::Edit { .. }
         | Line::Delete { .. }
         | Line::Sync { .. }
+        | Line::Passwd { .. }
         | Line::Late { .. }
         | Line::Show => true,
     }

@@ -8,10 +8,9 @@ ghost use Rattle.sn_replay.specs.Playing.{IsAt, Tells};
 ghost use Rattle.sn_script.specs.declared.script.Line.TheVariants as line;
 ghost use Rattle.sn_script.specs.declared.script.Script.{Script};
 
-use crate::known::{Known, Told};
+use crate::known::{Known, LineTold};
 use crate::settings::Moment;
 use sn_report::{Event, Last};
-use sn_shown::held_laws::versions_held;
 use sn_shown::laws::states_regular;
 use sn_shown::show;
 use sn_string::Many;
@@ -19,18 +18,17 @@ use sn_tail::slots_grow;
 use std::alloc::{AllocError, Global};
 
 /// A line that shows what both ends hold. Nothing is done.
-pub(crate) fn show_line(alloc: Global, known: Known, at: &Moment) -> Result<Told, AllocError>
+pub(crate) fn show_line(alloc: Global, known: Known, at: &Moment) -> Result<LineTold, AllocError>
     ensures { (script : Script) (secret : Bytes) (c : Course) → IsAt script secret known c
         → IfOk result (Tells script secret known c (reported_at at.now line.Show)) }
 {
     states_regular();
-    versions_held();
     slots_grow();
     let seen = &known.seen;
     let names = seen.names.as_slice();
     let shown = show(alloc, &seen.labels, names, &seen.server, &seen.devices)?;
     let server_mark = known.ends.server_mark();
-    Ok(Told {
+    Ok(LineTold {
         known,
         event: Event {
             number: at.number,

@@ -21,14 +21,16 @@ ghost use Rattle.sn_world.specs.Holds.{TokensDiffer};
 ghost use Rattle.sn_world.specs.World.{World};
 
 use crate::came::Came;
-use crate::known::{Known, Seen, Told};
+use crate::known::{Known, LineTold, Seen};
 use crate::seen::{puts, see};
+use sn_client::steps_stay_sound;
 use sn_events::Ends;
 use sn_laws::Move;
+use sn_lines::each_fits;
 use sn_report::{DeviceMark, Event, Last};
 use sn_string::{Many, Text, Twin};
-use sn_telling::{Calling, calls_tell};
-use sn_world::traces_fit;
+use sn_telling::{Calling, Told, calls_tell};
+use sn_world::{keeps, keeps_held};
 use std::alloc::{AllocError, Global};
 
 /// The event of a call of this device, by what the ends gave of it and what was seen before.
@@ -39,24 +41,27 @@ pub(crate) fn told(
     number: u64,
     name: &Text,
     calling: &Calling,
-) -> Result<Told, AllocError>
+) -> Result<LineTold, AllocError>
     ensures { (script : Script) (secret : Bytes) (c : Course) (settings : Settings) (asks : Line) (call : Call) (old : Ends) → TokensDiffer secret
         → IsAt script secret (record { ends = old; seen = seen }) c → IsLineOf script secret c (record { number = number; settings = settings; asks = asks }) name.now call calling.now
         → HasCame secret c.world (end c.moves) name.now call (words_of settings number) (setting_at settings (fates_of asks)) old came
         → IfOk result (Tells script secret (record { ends = old; seen = seen }) c (record { number = number; settings = settings; asks = asks })) }
 {
     calls_tell();
-    traces_fit();
-    let moves = see(alloc, &mut seen, name, calling, &came)?;
+    each_fits();
+    keeps();
+    keeps_held();
+    steps_stay_sound();
+    let Told { moves, begun } = see(alloc, &mut seen, name, calling, &came)?;
     let Came {
         ends,
         last,
         exchanged,
         ..
     } = came;
-    seen.requests.add(name.as_str(), exchanged, calling)?;
+    seen.requests.add(name.as_str(), exchanged, begun)?;
     let event = event_of(alloc, &ends, number, name, calling, moves, last)?;
-    Ok(Told {
+    Ok(LineTold {
         known: Known { ends, seen },
         event,
     })

@@ -27,7 +27,7 @@ returns c =
     let w = course.world in
     let s = end course.moves in
     let came = c.in_ok-outcome.ensures.came secret w s differ is_at.stands
-    (readable_of c.runs_readable.ensures script secret c.args.known course c.as_str.result.now written is_at tt tt) in
+    (readable_of c.runs_readable.ensures script secret c.args.known course c.as_str.result.now written is_at tt) in
     let has = c.in_ok-came_of.ensures secret w s c.as_str.result.now written c.line_words-words.result c.register.new.words c.setting_at.result (λ given. nothing)
     c.args.known.ends came in
     let set = c.in_ok-calling.ensures in

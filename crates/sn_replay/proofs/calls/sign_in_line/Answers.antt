@@ -1,4 +1,5 @@
 use Rattle.std.proofs.Common.{◌≡◌, ap, sym, subst, ◌∙◌}
+use Rattle.std.specs.Str.{IsUtf8}
 use Rattle.sn_client.specs.Runs.{Call, nothing, sign_in}
 use Rattle.sn_laws.specs.Lookups.{Bytes}
 use Rattle.sn_string.specs.Bounds.{IsIdentifier}
@@ -9,7 +10,7 @@ use Rattle.sn_script.specs.declared.script.Line.TheVariants as line
 use Rattle.sn_replay.specs.Lines.{setting_at}
 use Rattle.sn_replay.specs.Coming.{HasCame}
 use Rattle.sn_replay.proofs.Asking.{sign_in_of}
-use Rattle.sn_replay.proofs.Calling.{has_along, only_of, readable_of}
+use Rattle.sn_replay.proofs.Calling.{has_along, may_call, readable_of}
 use Rattle.sn_replay.proofs.calls.sign_in_line.Goals as goal
 
 pub returns : goal.returns
@@ -28,14 +29,15 @@ returns c =
     let only : IsOnlyOf s c.as_str-2.result.now c.as_str-3.result.now =
     subst (λ (i : Bytes). IsOnlyOf s i c.as_str-3.result.now) (sym c.as_str-2.ensures)
     (subst (λ (p : Bytes). IsOnlyOf s identifier p) (sym c.as_str-3.ensures)
-    (only_of c.sets_stay.ensures.first c.sets_stay.ensures.on c.only_set_of_password.ensures script secret c.args.known course identifier password apart of is_at)) in
+    (may_call script secret c.args.known course name call apart is_at of)) in
     let came = c.in_ok-outcome.ensures.came secret w s differ is_at.stands only
     (readable_of c.runs_readable.ensures script secret c.args.known course c.as_str.result.now written is_at
-    (subst IsIdentifier (sym c.as_str-2.ensures) c.requires.identifier, c.as_str-2.utf8) tt) in
+    (subst IsIdentifier (sym c.as_str-2.ensures) c.requires.identifier, c.as_str-2.utf8)) in
     let has = c.in_ok-came_of.ensures secret w s c.as_str.result.now written c.line_words-words.result c.sign_in.new.words c.setting_at.result (λ given. nothing)
     c.args.known.ends came in
     c.told.ensures script secret course at.settings (line.SignIn name identifier password fates) call c.args.known.ends differ is_at
-    (sign_in_of script secret course at.number at.settings name identifier password fates c.in_ok-twin.field-0 (sym c.in_ok-twin.ensures))
+    (sign_in_of script secret course at.number at.settings name identifier password fates c.in_ok-twin.field-0 (sym c.in_ok-twin.ensures) c.requires.identifier
+    (subst IsUtf8 c.as_str-2.ensures c.as_str-2.utf8) of)
     (subst (λ (k : Call). HasCame secret w s name k (words_of at.settings at.number) (setting_at at.settings fates) c.args.known.ends c.in_ok-came_of.field-0) same
     (has_along secret w s written c.args.known.ends c.in_ok-came_of.field-0 c.as_str.result.now name c.line_words-words.result (words_of at.settings at.number)
     c.setting_at.result (setting_at at.settings fates) c.as_str.ensures c.line_words-words.ensures c.setting_at.ensures has))

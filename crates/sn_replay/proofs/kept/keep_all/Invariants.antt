@@ -1,6 +1,9 @@
-use Rattle.std.specs.Prelude.{◌≡◌, ◌++◌, map}
-use Rattle.sn_replay.specs.Keeping.{kept_of}
+use Rattle.std.specs.Prelude.{◌≡◌, ◌++◌, length}
+use Rattle.sn_replay.specs.Keeping.{kept_all}
 use Rattle.sn_replay.proofs.kept.keep_all.Given as goal
 
 abbrev pub invariant-exchanges : goal.invariant-exchanges
-invariant-exchanges l = l.kept ≡ l.initial.kept ++ map (kept_of l.calling) l.yielded
+invariant-exchanges l = record {
+  place : l.place ≡ length l.yielded;
+  kept : l.kept ≡ l.initial.kept ++ kept_all l.yielded l.begun;
+}

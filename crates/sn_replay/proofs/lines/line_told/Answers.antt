@@ -31,6 +31,17 @@ returns-in_ok-told-in-SignIn-clause-told c =
     subst (λ (l : Line). Tells script secret c.args.known course (reported_at c.args.at.now l) c.in_ok-told-in-SignIn.told) same
     (c.in_ok-told-in-SignIn.ensures script secret course differ apart of at)
 
+pub returns-in_ok-told-in-Passwd-clause-told : goal.returns-in_ok-told-in-Passwd-clause-told
+returns-in_ok-told-in-Passwd-clause-told c =
+    let x = c.in-Passwd in
+    let same : line.Passwd x.device x.password c.as_slice-in-Passwd.result.now ≡ c.args.line.now =
+    ap (λ (fs : List Fate). line.Passwd x.device x.password fs) c.as_slice-in-Passwd.ensures ∙ sym x.is in
+    λ script secret course differ apart among at.
+    let of : IsPasswordOf script x.password =
+    one_with (λ (l : Line). l ≡ c.args.line.now) (λ (l : Line). password_of l ≡ Some x.password) (λ l e. ap password_of (e ∙ x.is)) script.lines among in
+    subst (λ (l : Line). Tells script secret c.args.known course (reported_at c.args.at.now l) c.in_ok-told-in-Passwd.told) same
+    (c.in_ok-told-in-Passwd.ensures script secret course differ apart of at)
+
 pub returns-in-Edit-clause-refused : goal.returns-in-Edit-clause-refused
 returns-in-Edit-clause-refused c =
     let x = c.in-Edit in

@@ -1,4 +1,4 @@
 use Rattle.sn_replay.proofs.seen.see.Goals as goal
 
-pub returns-clause-moves : goal.returns-clause-moves
-returns-clause-moves c = c.in_ok-moves.ensures.moves
+pub returns-clause-told : goal.returns-clause-told
+returns-clause-told c = c.in_ok-told.ensures.told

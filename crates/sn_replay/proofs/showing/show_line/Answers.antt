@@ -1,8 +1,9 @@
-use Rattle.std.proofs.Common.{◌≡◌, List, sym, subst}
+use Rattle.std.proofs.Common.{◌≡◌, ℕ, List, Option, sym, subst}
 use Rattle.sn_laws.specs.Lookups.{Bytes}
 use Rattle.sn_laws.specs.Runs.{end}
 use Rattle.sn_report.specs.Showing.{show_lines}
 use Rattle.sn_row_map.specs.RowMaps.{row_in}
+use Rattle.sn_shown.specs.Closed.{AreClosed}
 use Rattle.sn_shown.specs.Shown.{EndsShow}
 use Rattle.sn_replay.specs.Mirrored.{mirrored}
 use Rattle.sn_replay.proofs.ShownLemmas.{ends_show, show_tells}
@@ -14,9 +15,10 @@ returns c =
     let seen = c.args.known.seen in
     λ script secret course is_at.
     let s = end course.moves in
-    let show = ends_show c.states_regular.ensures c.versions_held.ensures script secret c.args.known course is_at in
-    let shown : c.in_ok-shown.shown ≡ show_lines seen.labels seen.names s =
-    subst (λ (ns : List Bytes). c.in_ok-shown.shown ≡ show_lines seen.labels ns s) c.as_slice-names.ensures
+    let show = ends_show c.states_regular.ensures script secret c.args.known course is_at in
+    let shown : (closed : Bytes → Bytes → Option ℕ) × AreClosed (λ name. mirrored seen.devices name) s closed × (c.in_ok-shown.shown ≡ show_lines seen.labels seen.names s closed) =
+    subst (λ (ns : List Bytes). (closed : Bytes → Bytes → Option ℕ) × AreClosed (λ name. mirrored seen.devices name) s closed × (c.in_ok-shown.shown ≡ show_lines seen.labels ns s closed))
+    c.as_slice-names.ensures
     (c.in_ok-shown.ensures s (subst (λ (ns : List Bytes). EndsShow (row_in seen.server) (λ name. mirrored seen.devices name) ns s) (sym c.as_slice-names.ensures) show)) in
-    show_tells c.states_regular.ensures c.versions_held.ensures script secret c.args.known course is_at at.number at.settings c.new.result c.in_ok-shown.shown
+    show_tells c.states_regular.ensures script secret c.args.known course is_at at.number at.settings c.new.result c.in_ok-shown.shown
     c.server_mark-server_mark.result c.new.ensures shown (c.server_mark-server_mark.ensures secret course.world s is_at.stands) c.slots_grow.ensures.same
