@@ -26,6 +26,7 @@ line_bounded (line.Put device fates text) h = tt
 line_bounded (line.Edit device label fates text) h = tt
 line_bounded (line.Delete device label fates) h = tt
 line_bounded (line.Sync device fates) h = tt
+line_bounded (line.Passwd device password fates) h = tt
 line_bounded (line.Late device request) h = tt
 line_bounded line.Show h = tt
 
