@@ -46,8 +46,6 @@ class Link:
         answer = self.replay.server.handle(request, self.replay.clock)
         if self.count in self.lost["reply"]:
             raise Ended("= link")
-        if isinstance(answer, Refusal):
-            raise Ended("= server %d %s" % answer)
         return answer
 
 
@@ -82,7 +80,7 @@ class Replay:
         return "= ok"
 
     def call(self, word, name, *words):
-        device = self.devices.setdefault(name, Device(name, self.report))
+        device = self.devices.setdefault(name, Device(name, self.report, self.server))
         if word in ("register", "signin"):
             link = Link(self, device, fates_and_text(words[2:])[0])
             if word == "register":
@@ -93,6 +91,8 @@ class Replay:
             device.put(fates_and_text(words)[1])
         elif word == "sync":
             device.sync(Link(self, device, fates_and_text(words)[0]))
+        elif word == "passwd":
+            device.passwd(Link(self, device, fates_and_text(words[1:])[0]), words[0], self.cost)
         else:
             uuid = self.report.labelled(int(words[0].removeprefix("#")))
             if uuid is None:
@@ -112,15 +112,20 @@ class Replay:
     def show(self):
         say, label, place = self.report.say, self.report.label, self.report.place
         for identifier in self.server.accounts:
-            say("account %s set 1" % identifier)
+            say("account %s set %d" % (identifier, self.server.keys(identifier).number))
             for version in sorted(self.server.items_of(identifier), key=lambda version: place(version.uuid)):
-                set_of = "" if version.body is DELETED else "set 1 "
+                set_of = "" if version.body is DELETED else "set %d " % version.body.keys.number
                 say("item %s @%d %s%s" % (label(version.uuid), version.stamp, set_of, self.report.shown(version.body)))
         for name, device in self.devices.items():
-            say("device %s %s" % (name, "none" if device.keys is None else device.keys.identifier + " sets 1"))
-            for row in sorted(device.rows, key=lambda row: place(row.uuid)):
+            held = " ".join(str(keys.number) for keys in device.held())
+            say("device %s %s" % (name, "none" if device.keys is None else "%s sets %s" % (device.keys.identifier, held)))
+            rows = sorted(device.rows, key=lambda row: place(row.uuid))
+            for row in rows:
                 if row.now is not None:
                     say("draft %s %s %s" % (name, label(row.uuid), self.report.shown(row.now)))
+            for row in rows:
+                if device.is_closed(row):
+                    say("closed %s %s set %d" % (name, label(row.uuid), row.base.body.keys.number))
 
 
 def report(script):

@@ -41,13 +41,19 @@ def copy_of(text, uuid):
 
 
 class KeySet:
-    """The key set of an account. No two passwords have the same keys here."""
+    """A key set of an account, with the nonce that was drawn for it. No two passwords have the same keys here. The server numbers the
+    sets of an account from 1 as it takes them."""
 
-    def __init__(self, identifier, password, cost):
+    def __init__(self, identifier, password, cost, nonce=None):
         self.identifier, self.password, self.cost = identifier, password, cost
+        self.nonce, self.number = nonce or object(), None
         params = {"identifier": identifier, "pw_cost": cost, "pw_nonce": "0" * 64, "version": "003"}
         spelled = json.dumps(params, separators=(",", ":"), ensure_ascii=False).encode()
         self.params_size = len(base64.b64encode(spelled))
+
+    def derived(self, password):
+        """The keys of a password under these parameters."""
+        return self if password == self.password else KeySet(self.identifier, password, self.cost, self.nonce)
 
     def string_size(self, plain):
         """Bytes of the string that seals so many: version, hash, uuid, vector, ciphertext, params, and five colons."""
@@ -56,22 +62,19 @@ class KeySet:
 
 
 class Sealed:
-    """A content that was sealed. Each sealing has strings of its own, so one is equal to itself alone; `size` is their bytes."""
+    """A content that was sealed under a key set. Each sealing has strings of its own, so one is equal to itself alone; `size` is their
+    bytes."""
 
     def __init__(self, text, keys):
-        self.text = text
+        self.text, self.keys = text, keys
         self.size = keys.string_size(len(text.encode())) + keys.string_size(128)
 
 
 class Deletion:
-    text, size = None, 0
+    text, size, keys = None, 0, None
 
 
 DELETED = Deletion()
-
-
-def same_content(one, other):
-    return one.text == other.text
 
 
 class Report:

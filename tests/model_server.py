@@ -1,5 +1,4 @@
-"""The model's server: what it answers to a request, and what that changes. Only what a script without changes of password
-brings about is there, so each account has one key set, and each session token is good."""
+"""The model's server: what it answers to a request, and what that changes."""
 
 from collections import namedtuple
 
@@ -9,12 +8,14 @@ LAST_STAMP = 253402300799999999
 MOST_BYTES = 4194304
 MOST_ITEMS = 150
 
-# Requests, of a device of the account `identifier`. An item that is sent has the stamp of the version that it stands on, or None.
+# Requests. A session is the number of the key set that it began under. An item that is sent has the stamp of the version that it
+# stands on, or None, and whether it is that version, sealed again.
 Register = namedtuple("Register", "keys")
 Params = namedtuple("Params", "identifier")
-SignIn = namedtuple("SignIn", "identifier password")
-Sync = namedtuple("Sync", "identifier items sync_token cursor")
-Sent = namedtuple("Sent", "uuid stamp body")
+SignIn = namedtuple("SignIn", "keys")
+Change = namedtuple("Change", "identifier session current keys")
+Sync = namedtuple("Sync", "identifier session items sync_token cursor")
+Sent = namedtuple("Sent", "uuid stamp body again")
 
 # Answers. Among the conflicts of a sync are versions, and items whose uuid another account has.
 Refusal = namedtuple("Refusal", "status tag")
@@ -23,39 +24,65 @@ Synced = namedtuple("Synced", "saved conflicts retrieved cursor sync_token")
 Version = namedtuple("Version", "uuid stamp body")
 Foreign = namedtuple("Foreign", "uuid")
 
+BAD_AUTH = Refusal(401, "bad-auth")
+
 
 class Server:
-    """The key set of each account by its identifier; the last version of each item by its uuid, and the account that has it."""
+    """The key sets of each account by its identifier, the last of them its present one; the last version of each item by its uuid,
+    and the account that has it."""
 
     def __init__(self, report):
         self.report, self.last = report, 0
         self.accounts, self.owners, self.versions = {}, {}, {}
 
     def handle(self, request, now):
-        rules = {Register: self.register, Params: self.params, SignIn: self.sign_in, Sync: self.sync}
+        rules = {Register: self.register, Params: self.params, SignIn: self.sign_in, Change: self.change, Sync: self.sync}
         return rules[type(request)](request, now)
+
+    def keys(self, identifier):
+        """The present key set of an account that is there."""
+        return self.accounts[identifier][-1]
+
+    def begin(self, keys):
+        sets = self.accounts.setdefault(keys.identifier, [])
+        sets.append(keys)
+        keys.number = len(sets)
+        return Granted(keys)
 
     def register(self, asked, _now):
         if asked.keys.identifier in self.accounts:
             return Refusal(409, "taken")
-        self.accounts[asked.keys.identifier] = asked.keys
         self.report.say("register %s set 1" % asked.keys.identifier)
-        return Granted(asked.keys)
+        return self.begin(asked.keys)
 
     def params(self, asked, _now):
-        keys = self.accounts.get(asked.identifier)
-        return Refusal(404, "unknown") if keys is None else Granted(keys)
+        return Granted(self.keys(asked.identifier)) if asked.identifier in self.accounts else Refusal(404, "unknown")
 
     def sign_in(self, asked, _now):
-        keys = self.accounts.get(asked.identifier)
-        if keys is None:
+        if asked.keys.identifier not in self.accounts:
             return Refusal(404, "unknown")
-        return Granted(keys) if asked.password == keys.password else Refusal(401, "bad-auth")
+        keys = self.keys(asked.keys.identifier)
+        return Granted(keys) if asked.keys is keys else BAD_AUTH
+
+    def change(self, asked, _now):
+        present = self.keys(asked.identifier)
+        if asked.session != present.number or asked.current is not present:
+            return BAD_AUTH
+        if any(version.body is not DELETED and version.body.keys is not present for version in self.items_of(asked.identifier)):
+            return Refusal(409, "rekey-running")
+        if asked.keys in self.accounts[asked.identifier]:
+            return Refusal(409, "nonce-used")
+        self.report.say("change %s set %d" % (asked.identifier, present.number + 1))
+        return self.begin(asked.keys)
 
     def items_of(self, identifier):
         """The last versions of an account by rising stamp."""
         found = [version for uuid, version in self.versions.items() if self.owners[uuid] == identifier]
         return sorted(found, key=lambda version: version.stamp)
+
+    def stamp_in(self, identifier, uuid):
+        """The stamp of the last version that the account has of an item, or None."""
+        return self.versions[uuid].stamp if self.owners.get(uuid) == identifier else None
 
     def page(self, asked):
         """What is given of the versions that the device hasn't had, and whether some are left."""
@@ -72,6 +99,8 @@ class Server:
         return found[:count], count < len(found)
 
     def sync(self, asked, now):
+        if asked.session != self.keys(asked.identifier).number:
+            return BAD_AUTH
         page, left = self.page(asked)
         taken = self.take(asked, now)
         if taken is None:
@@ -107,7 +136,11 @@ class Server:
                 self.owners[item.uuid] = asked.identifier
                 self.versions[item.uuid] = Version(item.uuid, stamp, item.body)
                 saved.append(self.versions[item.uuid])
-                moves.append("accept %s @%d %s" % (self.report.label(item.uuid), stamp, "deleted" if item.body is DELETED else "set 1"))
+                moves.append(self.move(asked.identifier, item, stamp))
         for move in moves:
             self.report.say(move)
         return saved, conflicts
+
+    def move(self, identifier, item, stamp):
+        under = "deleted" if item.body is DELETED else "set %d" % self.keys(identifier).number
+        return "%s %s @%d %s" % ("rewrap" if item.again else "accept", self.report.label(item.uuid), stamp, under)

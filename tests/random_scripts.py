@@ -1,4 +1,4 @@
-"""Random scripts of several devices, in which conflicts, losses and repeats are common."""
+"""Random scripts of several devices, in which conflicts, losses, repeats and changes of password are common."""
 
 import model
 
@@ -8,6 +8,7 @@ NO_CONTENTS = ["", "[]", "{} x", "null", "{", '"t"', "drop-request=01 {}", '{"a"
 FATES = ["drop-request", "drop-request=2", "drop-reply", "drop-reply", "drop-reply=2", "drop-reply=0 drop-reply=18446744073709551616"]
 FATES += ["drop-reply=2 drop-request=3", "drop-reply drop-request", "drop-request=2 drop-request drop-reply=2"]
 PASSWORDS = {"alice": "p1", "bob": "ü" * 60, "nobody": "p"}
+CHANGE_FATES = ["drop-request=2", "drop-reply=2", "drop-reply=2", "drop-request=3", "drop-reply=3", "drop-reply=4", "drop-request=4"]
 
 
 class Writer:
@@ -17,6 +18,8 @@ class Writer:
         self.draw, self.lines = draw, []
         self.replay = model.Replay()
         self.account = {}
+        # How often a line changes a password: in a third of the scripts never.
+        self.changes = draw.choice([0, 0.05, 0.1])
 
     def add(self, *words):
         """False where the line isn't allowed; then the script needs no more of them."""
@@ -69,7 +72,7 @@ class Writer:
             word = "signin" if identifier in self.account.values() else "register"
             self.account[name] = identifier
             if not self.chance(0.05):
-                self.add(word, name, identifier, PASSWORDS[identifier], *self.fates(0.1))
+                self.add(word, name, identifier, self.password(identifier), *self.fates(0.1))
         if self.chance(0.015):
             # More than a page and a request.
             for number in range(draw.randrange(145, 165)):
@@ -78,8 +81,20 @@ class Writer:
     def enter(self, name):
         word = self.draw.choice(["register", "signin", "signin", "signin"])
         identifier = self.account[name] if self.chance(0.8) else self.draw.choice(list(PASSWORDS))
-        password = PASSWORDS[identifier] if self.chance(0.8) else "wrong"
+        password = self.password(identifier) if self.chance(0.8) else self.draw.choice(["wrong", PASSWORDS[identifier]])
         return self.add(word, name, identifier, password, *self.fates(0.2))
+
+    def password(self, identifier):
+        """The one that the account has now, or will begin with."""
+        accounts = self.replay.server.accounts
+        return accounts[identifier][-1].password if identifier in accounts else PASSWORDS[identifier]
+
+    def change(self, name):
+        """A change of password, of which something is lost every other time; often the device, or another, goes on with it."""
+        fates = [self.draw.choice(CHANGE_FATES)] if self.chance(0.5) else []
+        if not self.add("passwd", name, self.draw.choice(["p2", "p3", "p4", self.password(self.account[name])]), *fates):
+            return False
+        return self.chance(0.5) or self.add("sync", name, *([self.draw.choice(CHANGE_FATES)] if self.chance(0.3) else []))
 
     def edit(self, name):
         if not self.rows(name) or self.chance(0.3 / len(self.rows(name))):
@@ -110,6 +125,11 @@ class Writer:
         device = self.replay.devices.get(name)
         if (device is None or device.keys is None) and self.chance(0.5):
             return self.enter(name)
+        if self.chance(self.changes):
+            return self.change(name)
+        if device is not None and device.keys not in (None, *self.replay.server.accounts.get(self.account[name], [None])[-1:]) and self.chance(0.5):
+            # Another device has changed the password.
+            return self.add("signin", name, self.account[name], self.password(self.account[name]), *self.fates(0.2))
         kind = self.draw.random()
         if kind < 0.3:
             return self.edit(name)
@@ -135,6 +155,8 @@ def script(draw):
         if not writer.event(draw.choice(names), draw.choice(names)):
             return "\n".join([*writer.lines, "show"])
     for name in names + names:
+        if writer.chance(0.3):
+            writer.add("signin", name, writer.account[name], writer.password(writer.account[name]))
         writer.add("sync", name)
     writer.add("show")
     return "".join(line + "\n" for line in writer.lines)

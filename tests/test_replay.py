@@ -59,7 +59,7 @@ class Replays(unittest.TestCase):
 class Examples(Replays):
     def test_each_has_its_report(self):
         scripts = sorted(glob.glob(os.path.join(EXAMPLES, "*.script")))
-        self.assertEqual(len(scripts), 6)
+        self.assertEqual(len(scripts), 9)
         for path in scripts:
             with open(path) as script, open(path[: -len("script")] + "report") as report:
                 wanted = report.read()
@@ -150,7 +150,8 @@ class Refused(Replays):
         self.refuses(text(BEGUN + ["put A drop-request"]), 4)
         self.refuses(text(BEGUN + ["put A {}", "sync A stop-device=1:old"]), 5)
         self.refuses(text(BEGUN + ["late A 1 drop-reply"]), 4)
-        self.refuses(text(BEGUN + ["passwd A p2"]), 4)
+        self.refuses(text(BEGUN + ["passwd A p2 stop-device=1:old"]), 4)
+        self.refuses(text(BEGUN + ["passwd A " + "p" * 255]), 4)
         self.refuses("cost 0\n", 1)
         self.refuses("show\nseed %064x\n" % 1, 2)
 
@@ -333,10 +334,59 @@ class Bounds(Replays):
         self.lines_report(lines, last)
 
 
+class Passwords(Replays):
+    CHANGED = ["change alice set 2", "join A alice set 2", "rewrap #1 @1001 set 2", "retire A set 1", "= ok"]
+
+    def test_one_device(self):
+        lines = BEGUN + ["put A {}", "sync A", "passwd A p2", "late A 4", "show"]
+        shown = ["account alice set 2", "item #1 @1001 set 2 {}", "device A alice sets 2", "= ok"]
+        self.lines_report(lines, {6: self.CHANGED, 7: ["= answer 401"], 8: shown})
+
+    def test_a_lost_change(self):
+        lines = BEGUN + ["put A {}", "sync A", "passwd A p2 drop-request=2", "sync A"]
+        self.lines_report(lines, {6: ["= link"], 7: self.CHANGED})
+
+    def test_a_lost_change_that_comes_late(self):
+        lines = BEGUN + ["put A {}", "sync A", "passwd A p2 drop-request=2", "late A 4", "sync A", "signin B alice p1", "signin B alice p2"]
+        last = {7: ["change alice set 2", "= answer 200"], 8: self.CHANGED[1:]}
+        self.lines_report(lines, last | {9: ["= server 401 bad-auth"], 10: ["join B alice set 2", "= ok"]})
+
+    def test_more_than_one_request(self):
+        lines = BEGUN + ["put A {}"] * 151 + ["sync A", "passwd A p2 drop-reply=2", "sync A drop-request=4", "show", "sync A"]
+        rewraps = ["rewrap #%d @%d set 2" % (n, 1150 + n) for n in range(1, 152)]
+        last = {156: ["change alice set 2", "= link"], 157: ["join A alice set 2", *rewraps[:150], "= link"]}
+        report = of_line(158, model.report(text(lines)))
+        self.assertEqual(report[151:], ["item #151 @1150 set 1 {}", "device A alice sets 1 2", "= ok"])
+        self.lines_report(lines, last | {159: [rewraps[150], "retire A set 1", "= ok"]})
+
+    def test_two_devices_through_two_changes(self):
+        lines = BEGUN + ['put A {"n":1}', "sync A", "signin B alice p1", "sync B", 'edit B #1 {"n":2}', "passwd A p2", 'put A {"n":5}', "sync A"]
+        lines += ["passwd A p3 drop-reply=2", "signin B alice p3", "sync B", "show", "sync A", "sync B"]
+        items = ['item #1 @1001 set 2 {"n":1}', 'item #2 @1002 set 2 {"n":5}', 'item #3 @1003 set 3 {"n":2,"conflict_of":"#1"}']
+        last = {
+            9: self.CHANGED,
+            11: ["post A #2", "accept #2 @1002 set 2", "settle A #2", "= ok"],
+            12: ["change alice set 3", "= link"],
+            13: ["join B alice set 3", "= ok"],
+            14: ["post B #1", "fork B #1 #3", "retire B set 1", "post B #3", "accept #3 @1003 set 3", "settle B #3", "= ok"],
+            15: ["account alice set 3", *items, "device A alice sets 2", "device B alice sets 3", "closed B #1 set 2", "closed B #2 set 2", "= ok"],
+            16: ["join A alice set 3", "rewrap #1 @1004 set 3", "rewrap #2 @1005 set 3", "retire A set 2", "= ok"],
+            17: ["= ok"],
+        }
+        self.lines_report(lines, last)
+
+    def test_a_device_that_signs_in_meanwhile(self):
+        lines = BEGUN + ["put A {}", "sync A", "passwd A p2 drop-reply=2", "signin B alice p2", "passwd B p3", "edit B #1 {}", "signin B alice wrong"]
+        last = {8: ["= refused rekey.1 ChangeRunning #1"], 9: ["= refused client.3 Closed set 1"], 10: ["= refused client.11 WrongPassword"]}
+        self.lines_report(lines, last)
+        self.lines_report(BEGUN + ["signin B alice wrong"], {4: ["= server 401 bad-auth"]})
+
+
 class Random(Replays):
     SCRIPTS = 2000
     # Lines that the reports of all scripts have at least so often.
     WORDS = {"fork": 1000, "giveway": 300, "drop": 300, "settle": 10000, "accept": 10000}
+    WORDS |= {"change": 2000, "rewrap": 5000, "retire": 2000, "unpost": 200, "closed": 10}
     LASTS = {"= link": 3000, "= answer 200": 5000, "= server 409 stamps-used": 50, "= server 401 bad-auth": 50, "= refused client.2": 500}
 
     @staticmethod
