@@ -25,7 +25,7 @@ use Rattle.sn_sync.specs.declared.answer.Answer.{Answer}
 use Rattle.sn_world.specs.Calls.{Fate, served}
 use Rattle.sn_world.specs.Sessions.{LeadsLine, again, calls}
 use Rattle.sn_world.specs.World.{Made, World}
-use Rattle.sn_course.specs.Courses.{Course, Reported, nth_made}
+use Rattle.sn_course.specs.Stages.{Stage, Reported, nth_made}
 use Rattle.sn_course.specs.Lines.{call_of, device_of, fates_of, losses_of}
 use Rattle.sn_course.specs.Settings.{words_of}
 
@@ -74,7 +74,7 @@ EndsWell (content uuid) name before rows s l = Unit {0}
 -- ---- what both ends did
 
 -- The device made this call, from the line's words, at the line's moment, and lost what the line says: a line of the world. The event has its moves.
-pub record Called (secret : Bytes) (c : Course) (r : Reported) (name : Bytes) (call : Call) (e : Event) (next : World) : Type 0 where
+pub record Called (secret : Bytes) (c : Stage) (r : Reported) (name : Bytes) (call : Call) (e : Event) (next : World) : Type 0 where
   pub acts : List Act
   pub fates : List Fate
   pub halt : Halt
@@ -88,7 +88,7 @@ pub record Called (secret : Bytes) (c : Course) (r : Reported) (name : Bytes) (c
   pub well : EndsWell call name (end c.moves) (next.devices name) (end (c.moves ++ e.moves)) e.last
 
 -- The request that is meant was served once more, at the line's moment, and nobody heard the answer: a line of the world.
-pub record CameAgain (secret : Bytes) (c : Course) (r : Reported) (device : Bytes) (which : Ordinal) (e : Event) (next : World) : Type 0 where
+pub record CameAgain (secret : Bytes) (c : Stage) (r : Reported) (device : Bytes) (which : Ordinal) (e : Event) (next : World) : Type 0 where
   pub m : Made
   pub meant : nth_made device c.world.made which ≡ Some m
   pub changes : List Change
@@ -101,18 +101,18 @@ pub record CameAgain (secret : Bytes) (c : Course) (r : Reported) (device : Byte
   pub ended : e.last ≡ last.Answer (status_of given)
 
 -- both ends stay as they are
-pub record IsShown (c : Course) (e : Event) (next : World) : Type 0 where
+pub record IsShown (c : Stage) (e : Event) (next : World) : Type 0 where
   pub next_is : next ≡ c.world
   pub moves_are : e.moves ≡ []
   pub ended : e.last ≡ last.Done
 
-abbrev pub CallsOf : Bytes → Course → Reported → Option Bytes → Option Call → Event → World → Type 0
+abbrev pub CallsOf : Bytes → Stage → Reported → Option Bytes → Option Call → Event → World → Type 0
 CallsOf secret c r (Some name) (Some call) e next = Called secret c r name call e next
 CallsOf secret c r (Some name) None e next = ⊥
 CallsOf secret c r None call e next = ⊥
 
 -- by the line
-abbrev pub HappensAs : Line → Bytes → Course → Reported → Event → World → Type 0
+abbrev pub HappensAs : Line → Bytes → Stage → Reported → Event → World → Type 0
 HappensAs (line.Late device which) secret c r e next = CameAgain secret c r device which e next
 HappensAs line.Show secret c r e next = IsShown c e next
 HappensAs other secret c r e next = CallsOf secret c r (device_of other) (call_of c.labels r.settings other) e next
@@ -126,13 +126,13 @@ puts_item other = false
 
 -- What `show` prints: a function of the state, of the labels, of the devices that have begun, and of which of their rows are closed, as these rows have it.
 -- No other line shows anything.
-abbrev pub ShowsAs : Line → Course → List Bytes → Type 0
+abbrev pub ShowsAs : Line → Stage → List Bytes → Type 0
 ShowsAs line.Show c lines = (closed : Bytes → Bytes → Option ℕ) × AreClosed c.world.devices (end c.moves) closed
     × (lines ≡ show_lines c.labels c.names (end c.moves) closed)
 ShowsAs other c lines = lines ≡ []
 
 -- the event is the line's
-pub record Fits (secret : Bytes) (c : Course) (r : Reported) (e : Event) (next : World) : Type 0 where
+pub record Fits (secret : Bytes) (c : Stage) (r : Reported) (e : Event) (next : World) : Type 0 where
   pub number : e.number ≡ r.number
   pub puts : e.puts ≡ puts_item r.asks
   pub happens : HappensAs r.asks secret c r e next

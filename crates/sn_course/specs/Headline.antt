@@ -39,7 +39,7 @@ use Rattle.sn_tail.specs.Shelves.{SlotReads}
 use Rattle.sn_world.specs.Holds.{TokensDiffer}
 use Rattle.sn_world.specs.Sessions.{LeadsLine, opens}
 use Rattle.sn_world.specs.World.{World, at_first}
-use Rattle.sn_course.specs.Courses.{Course, Reported, nth_made, past, reporting, start}
+use Rattle.sn_course.specs.Stages.{Stage, Reported, nth_made, past, reporting, start}
 use Rattle.sn_course.specs.Fits.{Fits}
 use Rattle.sn_course.specs.Lines.{labelled_item, password_of}
 use Rattle.sn_course.specs.Settings.{AreFirst, words_of}
@@ -56,9 +56,9 @@ pub record Slots : Type 0 where
 abbrev pub shelf_slots : MemShelf → Slots
 shelf_slots shelf = record { server = shelf_slot shelf (codes "server"); devices = λ name. shelf_slot shelf (codes "device-" ++ name) }
 
--- Where a course stands, the disks stood for batches that leave the rows of both ends, as they read and as any crash at that moment might have left them; and
+-- At a stage the disks stood for batches that leave the rows of both ends, as they read and as any crash at that moment might have left them; and
 -- these rows show the state that the moves so far give.
-pub record Recovers (slots : Slots) (c : Course) : Type 0 where
+pub record Recovers (slots : Slots) (c : Stage) : Type 0 where
   pub server : SlotReads slots.server ServerOwner c.server_mark c.world.server
   pub devices : (name : Bytes) → SlotReads (slots.devices name) DeviceOwner (c.marks name) (c.world.devices name)
   pub shows : Shows c.world.server c.world.devices (end c.moves)
@@ -67,15 +67,15 @@ pub record Recovers (slots : Slots) (c : Course) : Type 0 where
 
 -- ---- the events
 
--- each line that reports has its event, in order; and so the course goes on
-abbrev pub Goes : Bytes → Course → List Reported → List Event → Course → Type 0
+-- each line that reports has its event, in order; and so the stages follow
+abbrev pub Goes : Bytes → Stage → List Reported → List Event → Stage → Type 0
 Goes secret c [] [] last = last ≡ c
 Goes secret c [] (e ∷ es) last = ⊥
 Goes secret c (r ∷ rs) [] last = ⊥
 Goes secret c (r ∷ rs) (e ∷ es) last = (next : World) × Fits secret c r e next × Goes secret (past c r.asks e next) rs es last
 
 -- and behind each of them the disks recover
-abbrev pub Recounts : Slots → Bytes → Course → List Reported → List Event → Course → Type 0
+abbrev pub Recounts : Slots → Bytes → Stage → List Reported → List Event → Stage → Type 0
 Recounts slots secret c [] [] last = last ≡ c
 Recounts slots secret c [] (e ∷ es) last = ⊥
 Recounts slots secret c (r ∷ rs) [] last = ⊥
@@ -145,7 +145,7 @@ pub record MovesCarry (moves : List Move) : Type 0 where
   pub nonces : Each NoncesApart (end moves).accounts
 
 -- the record of each disk has no call behind the last event
-pub record IsAccounted (slots : Slots) (c : Course) : Type 0 where
+pub record IsAccounted (slots : Slots) (c : Stage) : Type 0 where
   pub server : c.server_mark ≡ slot_mark slots.server
   pub devices : (name : Bytes) → c.marks name ≡ slot_mark (slots.devices name)
 
@@ -153,7 +153,7 @@ pub record IsAccounted (slots : Slots) (c : Course) : Type 0 where
 pub record Carried (script : Script) (slots : Slots) (secret : Bytes) (first : Settings) (events : List Event) : Type 0 where
   pub opened : World
   pub opens : OpensWith (reporting 1 first script.lines) secret opened
-  pub last : Course
+  pub last : Stage
   -- each line that reports has its event, which fits it, and behind which the disks recover the state that the moves so far give
   pub recounts : Recounts slots secret (start opened) (reporting 1 first script.lines) events last
   -- the whole record is accounted for, where there is an event
@@ -176,7 +176,7 @@ pub record Carries (script : Script) (slots : Slots) (report : Report) : Type 0 
 -- ---- a script that isn't allowed
 
 -- a line may come where the item that it names has a label, and the request that it names was made
-abbrev pub MayStand : Course → Line → Type 0
+abbrev pub MayStand : Stage → Line → Type 0
 MayStand c (line.Edit device label fates text) = labelled_item c.labels label ≢ None
 MayStand c (line.Delete device label fates) = labelled_item c.labels label ≢ None
 MayStand c (line.Late device which) = nth_made device c.world.made which ≢ None
@@ -190,4 +190,4 @@ pub record IsNotAllowed (script : Script) (number : ℕ) : Type 0 where
   pub secret_is : SecretOf (reporting 1 first script.lines) secret
   pub refused : TokensDiffer secret → PasswordsApart script → (opened : World) × OpensWith (reporting 1 first script.lines) secret opened
       × ((before : List Reported) × (r : Reported) × (later : List Reported) × (reporting 1 first script.lines ≡ before ++ r ∷ later) × (r.number ≡ number)
-      × ((events : List Event) × (last : Course) × Goes secret (start opened) before events last × ¬ (MayStand last r.asks)))
+      × ((events : List Event) × (last : Stage) × Goes secret (start opened) before events last × ¬ (MayStand last r.asks)))

@@ -7,7 +7,7 @@ use Rattle.sn_report.specs.declared.report.Event.{Event}
 use Rattle.sn_script.specs.declared.script.Line.{Line}
 use Rattle.sn_tail.specs.Shelves.{SlotGrows}
 use Rattle.sn_world.specs.World.{World}
-use Rattle.sn_course.specs.Courses.{Course, Reported, past, reported, reporting}
+use Rattle.sn_course.specs.Stages.{Stage, Reported, past, reported, reporting}
 use Rattle.sn_course.specs.Fits.{Fits}
 use Rattle.sn_course.specs.Headline.{Goes, MovesCarry, Recounts, Recovers, Slots, moves_in}
 use Rattle.sn_course.specs.Settings.{settings_after}
@@ -20,23 +20,23 @@ pub record Grow (old new : Slots) : Type 0 where
 
 -- what was recounted stays so as the records grow
 abbrev pub RecountsGrow : Type 0
-RecountsGrow = (old new : Slots) (secret : Bytes) (c last : Course) (rs : List Reported) (es : List Event)
+RecountsGrow = (old new : Slots) (secret : Bytes) (c last : Stage) (rs : List Reported) (es : List Event)
     → Grow old new → Recounts old secret c rs es last → Recounts new secret c rs es last
 
 -- and one more event goes on where the earlier ones led
 abbrev pub RecountsMore : Type 0
-RecountsMore = (slots : Slots) (secret : Bytes) (c last : Course) (rs : List Reported) (es : List Event) (r : Reported) (e : Event) (next : World)
+RecountsMore = (slots : Slots) (secret : Bytes) (c last : Stage) (rs : List Reported) (es : List Event) (r : Reported) (e : Event) (next : World)
     → Recounts slots secret c rs es last → Fits secret last r e next → Recovers slots (past last r.asks e next)
     → Recounts slots secret c (rs ++ r ∷ []) (es ++ e ∷ []) (past last r.asks e next)
 
 -- what is recounted goes on so, whatever the disks hold
 abbrev pub RecountsGo : Type 0
-RecountsGo = (slots : Slots) (secret : Bytes) (c last : Course) (rs : List Reported) (es : List Event)
+RecountsGo = (slots : Slots) (secret : Bytes) (c last : Stage) (rs : List Reported) (es : List Event)
     → Recounts slots secret c rs es last → Goes secret c rs es last
 
 -- and so with one more event
 abbrev pub GoesMore : Type 0
-GoesMore = (secret : Bytes) (c last : Course) (rs : List Reported) (es : List Event) (r : Reported) (e : Event) (next : World)
+GoesMore = (secret : Bytes) (c last : Stage) (rs : List Reported) (es : List Event) (r : Reported) (e : Event) (next : World)
     → Goes secret c rs es last → Fits secret last r e next → Goes secret c (rs ++ r ∷ []) (es ++ e ∷ []) (past last r.asks e next)
 
 -- the settings behind lines

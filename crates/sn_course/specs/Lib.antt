@@ -1,4 +1,4 @@
-pub mod Courses
+pub mod Stages
 pub mod Fits
 pub mod Headline
 pub mod Laws

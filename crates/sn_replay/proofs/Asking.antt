@@ -4,7 +4,7 @@ use Rattle.std.specs.Option.{option_map}
 use Rattle.hex.specs.Hex.{encode_lower}
 use Rattle.rand_chacha.specs.ChaCha.{ChaCha}
 use Rattle.sn_client.specs.Runs.{IsNewSet, delete, edit, passwd, put, register, sign_in, sync}
-use Rattle.sn_course.specs.Courses.{Course, Reported}
+use Rattle.sn_course.specs.Stages.{Stage, Reported}
 use Rattle.sn_course.specs.Fits.{CallsOf}
 use Rattle.sn_course.specs.Headline.{IsPasswordOf}
 use Rattle.sn_course.specs.Lines.{labelled_item, note_kind}
@@ -48,7 +48,7 @@ one_new words left rest identifier password cost x y h k =
 
 -- ---- the lines
 
-module _ (script : Script) (secret : Bytes) (c : Course) (number : ℕ) (settings : Settings) (device : Bytes) where
+module _ (script : Script) (secret : Bytes) (c : Stage) (number : ℕ) (settings : Settings) (device : Bytes) where
   abbrev reported_so : Line → Reported
   reported_so l = record { number = number; settings = settings; asks = l }
 
@@ -70,10 +70,10 @@ module _ (script : Script) (secret : Bytes) (c : Course) (number : ℕ) (setting
     well = λ acts lost halt comes x one l ended. tt;
   }
 
-  pub sign_in_of : (identifier password : Bytes) (fates : List Fate) (known : Bytes) → identifier ≡ known → IsIdentifier identifier → IsUtf8 identifier
+  pub sign_in_of : (identifier password : Bytes) (fates : List Fate) (replaying : Bytes) → identifier ≡ replaying → IsIdentifier identifier → IsUtf8 identifier
       → IsPasswordOf script password
-      → IsLineOf script secret c (reported_so (line.SignIn device identifier password fates)) device (sign_in identifier password) (calling.SignIn known)
-  sign_in_of identifier password fates known is long utf8 of = record {
+      → IsLineOf script secret c (reported_so (line.SignIn device identifier password fates)) device (sign_in identifier password) (calling.SignIn replaying)
+  sign_in_of identifier password fates replaying is long utf8 of = record {
     named = refl;
     happens = λ e next h. h;
     shows = refl;
@@ -154,7 +154,7 @@ module _ (script : Script) (secret : Bytes) (c : Course) (number : ℕ) (setting
   }
 
 -- a label that names nothing may not be named
-pub not_labelled : (labels known : List Bytes) (label : Ordinal) (found : Option Bytes) → known ≡ labels → found ≡ labelled_item known label → found ≡ None
+pub not_labelled : (labels replaying : List Bytes) (label : Ordinal) (found : Option Bytes) → replaying ≡ labels → found ≡ labelled_item replaying label → found ≡ None
     → ¬ (labelled_item labels label ≢ None)
-not_labelled labels known label found same is none some =
+not_labelled labels replaying label found same is none some =
     some (sym (ap (λ (ls : List Bytes). labelled_item ls label) same) ∙ sym is ∙ none)

@@ -2,7 +2,7 @@
 use Rattle.std.proofs.Common.{◌≡◌, ℕ, zero, suc, List, [], ◌∷◌, Option, None, true, refl, sym, ap, ◌∙◌, subst}
 use Rattle.std.specs.List.{AllZip}
 use Rattle.rand_chacha.specs.ChaCha.{ChaCha}
-use Rattle.sn_course.specs.Courses.{made_by, start}
+use Rattle.sn_course.specs.Stages.{made_by, start}
 use Rattle.sn_client.specs.Laws.{StepsStaySound}
 use Rattle.sn_course.specs.Headline.{IsPasswordOf, Opens}
 use Rattle.sn_disk.specs.Shelf.{Slot, unknown}
@@ -35,8 +35,8 @@ use Rattle.sn_replay.specs.Keeping.{IsKeptOf, requests_of}
 use Rattle.sn_replay.specs.Mirrored.{mirrored}
 use Rattle.sn_replay.specs.Playing.{Begins, BeginsAt, IsAt}
 use Rattle.sn_replay.specs.declared.kept.Kept.{Kept}
-use Rattle.sn_replay.specs.declared.known.Known.{Known}
-use Rattle.sn_replay.specs.declared.known.Seen.{Seen}
+use Rattle.sn_replay.specs.declared.replaying.Replaying.{Replaying}
+use Rattle.sn_replay.specs.declared.replaying.Seen.{Seen}
 
 -- there is no account
 none_held : AreHeld empty
@@ -56,8 +56,8 @@ module _ (first : HoldsFirst) (fitting : AllFitFirst) (fit : EachFits) (stay : S
   drew_words : (x.secret, left) ≡ drawn 32 words
   drew_words = x.drew ∙ ap (drawn 32) same
 
-  abbrev known : Known
-  known = record { ends = begun.ends; seen = seen }
+  abbrev replaying : Replaying
+  replaying = record { ends = begun.ends; seen = seen }
 
   server_now : row_in seen.server ≡ opened.server
   server_now =
@@ -66,7 +66,7 @@ module _ (first : HoldsFirst) (fitting : AllFitFirst) (fit : EachFits) (stay : S
   device_none : (name : Bytes) → opened.devices name ≡ no_rows
   device_none name = x.leads.devices_are name
 
-  at_start : (script : Script) → TokensDiffer x.secret → IsAt script x.secret known (start opened)
+  at_start : (script : Script) → TokensDiffer x.secret → IsAt script x.secret replaying (start opened)
   at_start script differ = record {
     legal = tt;
     stands = subst (λ (ms : List Move). Stands begun.ends x.secret opened (end_from empty ms)) x.no_moves x.stands;
@@ -88,7 +88,7 @@ module _ (first : HoldsFirst) (fitting : AllFitFirst) (fit : EachFits) (stay : S
         (subst (λ (r : Rows). SlotReads unknown DeviceOwner 0 r) (sym (device_none name)) nothing_read);
   }
 
-  pub begins_with : Begins words known
+  pub begins_with : Begins words replaying
   begins_with = record {
     secret = x.secret;
     left = left;

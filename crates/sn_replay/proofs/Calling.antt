@@ -2,7 +2,7 @@
 use Rattle.std.proofs.Common.{◌≡◌, List, [], ◌∷◌, subst}
 use Rattle.rand_chacha.specs.ChaCha.{ChaCha}
 use Rattle.sn_client.specs.Runs.{Act, Call, asked, commits as committed}
-use Rattle.sn_course.specs.Courses.{Course}
+use Rattle.sn_course.specs.Stages.{Stage}
 use Rattle.sn_course.specs.Headline.{IsPasswordOf, PasswordsApart}
 use Rattle.sn_events.specs.Calling.{host}
 use Rattle.sn_events.specs.Events.{AreReadableBy, AsksReadable}
@@ -23,7 +23,7 @@ use Rattle.sn_world.specs.World.{World}
 use Rattle.sn_replay.specs.Coming.{HasCame}
 use Rattle.sn_replay.specs.Playing.{IsAt}
 use Rattle.sn_replay.specs.declared.came.Came.{Came}
-use Rattle.sn_replay.specs.declared.known.Known.{Known}
+use Rattle.sn_replay.specs.declared.replaying.Replaying.{Replaying}
 use Rattle.sn_replay.proofs.Hosts.{host_named}
 
 pub has_along : (secret : Bytes) (w : World) (s : Ideal) (call : Call) (old : Ends) (came : Came) (one other : Bytes) (words same : ChaCha) (setting set : Setting)
@@ -40,14 +40,14 @@ readable_so at server (committed what changes ∷ acts) h = readable_so at serve
 readable_so at server (asked r reply ∷ acts) h = (h.0, λ fate answered. readable_so at (rows_behind server fate) acts (h.1 fate answered))
 
 -- whatever the call does, a server reads its requests
-pub readable_of : RunsReadable → (script : Script) (secret : Bytes) (known : Known) (c : Course) (name : Bytes) (call : Call) → IsAt script secret known c
+pub readable_of : RunsReadable → (script : Script) (secret : Bytes) (replaying : Replaying) (c : Stage) (name : Bytes) (call : Call) → IsAt script secret replaying c
     → FitsCall call → AsksReadable call (c.world.devices name)
-readable_of readable script secret known c name call at fits =
+readable_of readable script secret replaying c name call at fits =
     λ words acts halt run server.
     readable_so host server acts
     (readable host secret c.world (end c.moves) name 1 call words acts halt server host_named at.stands.holds (at.fits.devices name) fits run)
 
 -- no second password of the script has the check value of a set's, so the call may be made
-pub may_call : (script : Script) (secret : Bytes) (known : Known) (c : Course) (name : Bytes) (call : Call) → PasswordsApart script → IsAt script secret known c
+pub may_call : (script : Script) (secret : Bytes) (replaying : Replaying) (c : Stage) (name : Bytes) (call : Call) → PasswordsApart script → IsAt script secret replaying c
     → GivesOf (IsPasswordOf script) call → MayCall (end c.moves) (c.world.devices name) call
-may_call script secret known c name call apart at gives = apart_may_call (IsPasswordOf script) c.world (end c.moves) name call apart at.holds_of gives
+may_call script secret replaying c name call apart at gives = apart_may_call (IsPasswordOf script) c.world (end c.moves) name call apart at.holds_of gives

@@ -4,7 +4,7 @@ use Rattle.std.specs.Prelude.{if◌then◌else◌, filter, reverse, slice_get}
 use Rattle.std.specs.List.{AllZip}
 use Rattle.std.specs.Str.{bytes_eq}
 use Rattle.std.proofs.lemmas.List.{reverse-append}
-use Rattle.sn_course.specs.Courses.{Course, Reported, made_by, nth_made, past}
+use Rattle.sn_course.specs.Stages.{Stage, Reported, made_by, nth_made, past}
 use Rattle.sn_client.specs.Laws.{StepsStaySound}
 use Rattle.sn_course.specs.Fits.{CameAgain, Fits}
 use Rattle.sn_course.specs.Headline.{IsPasswordOf}
@@ -50,9 +50,9 @@ use Rattle.sn_replay.specs.Keeping.{IsKeptOf, nth_of, requests_of}
 use Rattle.sn_replay.specs.Mirrored.{mirrored}
 use Rattle.sn_replay.specs.Playing.{IsAt, Tells}
 use Rattle.sn_replay.specs.declared.kept.Kept.{Kept}
-use Rattle.sn_replay.specs.declared.known.Known.{Known}
-use Rattle.sn_replay.specs.declared.known.Seen.{Seen}
-use Rattle.sn_replay.specs.declared.known.LineTold.{LineTold}
+use Rattle.sn_replay.specs.declared.replaying.Replaying.{Replaying}
+use Rattle.sn_replay.specs.declared.replaying.Seen.{Seen}
+use Rattle.sn_replay.specs.declared.replaying.LineTold.{LineTold}
 use Rattle.sn_replay.proofs.Holding.{held_along}
 use Rattle.sn_replay.proofs.Lists.{one_at, zip_none, zip_there}
 use Rattle.sn_replay.proofs.Telling.{legal_append}
@@ -125,15 +125,15 @@ rows_gained server [] = refl
 rows_gained server (change ∷ changes) = refl
 
 module _ (tell : AgainsTell) (fit : EachFits) (keeps : Keeps) (stays : KeepsHeld) (stay : StepsStaySound) (script : Script) (secret : Bytes)
-    (differ : TokensDiffer secret) (c : Course) (number : ℕ) (settings : Settings) (device : Bytes) (which : Ordinal) (known : Known)
-    (at : IsAt script secret known c) (kept : Kept) (meant : Meant device c.world.made which kept)
-    (gave : Again) (x : AgainCame secret c.world (end c.moves) meant.m settings.clock known.ends gave) (moves : List Move)
+    (differ : TokensDiffer secret) (c : Stage) (number : ℕ) (settings : Settings) (device : Bytes) (which : Ordinal) (replaying : Replaying)
+    (at : IsAt script secret replaying c) (kept : Kept) (meant : Meant device c.world.made which kept)
+    (gave : Again) (x : AgainCame secret c.world (end c.moves) meant.m settings.clock replaying.ends gave) (moves : List Move)
     (behind : Seen) (shown : List Bytes) (mark : ℕ)
     (told : (found : Option Request) × IsReadAs kept.request found
-    × SaysGained (row_in known.seen.server) (mirrored known.seen.devices device) device kept.begins found gave.batches moves)
-    (server_see : row_in behind.server ≡ rows_behind_all (row_in known.seen.server) gave.batches)
-    (labels_see : behind.labels ≡ labels_of false known.seen.labels moves) (names_see : behind.names ≡ known.seen.names)
-    (devices_see : (name : Bytes) → mirrored behind.devices name ≡ mirrored known.seen.devices name) (requests_see : behind.requests ≡ known.seen.requests)
+    × SaysGained (row_in replaying.seen.server) (mirrored replaying.seen.devices device) device kept.begins found gave.batches moves)
+    (server_see : row_in behind.server ≡ rows_behind_all (row_in replaying.seen.server) gave.batches)
+    (labels_see : behind.labels ≡ labels_of false replaying.seen.labels moves) (names_see : behind.names ≡ replaying.seen.names)
+    (devices_see : (name : Bytes) → mirrored behind.devices name ≡ mirrored replaying.seen.devices name) (requests_see : behind.requests ≡ replaying.seen.requests)
     (none_shown : shown ≡ [])
     (marked : (mark ≡ slot_mark (server_slot gave.ends)) × SlotReads (server_slot gave.ends) ServerOwner mark x.leads.next.server) where
   abbrev m : Made
@@ -157,16 +157,16 @@ module _ (tell : AgainsTell) (fit : EachFits) (keeps : Keeps) (stays : KeepsHeld
   abbrev e : Event
   e = record { number = number; puts = false; moves = moves; shown = shown; last = last.Answer gave.status; server_mark = mark; device_mark = None }
 
-  abbrev now : Course
+  abbrev now : Stage
   now = past c r.asks e next
 
   -- what was gained, over the world's rows
   gained_here : SaysGained w.server (w.devices m.device) m.device kept.begins told.0 (batch_of x.changes) moves
   gained_here =
       subst (λ (rows : Rows). SaysGained rows (w.devices m.device) m.device kept.begins told.0 (batch_of x.changes) moves) at.server_is
-      (subst (λ (batches : List (List Change)). SaysGained (row_in known.seen.server) (w.devices m.device) m.device kept.begins told.0 batches moves) x.gained
-      (subst (λ (n : Bytes). SaysGained (row_in known.seen.server) (w.devices n) n kept.begins told.0 gave.batches moves) (sym meant.device_is)
-      (subst (λ (rows : Rows). SaysGained (row_in known.seen.server) rows device kept.begins told.0 gave.batches moves) (at.devices_are device) told.2)))
+      (subst (λ (batches : List (List Change)). SaysGained (row_in replaying.seen.server) (w.devices m.device) m.device kept.begins told.0 batches moves) x.gained
+      (subst (λ (n : Bytes). SaysGained (row_in replaying.seen.server) (w.devices n) n kept.begins told.0 gave.batches moves) (sym meant.device_is)
+      (subst (λ (rows : Rows). SaysGained (row_in replaying.seen.server) rows device kept.begins told.0 gave.batches moves) (at.devices_are device) told.2)))
 
   moves_told : moves ≡ x.leads.moves
   moves_told =
@@ -193,7 +193,7 @@ module _ (tell : AgainsTell) (fit : EachFits) (keeps : Keeps) (stays : KeepsHeld
   end_is : end (c.moves ++ moves) ≡ end_from (end c.moves) x.leads.moves
   end_is = end_from-append empty c.moves moves ∙ ap (end_from (end c.moves)) moves_told
 
-  slot_same : (name : Bytes) → device_slot gave.ends name ≡ device_slot known.ends name
+  slot_same : (name : Bytes) → device_slot gave.ends name ≡ device_slot replaying.ends name
   slot_same name = ap slot_of_device (x.devices name)
 
   made_same : next.made ≡ w.made
@@ -211,7 +211,7 @@ module _ (tell : AgainsTell) (fit : EachFits) (keeps : Keeps) (stays : KeepsHeld
     labels_are = labels_see ∙ ap (λ (ls : Labels). labels_of false ls moves) at.labels_are;
     names_are = names_see ∙ at.names_are;
     begun = λ name none. x.leads.devices_are name ∙ at.begun name none;
-    server_is = server_see ∙ ap (rows_behind_all (row_in known.seen.server)) x.gained ∙ rows_gained (row_in known.seen.server) x.changes
+    server_is = server_see ∙ ap (rows_behind_all (row_in replaying.seen.server)) x.gained ∙ rows_gained (row_in replaying.seen.server) x.changes
         ∙ ap (λ (rows : Rows). rows_after rows x.changes) at.server_is ∙ sym x.leads.server_is;
     devices_are = λ name. devices_see name ∙ at.devices_are name ∙ sym (x.leads.devices_are name);
     requests_are = λ name.
@@ -220,10 +220,10 @@ module _ (tell : AgainsTell) (fit : EachFits) (keeps : Keeps) (stays : KeepsHeld
     marks_are = λ name. at.marks_are name ∙ ap slot_mark (sym (slot_same name));
     marks_read = λ name.
         subst (λ (slot : Slot MemDisk). SlotReads slot DeviceOwner (c.marks name) (next.devices name)) (sym (slot_same name))
-        (subst (λ (rows : Rows). SlotReads (device_slot known.ends name) DeviceOwner (c.marks name) rows) (sym (x.leads.devices_are name)) (at.marks_read name));
+        (subst (λ (rows : Rows). SlotReads (device_slot replaying.ends name) DeviceOwner (c.marks name) rows) (sym (x.leads.devices_are name)) (at.marks_read name));
   }
 
-  pub late_tells : Tells script secret known c r (record { known = record { ends = gave.ends; seen = behind }; event = e })
+  pub late_tells : Tells script secret replaying c r (record { replaying = record { ends = gave.ends; seen = behind }; event = e })
   late_tells = record {
     next = next;
     grow = record { server = x.grow.server; devices = x.grow.devices };

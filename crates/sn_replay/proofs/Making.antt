@@ -6,7 +6,7 @@ use Rattle.std.specs.Str.{bytes_eq}
 use Rattle.std.proofs.lemmas.List.{append-nil, reverse-append}
 use Rattle.sn_client.specs.Asking.{Reply}
 use Rattle.sn_client.specs.Runs.{Act, asked, commits as committed}
-use Rattle.sn_course.specs.Courses.{made_by, names_with}
+use Rattle.sn_course.specs.Stages.{made_by, names_with}
 use Rattle.sn_events.specs.Calling.{host}
 use Rattle.sn_laws.proofs.Facts.{same_text, text_same}
 use Rattle.sn_laws.specs.Each.{One}

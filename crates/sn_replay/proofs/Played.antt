@@ -2,7 +2,7 @@
 use Rattle.std.proofs.Common.{◌≡◌, ◌≢◌, ℕ, suc, ◌+◌, ◌<◌, ◌≤◌, List, [], ◌∷◌, ◌++◌, length, take, drop, get_or, Bool, true, false, Option, Some, None, refl, sym, ap, ◌∙◌, subst, inl, inr, arith, append_assoc}
 use Rattle.std.proofs.lemmas.List.{append-nil, length-take-le, take_all, take_more, take-append-drop}
 use Rattle.rand_chacha.specs.ChaCha.{ChaCha}
-use Rattle.sn_course.specs.Courses.{Course, Reported, past, reported, reporting, start}
+use Rattle.sn_course.specs.Stages.{Stage, Reported, past, reported, reporting, start}
 use Rattle.sn_course.specs.Headline.{Carried, Carries, Goes, IsNotAllowed, MayStand, MovesCarry, OpensWith, PasswordsApart, Recounts, Recovers, SecretOf, Slots, moves_in}
 use Rattle.sn_course.specs.Laws.{CarriedOfMoves, MovesMore, RecountsGo, RecountsGrow, RecountsMore, ReportingMore, settings_behind}
 use Rattle.sn_course.specs.Settings.{AreFirst, settings_after, words_of}
@@ -20,11 +20,11 @@ use Rattle.sn_shown.specs.Shown.{AreHeld}
 use Rattle.sn_world.specs.Holds.{TokensDiffer}
 use Rattle.sn_world.specs.World.{World, at_first}
 use Rattle.sn_replay.specs.Lines.{IsBounded, IsRefusalAt, IsReplayRefusal, reports}
-use Rattle.sn_replay.specs.Playing.{AreSlotsOf, Begins, HasPlayed, HasPlayedAll, IsAt, IsPlayed, IsRefusalBehind, IsRefusedBehind, KnownOr, PlaysAs, Tells, behind, ends_slots}
+use Rattle.sn_replay.specs.Playing.{AreSlotsOf, Begins, HasPlayed, HasPlayedAll, IsAt, IsPlayed, IsRefusalBehind, IsRefusedBehind, ReplayingOr, PlaysAs, Tells, behind, ends_slots}
 use Rattle.sn_replay.specs.declared.error.ReplayError.{ReplayError}
 use Rattle.sn_replay.specs.declared.error.ReplayError.TheVariants as refusal
-use Rattle.sn_replay.specs.declared.known.Known.{Known}
-use Rattle.sn_replay.specs.declared.known.LineTold.{LineTold}
+use Rattle.sn_replay.specs.declared.replaying.Replaying.{Replaying}
+use Rattle.sn_replay.specs.declared.replaying.LineTold.{LineTold}
 use Rattle.sn_replay.specs.declared.run.State.{State}
 use Rattle.sn_replay.specs.declared.settings.Moment.{Moment}
 use Rattle.sn_replay.proofs.Holding.{held_by_script}
@@ -104,20 +104,20 @@ opens_on (r ∷ rs) later secret opened some h = h
 -- ---- one line that reports
 
 -- where a replay stands before it
-record StandsBefore (script : Script) (secret : Bytes) (rs : List Reported) (r : Reported) (k : Known) (events : List Event) : Type 0 where
+record StandsBefore (script : Script) (secret : Bytes) (rs : List Reported) (r : Reported) (k : Replaying) (events : List Event) : Type 0 where
   opened : World
   opens : OpensWith (rs ++ r ∷ []) secret opened
-  last : Course
+  last : Stage
   recounts : Recounts (ends_slots k.ends) secret (start opened) rs events last
   at : IsAt script secret k last
   moves_are : moves_in events ≡ last.moves
 
-record IsBefore (script : Script) (rs : List Reported) (r : Reported) (k : Known) (events : List Event) : Type 0 where
+record IsBefore (script : Script) (rs : List Reported) (r : Reported) (k : Replaying) (events : List Event) : Type 0 where
   secret : Bytes
   secret_is : SecretOf (rs ++ r ∷ []) secret
   stands : TokensDiffer secret → PasswordsApart script → StandsBefore script secret rs r k events
 
-before_first : (script : Script) (r : Reported) (k : Known) → Begins (words_of r.settings r.number) k → IsBefore script [] r k []
+before_first : (script : Script) (r : Reported) (k : Replaying) → Begins (words_of r.settings r.number) k → IsBefore script [] r k []
 before_first script r k b = record {
   secret = b.secret;
   secret_is = (b.left, b.drew);
@@ -126,7 +126,7 @@ before_first script r k b = record {
       record { opened = begun.opened; opens = begun.opens; last = start begun.opened; recounts = refl; at = begun.at; moves_are = refl };
 }
 
-before_next : (script : Script) (secret : Bytes) (rs : List Reported) (r : Reported) (k : Known) (events : List Event) → rs ≢ [] → SecretOf rs secret
+before_next : (script : Script) (secret : Bytes) (rs : List Reported) (r : Reported) (k : Replaying) (events : List Event) → rs ≢ [] → SecretOf rs secret
     → (TokensDiffer secret → PasswordsApart script → HasPlayed script secret rs k events) → IsBefore script rs r k events
 before_next script secret rs r k events some is played = record {
   secret = secret;
@@ -143,25 +143,25 @@ before_next script secret rs r k events some is played = record {
       };
 }
 
-before : (script : Script) (secret : Bytes) (rs : List Reported) (at : Moment) (l : Line) (found : Option Known) (k : Known) (events : List Event)
-    → PlaysAs script secret rs found events → KnownOr found at k → IsBefore script rs (record { number = at.number; settings = at.settings; asks = l }) k events
+before : (script : Script) (secret : Bytes) (rs : List Reported) (at : Moment) (l : Line) (found : Option Replaying) (k : Replaying) (events : List Event)
+    → PlaysAs script secret rs found events → ReplayingOr found at k → IsBefore script rs (record { number = at.number; settings = at.settings; asks = l }) k events
 before script secret rs at l None k events (none, no_events, no_secret) b =
     let r : Reported = record { number = at.number; settings = at.settings; asks = l } in
     subst (λ (xs : List Reported). IsBefore script xs r k events) (sym none)
     (subst (λ (es : List Event). IsBefore script [] r k es) (sym no_events) (before_first script r k b))
-before script secret rs at l (Some known) k events (some, is, played) same =
+before script secret rs at l (Some replaying) k events (some, is, played) same =
     let r : Reported = record { number = at.number; settings = at.settings; asks = l } in
-    subst (λ (x : Known). IsBefore script rs r x events) (sym same) (before_next script secret rs r known events some is played)
+    subst (λ (x : Replaying). IsBefore script rs r x events) (sym same) (before_next script secret rs r replaying events some is played)
 
 module _ (grow : RecountsGrow) (more : RecountsMore) (moves_more : MovesMore) (script : Script) where
   -- what its event makes of it
-  played_on : (secret : Bytes) (rs : List Reported) (r : Reported) (k : Known) (events : List Event) (told : LineTold)
+  played_on : (secret : Bytes) (rs : List Reported) (r : Reported) (k : Replaying) (events : List Event) (told : LineTold)
       → (b : StandsBefore script secret rs r k events) → Tells script secret k b.last r told
-      → HasPlayed script secret (rs ++ r ∷ []) told.known (events ++ told.event ∷ [])
+      → HasPlayed script secret (rs ++ r ∷ []) told.replaying (events ++ told.event ∷ [])
   played_on secret rs r k events told b t =
       let e : Event = told.event in
-      let now : Course = past b.last r.asks e t.next in
-      let recovers : Recovers (ends_slots told.known.ends) now = record {
+      let now : Stage = past b.last r.asks e t.next in
+      let recovers : Recovers (ends_slots told.replaying.ends) now = record {
         server = t.server_reads;
         devices = t.at.marks_read;
         shows = record { server = t.at.stands.holds.server; devices = t.at.stands.holds.devices };
@@ -171,8 +171,8 @@ module _ (grow : RecountsGrow) (more : RecountsMore) (moves_more : MovesMore) (s
         opened = b.opened;
         opens = b.opens;
         last = now;
-        recounts = more (ends_slots told.known.ends) secret (start b.opened) b.last rs events r e t.next
-            (grow (ends_slots k.ends) (ends_slots told.known.ends) secret (start b.opened) b.last rs events t.grow b.recounts) t.fits recovers;
+        recounts = more (ends_slots told.replaying.ends) secret (start b.opened) b.last rs events r e t.next
+            (grow (ends_slots k.ends) (ends_slots told.replaying.ends) secret (start b.opened) b.last rs events t.grow b.recounts) t.fits recovers;
         at = t.at;
         moves_are = moves_more events e ∙ ap (λ (ms : List Move). ms ++ e.moves) b.moves_are;
         mark = t.server_mark;
@@ -191,7 +191,7 @@ module _ (grow : RecountsGrow) (more : RecountsMore) (moves_more : MovesMore) (s
 
     -- a line that is a setting
     pub played_setting : (settings : Settings) → reports l ≡ false → settings ≡ settings_after state.settings l → 1 ≤ settings.cost
-        → IsPlayed script first (lines ++ l ∷ []) (record { settings = settings; known = state.known; events = state.events })
+        → IsPlayed script first (lines ++ l ∷ []) (record { settings = settings; replaying = state.replaying; events = state.events })
     played_setting settings none is cost =
         let m = reporting_more 1 first lines l in
         let same : rs ≡ reporting 1 first (lines ++ l ∷ []) =
@@ -200,7 +200,7 @@ module _ (grow : RecountsGrow) (more : RecountsMore) (moves_more : MovesMore) (s
           settings_are = is ∙ ap (λ (s : Settings). settings_after s l) p.settings_are ∙ sym m.1;
           cost = cost;
           secret = p.secret;
-          plays = subst (λ (xs : List Reported). PlaysAs script p.secret xs state.known state.events) same p.plays;
+          plays = subst (λ (xs : List Reported). PlaysAs script p.secret xs state.replaying state.events) same p.plays;
         }
 
     more_is : reports l ≡ true → reporting 1 first (lines ++ l ∷ []) ≡ rs ++ r ∷ []
@@ -208,20 +208,20 @@ module _ (grow : RecountsGrow) (more : RecountsMore) (moves_more : MovesMore) (s
         (reporting_more 1 first lines l).0
         ∙ ap (λ (xs : List Reported). rs ++ xs) (reported_so (1 + length lines) (settings_behind first lines) l so ∙ ap (λ (x : Reported). x ∷ []) (sym line_is))
 
-    module _ (so : reports l ≡ true) (k : Known) (known_is : KnownOr state.known (record { number = number; settings = state.settings }) k) where
+    module _ (so : reports l ≡ true) (k : Replaying) (replaying_is : ReplayingOr state.replaying (record { number = number; settings = state.settings }) k) where
       is_before : IsBefore script rs r k state.events
-      is_before = before script p.secret rs (record { number = number; settings = state.settings }) l state.known k state.events p.plays known_is
+      is_before = before script p.secret rs (record { number = number; settings = state.settings }) l state.replaying k state.events p.plays replaying_is
 
       -- and one that reports
-      pub played_line : (told : LineTold) → ((secret : Bytes) (c : Course) → TokensDiffer secret → PasswordsApart script → IsAt script secret k c → Tells script secret k c r told)
-          → IsPlayed script first (lines ++ l ∷ []) (record { settings = state.settings; known = Some told.known; events = state.events ++ told.event ∷ [] })
+      pub played_line : (told : LineTold) → ((secret : Bytes) (c : Stage) → TokensDiffer secret → PasswordsApart script → IsAt script secret k c → Tells script secret k c r told)
+          → IsPlayed script first (lines ++ l ∷ []) (record { settings = state.settings; replaying = Some told.replaying; events = state.events ++ told.event ∷ [] })
       played_line told tells =
           let b = is_before in
           record {
             settings_are = p.settings_are ∙ sym (settings_kept (settings_behind first lines) l so) ∙ sym (reporting_more 1 first lines l).1;
             cost = p.cost;
             secret = b.secret;
-            plays = subst (λ (xs : List Reported). PlaysAs script b.secret xs (Some told.known) (state.events ++ told.event ∷ [])) (sym (more_is so)) (
+            plays = subst (λ (xs : List Reported). PlaysAs script b.secret xs (Some told.replaying) (state.events ++ told.event ∷ [])) (sym (more_is so)) (
               some_not_none rs r,
               b.secret_is,
               λ differ apart.
@@ -231,7 +231,7 @@ module _ (grow : RecountsGrow) (more : RecountsMore) (moves_more : MovesMore) (s
           }
 
       -- or that may not come
-      pub refused_line : RecountsGo → (why : ReplayError) → ((secret : Bytes) (c : Course) → IsAt script secret k c → IsRefusalAt number c l why)
+      pub refused_line : RecountsGo → (why : ReplayError) → ((secret : Bytes) (c : Stage) → IsAt script secret k c → IsRefusalAt number c l why)
           → IsRefusalBehind script first lines l why
       refused_line go refusal.Memory why = tt
       refused_line go (refusal.NotAllowed n) why =
@@ -270,15 +270,15 @@ cost_after settings later l cost bounded is = subst (λ (s : Settings). 1 ≤ s.
     kept (line.Late device request) h = cost
     kept line.Show h = cost
 
-pub played_none : (script : Script) (first : Settings) (state : State) → AreFirst first → state.settings ≡ first → state.known ≡ None → state.events ≡ []
+pub played_none : (script : Script) (first : Settings) (state : State) → AreFirst first → state.settings ≡ first → state.replaying ≡ None → state.events ≡ []
     → IsPlayed script first [] state
-played_none script first state is settings_are known_none events_none =
+played_none script first state is settings_are replaying_none events_none =
     let cost : state.settings.cost ≡ 1 = ap (λ (s : Settings). s.cost) settings_are ∙ is.cost in
     record {
       settings_are = settings_are;
       cost = omega (arith, cost);
       secret = [];
-      plays = subst (λ (k : Option Known). PlaysAs script [] [] k state.events) (sym known_none) (refl, events_none, refl);
+      plays = subst (λ (k : Option Replaying). PlaysAs script [] [] k state.events) (sym replaying_none) (refl, events_none, refl);
     }
 
 -- the lines of a script are those before one, it, and those behind it
@@ -363,7 +363,7 @@ carries_none carry script first slots events is none no_events = record {
       });
 }
 
-carries_some : CarriedOfMoves → (script : Script) (first : Settings) (slots : Slots) (secret : Bytes) (k : Known) (events : List Event) → AreFirst first
+carries_some : CarriedOfMoves → (script : Script) (first : Settings) (slots : Slots) (secret : Bytes) (k : Replaying) (events : List Event) → AreFirst first
     → SecretOf (reporting 1 first script.lines) secret → slots ≡ ends_slots k.ends
     → (TokensDiffer secret → PasswordsApart script → HasPlayed script secret (reporting 1 first script.lines) k events)
     → Carries script slots (record { events = events })
@@ -389,12 +389,12 @@ carries_some carry script first slots secret k events is secret_is same played =
       });
 }
 
-carries_by : CarriedOfMoves → (script : Script) (first : Settings) (secret : Bytes) (slots : Slots) (found : Option Known) (events : List Event) → AreFirst first
+carries_by : CarriedOfMoves → (script : Script) (first : Settings) (secret : Bytes) (slots : Slots) (found : Option Replaying) (events : List Event) → AreFirst first
     → PlaysAs script secret (reporting 1 first script.lines) found events → AreSlotsOf found slots → Carries script slots (record { events = events })
 carries_by carry script first secret slots None events is (none, no_events, no_secret) of = carries_none carry script first slots events is none no_events
 carries_by carry script first secret slots (Some k) events is (some, secret_is, played) same =
     carries_some carry script first slots secret k events is secret_is same played
 
-pub carries_all : CarriedOfMoves → (script : Script) (slots : Slots) (state : State) → HasPlayedAll script state → AreSlotsOf state.known slots
+pub carries_all : CarriedOfMoves → (script : Script) (slots : Slots) (state : State) → HasPlayedAll script state → AreSlotsOf state.replaying slots
     → Carries script slots (record { events = state.events })
-carries_all carry script slots state all of = carries_by carry script all.0 all.2.secret slots state.known state.events all.1 all.2.plays of
+carries_all carry script slots state all of = carries_by carry script all.0 all.2.secret slots state.replaying state.events all.1 all.2.plays of

@@ -1,7 +1,7 @@
 -- What is shown of both ends.
 use Rattle.std.proofs.Common.{◌≡◌, ℕ, List, [], ◌++◌, Option, None, false, refl, sym, ap, ◌∙◌, subst}
 use Rattle.std.proofs.lemmas.List.{append-nil}
-use Rattle.sn_course.specs.Courses.{Course, Reported, past}
+use Rattle.sn_course.specs.Stages.{Stage, Reported, past}
 use Rattle.sn_course.specs.Fits.{Fits}
 use Rattle.sn_course.specs.Headline.{IsPasswordOf}
 use Rattle.sn_course.specs.declared.settings.Settings.{Settings}
@@ -32,7 +32,7 @@ use Rattle.sn_disk.specs.Shelf.{Slot, holds, out, unknown}
 use Rattle.sn_disk.specs.declared.memory.MemDisk.{MemDisk}
 use Rattle.sn_replay.specs.Mirrored.{mirrored}
 use Rattle.sn_replay.specs.Playing.{IsAt, Tells}
-use Rattle.sn_replay.specs.declared.known.Known.{Known}
+use Rattle.sn_replay.specs.declared.replaying.Replaying.{Replaying}
 use Rattle.sn_replay.proofs.Holding.{held_by_script}
 
 -- a slot goes on as it is
@@ -42,15 +42,15 @@ grows_same same unknown owner mark rows reads = tt
 grows_same same out owner mark rows reads = absurd reads.stood
 grows_same same (holds disk) owner mark rows reads = same disk
 
-module _ (regular : StatesRegular) (script : Script) (secret : Bytes) (known : Known) (c : Course) (at : IsAt script secret known c) where
+module _ (regular : StatesRegular) (script : Script) (secret : Bytes) (replaying : Replaying) (c : Stage) (at : IsAt script secret replaying c) where
   held_now : AreHeld (end c.moves) c.names
   held_now = held_by_script c.names c.world.devices (end c.moves) at.begun at.stands.holds.devices at.held
 
-  devices_same : (λ name. mirrored known.seen.devices name) ≡ c.world.devices
+  devices_same : (λ name. mirrored replaying.seen.devices name) ≡ c.world.devices
   devices_same = λ i name. at.devices_are name i
 
   -- the rows that were seen show the state
-  pub ends_show : EndsShow (row_in known.seen.server) (λ name. mirrored known.seen.devices name) known.seen.names (end c.moves)
+  pub ends_show : EndsShow (row_in replaying.seen.server) (λ name. mirrored replaying.seen.devices name) replaying.seen.names (end c.moves)
   ends_show = record {
     regular = regular c.moves at.legal;
     accounts = subst (λ (rows : Rows). ShowsServer rows (end c.moves).accounts) (sym at.server_is) at.stands.holds.server;
@@ -59,9 +59,9 @@ module _ (regular : StatesRegular) (script : Script) (secret : Bytes) (known : K
   }
 
   module _ (number : ℕ) (settings : Settings) (none : List Move) (shown : List Bytes) (mark : ℕ) (no_moves : none ≡ [])
-      (shown_is : (closed : Bytes → Bytes → Option ℕ) × AreClosed (λ name. mirrored known.seen.devices name) (end c.moves) closed
-      × (shown ≡ show_lines known.seen.labels known.seen.names (end c.moves) closed))
-      (marked : (mark ≡ slot_mark (server_slot known.ends)) × SlotReads (server_slot known.ends) ServerOwner mark c.world.server)
+      (shown_is : (closed : Bytes → Bytes → Option ℕ) × AreClosed (λ name. mirrored replaying.seen.devices name) (end c.moves) closed
+      × (shown ≡ show_lines replaying.seen.labels replaying.seen.names (end c.moves) closed))
+      (marked : (mark ≡ slot_mark (server_slot replaying.ends)) × SlotReads (server_slot replaying.ends) ServerOwner mark c.world.server)
       (same : (disk : MemDisk) → SlotGrows (holds disk) (holds disk)) where
     abbrev r : Reported
     r = record { number = number; settings = settings; asks = line.Show }
@@ -80,15 +80,15 @@ module _ (regular : StatesRegular) (script : Script) (secret : Bytes) (known : K
       shown = (
         shown_is.0,
         subst (λ (rows : Bytes → Rows). AreClosed rows (end c.moves) shown_is.0) devices_same shown_is.1,
-        shown_is.2 ∙ ap (λ (ls : Labels). show_lines ls known.seen.names (end c.moves) shown_is.0) at.labels_are
+        shown_is.2 ∙ ap (λ (ls : Labels). show_lines ls replaying.seen.names (end c.moves) shown_is.0) at.labels_are
             ∙ ap (λ (ns : List Bytes). show_lines c.labels ns (end c.moves) shown_is.0) at.names_are,
       );
     }
 
-    at_now : IsAt script secret known (past c r.asks e c.world)
+    at_now : IsAt script secret replaying (past c r.asks e c.world)
     at_now = record {
       legal = subst Legal (sym moves_same) at.legal;
-      stands = subst (λ (ms : List Move). Stands known.ends secret c.world (end ms)) (sym moves_same) at.stands;
+      stands = subst (λ (ms : List Move). Stands replaying.ends secret c.world (end ms)) (sym moves_same) at.stands;
       fits = at.fits;
       holds_of = subst (λ (ms : List Move). HoldsOf (IsPasswordOf script) c.world (end ms)) (sym moves_same) at.holds_of;
       held = subst (λ (ms : List Move). AreHeldBySome (end ms)) (sym moves_same) at.held;
@@ -102,12 +102,12 @@ module _ (regular : StatesRegular) (script : Script) (secret : Bytes) (known : K
       marks_read = at.marks_read;
     }
 
-    pub show_tells : Tells script secret known c r (record { known = known; event = e })
+    pub show_tells : Tells script secret replaying c r (record { replaying = replaying; event = e })
     show_tells = record {
       next = c.world;
       grow = record {
-        server = grows_same same (server_slot known.ends) ServerOwner mark c.world.server marked.1;
-        devices = λ name. grows_same same (device_slot known.ends name) DeviceOwner (c.marks name) (c.world.devices name) (at.marks_read name);
+        server = grows_same same (server_slot replaying.ends) ServerOwner mark c.world.server marked.1;
+        devices = λ name. grows_same same (device_slot replaying.ends name) DeviceOwner (c.marks name) (c.world.devices name) (at.marks_read name);
       };
       fits = fits;
       at = at_now;

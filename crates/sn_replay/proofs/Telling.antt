@@ -6,7 +6,7 @@ use Rattle.std.specs.Str.{bytes_eq}
 use Rattle.rand_chacha.specs.ChaCha.{ChaCha}
 use Rattle.sn_client.specs.Laws.{StepsStaySound}
 use Rattle.sn_client.specs.Runs.{Act, Call, Halt, answered, broken, refused, rows_done}
-use Rattle.sn_course.specs.Courses.{Course, Reported, made_by, marks_with, names_with, past}
+use Rattle.sn_course.specs.Stages.{Stage, Reported, made_by, marks_with, names_with, past}
 use Rattle.sn_course.specs.Fits.{Called, EndsSo, EndsWell, Fits, ShowsAs}
 use Rattle.sn_course.specs.Headline.{IsPasswordOf}
 use Rattle.sn_course.specs.Lines.{device_of, fates_of}
@@ -54,9 +54,9 @@ use Rattle.sn_replay.specs.Mirrored.{mirrored}
 use Rattle.sn_replay.specs.Playing.{IsAt, IsLineOf, SaysOneList, Tells}
 use Rattle.sn_replay.specs.declared.came.Came.{Came}
 use Rattle.sn_replay.specs.declared.kept.Kept.{Kept}
-use Rattle.sn_replay.specs.declared.known.Known.{Known}
-use Rattle.sn_replay.specs.declared.known.Seen.{Seen}
-use Rattle.sn_replay.specs.declared.known.LineTold.{LineTold}
+use Rattle.sn_replay.specs.declared.replaying.Replaying.{Replaying}
+use Rattle.sn_replay.specs.declared.replaying.Seen.{Seen}
+use Rattle.sn_replay.specs.declared.replaying.LineTold.{LineTold}
 use Rattle.sn_replay.proofs.Holding.{held_along}
 use Rattle.sn_replay.proofs.Making.{bytes_apart, names_among, names_grow, others_made, own_kept, same_or_apart}
 
@@ -82,7 +82,7 @@ by_name P name own others other =
     ⊎_elim (λ (e : other ≡ name). subst P (sym e) own) (λ (k : other ≢ name). others other k) (same_or_apart other name)
 
 module _ (tell : CallsTell) (fit : EachFits) (keeps : Keeps) (stays : KeepsHeld) (stay : StepsStaySound) (script : Script) (secret : Bytes)
-    (differ : TokensDiffer secret) (c : Course) (r : Reported) (name : Bytes) (call : Call) (calling : Calling) (old : Ends) (seen behind : Seen) (came : Came)
+    (differ : TokensDiffer secret) (c : Stage) (r : Reported) (name : Bytes) (call : Call) (calling : Calling) (old : Ends) (seen behind : Seen) (came : Came)
     (moves : List Move) (begun : List (Option KeySet)) (e : Event)
     (at : IsAt script secret (record { ends = old; seen = seen }) c) (l : IsLineOf script secret c r name call calling)
     (x : HasCame secret c.world (end c.moves) name call (words_of r.settings r.number) (setting_at r.settings (fates_of r.asks)) old came)
@@ -105,7 +105,7 @@ module _ (tell : CallsTell) (fit : EachFits) (keeps : Keeps) (stays : KeepsHeld)
   abbrev next : World
   next = x.leads.next
 
-  abbrev now : Course
+  abbrev now : Stage
   now = past c r.asks e next
 
   abbrev the_line : Line
@@ -254,8 +254,8 @@ module _ (tell : CallsTell) (fit : EachFits) (keeps : Keeps) (stays : KeepsHeld)
 
   -- ---- all of it
 
-  known_now : Known
-  known_now = record { ends = came.ends; seen = behind }
+  replaying_now : Replaying
+  replaying_now = record { ends = came.ends; seen = behind }
 
   at_now : IsAt script secret (record { ends = came.ends; seen = behind }) now
   at_now = record {
@@ -275,7 +275,7 @@ module _ (tell : CallsTell) (fit : EachFits) (keeps : Keeps) (stays : KeepsHeld)
     marks_read = reads_now;
   }
 
-  pub tells : Tells script secret (record { ends = old; seen = seen }) c r (record { known = record { ends = came.ends; seen = behind }; event = e })
+  pub tells : Tells script secret (record { ends = old; seen = seen }) c r (record { replaying = record { ends = came.ends; seen = behind }; event = e })
   tells = record {
     next = next;
     grow = record { server = x.grow.server; devices = x.grow.devices };

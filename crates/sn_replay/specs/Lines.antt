@@ -2,7 +2,7 @@
 use Rattle.std.specs.Prelude.{◌≡◌, ℕ, ◌≤◌, List, Bool, true, false, Some}
 use Rattle.rand_chacha.specs.ChaCha.{ChaCha}
 use Rattle.sn_client.specs.Runs.{IsNewSet}
-use Rattle.sn_course.specs.Courses.{Course, Reported}
+use Rattle.sn_course.specs.Stages.{Stage, Reported}
 use Rattle.sn_course.specs.Headline.{IsNotAllowed, MayStand}
 use Rattle.sn_course.specs.Lines.{losses_of}
 use Rattle.sn_course.specs.Settings.{words_of}
@@ -63,8 +63,8 @@ IsRegistering at identifier password call = (set : KeySet) × (call ≡ calling.
 
 -- ---- refusals
 
--- where the course stands so, the line of this number may not come
-abbrev pub IsRefusalAt : ℕ → Course → Line → ReplayError → Type 0
+-- where the stage stands so, the line of this number may not come
+abbrev pub IsRefusalAt : ℕ → Stage → Line → ReplayError → Type 0
 IsRefusalAt number c l (refusal.NotAllowed n) = (n ≡ number) × ¬ (MayStand c l)
 IsRefusalAt number c l refusal.Memory = Unit {0}
 

@@ -3,7 +3,7 @@ use Rattle.std.specs.Prelude.{◌≡◌, ◌≢◌, ℕ, ◌+◌, ◌≤◌, Lis
 use Rattle.std.specs.List.{AllZip}
 use Rattle.rand_chacha.specs.ChaCha.{ChaCha}
 use Rattle.sn_client.specs.Runs.{Act, Call, Halt}
-use Rattle.sn_course.specs.Courses.{Course, Reported, made_by, past, reporting, start}
+use Rattle.sn_course.specs.Stages.{Stage, Reported, made_by, past, reporting, start}
 use Rattle.sn_course.specs.Fits.{Called, EndsSo, EndsWell, Fits, HappensAs, ShowsAs, puts_item}
 use Rattle.sn_course.specs.Headline.{Goes, IsPasswordOf, MayStand, OpensWith, Opens, PasswordsApart, Recounts, SecretOf, Slots, moves_in}
 use Rattle.sn_course.specs.Laws.{Grow, settings_behind}
@@ -43,8 +43,8 @@ pub use Rattle.sn_replay.specs.Lines.{IsReplayRefusal}
 use Rattle.sn_replay.specs.Mirrored.{mirrored}
 use Rattle.sn_replay.specs.declared.error.ReplayError.{ReplayError}
 use Rattle.sn_replay.specs.declared.error.ReplayError.TheVariants as refusal
-use Rattle.sn_replay.specs.declared.known.Known.{Known}
-use Rattle.sn_replay.specs.declared.known.LineTold.{LineTold}
+use Rattle.sn_replay.specs.declared.replaying.Replaying.{Replaying}
+use Rattle.sn_replay.specs.declared.replaying.LineTold.{LineTold}
 use Rattle.sn_replay.specs.declared.run.State.{State}
 use Rattle.sn_replay.specs.declared.settings.Moment.{Moment}
 
@@ -53,42 +53,42 @@ use Rattle.sn_replay.specs.declared.settings.Moment.{Moment}
 abbrev pub ends_slots : Ends → Slots
 ends_slots ends = record { server = server_slot ends; devices = λ name. device_slot ends name }
 
--- both ends, and what was seen of them, are as the course has them
-pub record IsAt (script : Script) (secret : Bytes) (known : Known) (c : Course) : Type 0 where
+-- both ends, and what was seen of them, are as the stage has them
+pub record IsAt (script : Script) (secret : Bytes) (replaying : Replaying) (c : Stage) : Type 0 where
   pub legal : Legal c.moves
-  pub stands : Stands known.ends secret c.world (end c.moves)
+  pub stands : Stands replaying.ends secret c.world (end c.moves)
   -- what devices ask is within the bounds of what is read; each set is of a password of the script; and a device holds each set that a last version carries
   pub fits : FitsAll c.world
   pub holds_of : HoldsOf (IsPasswordOf script) c.world (end c.moves)
   pub held : AreHeld (end c.moves)
-  pub labels_are : known.seen.labels ≡ c.labels
-  pub names_are : known.seen.names ≡ c.names
+  pub labels_are : replaying.seen.labels ≡ c.labels
+  pub names_are : replaying.seen.names ≡ c.names
   -- a device that has begun nothing has no rows
   pub begun : (name : Bytes) → ¬ (One (λ n. n ≡ name) c.names) → c.world.devices name ≡ no_rows
-  pub server_is : row_in known.seen.server ≡ c.world.server
-  pub devices_are : (name : Bytes) → mirrored known.seen.devices name ≡ c.world.devices name
-  pub requests_are : (name : Bytes) → AllZip IsKeptOf (made_by name c.world.made) (requests_of known.seen.requests name)
-  pub marks_are : (name : Bytes) → c.marks name ≡ slot_mark (device_slot known.ends name)
-  pub marks_read : (name : Bytes) → SlotReads (device_slot known.ends name) DeviceOwner (c.marks name) (c.world.devices name)
+  pub server_is : row_in replaying.seen.server ≡ c.world.server
+  pub devices_are : (name : Bytes) → mirrored replaying.seen.devices name ≡ c.world.devices name
+  pub requests_are : (name : Bytes) → AllZip IsKeptOf (made_by name c.world.made) (requests_of replaying.seen.requests name)
+  pub marks_are : (name : Bytes) → c.marks name ≡ slot_mark (device_slot replaying.ends name)
+  pub marks_read : (name : Bytes) → SlotReads (device_slot replaying.ends name) DeviceOwner (c.marks name) (c.world.devices name)
 
 -- ---- the event of a line
 
--- it fits the line, the records grew, and the course goes on behind it
-pub record Tells (script : Script) (secret : Bytes) (known : Known) (c : Course) (r : Reported) (told : LineTold) : Type 0 where
+-- it fits the line, the records grew, and the stage goes on behind it
+pub record Tells (script : Script) (secret : Bytes) (replaying : Replaying) (c : Stage) (r : Reported) (told : LineTold) : Type 0 where
   pub next : World
-  pub grow : Grow (ends_slots known.ends) (ends_slots told.known.ends)
+  pub grow : Grow (ends_slots replaying.ends) (ends_slots told.replaying.ends)
   pub fits : Fits secret c r told.event next
-  pub at : IsAt script secret told.known (past c r.asks told.event next)
-  pub server_mark : told.event.server_mark ≡ slot_mark (server_slot told.known.ends)
-  pub server_reads : SlotReads (server_slot told.known.ends) ServerOwner told.event.server_mark next.server
+  pub at : IsAt script secret told.replaying (past c r.asks told.event next)
+  pub server_mark : told.event.server_mark ≡ slot_mark (server_slot told.replaying.ends)
+  pub server_reads : SlotReads (server_slot told.replaying.ends) ServerOwner told.event.server_mark next.server
 
 -- wherever the line of a call leads, it says one list of moves
-abbrev pub SaysOneList : Bytes → Course → Reported → Bytes → Call → List Act → List Fate → Halt → List Move → Type 0
+abbrev pub SaysOneList : Bytes → Stage → Reported → Bytes → Call → List Act → List Fate → Halt → List Move → Type 0
 SaysOneList secret c r name call acts fates halt moves =
     (other : LeadsLine secret c.world (end c.moves) (calls name 1 call (words_of r.settings r.number) acts fates halt true)) → other.moves ≡ moves
 
 -- the line asks this device for this call: what the event of such a line is, whatever the call
-pub record IsLineOf (script : Script) (secret : Bytes) (c : Course) (r : Reported) (name : Bytes) (call : Call) (calling : Calling) : Type 0 where
+pub record IsLineOf (script : Script) (secret : Bytes) (c : Stage) (r : Reported) (name : Bytes) (call : Call) (calling : Calling) : Type 0 where
   pub named : device_of r.asks ≡ Some name
   pub happens : (e : Event) (next : World) → Called secret c r name call e next → HappensAs r.asks secret c r e next
   pub shows : ShowsAs r.asks c []
@@ -105,48 +105,48 @@ pub record IsLineOf (script : Script) (secret : Bytes) (c : Course) (r : Reporte
 -- ---- the beginning
 
 -- the server begins with a secret of these words
-pub record BeginsAt (script : Script) (secret : Bytes) (words : ChaCha) (known : Known) : Type 0 where
+pub record BeginsAt (script : Script) (secret : Bytes) (words : ChaCha) (replaying : Replaying) : Type 0 where
   pub opened : World
   pub opens : Opens secret words opened
-  pub at : IsAt script secret known (start opened)
+  pub at : IsAt script secret replaying (start opened)
 
-pub record Begins (words : ChaCha) (known : Known) : Type 0 where
+pub record Begins (words : ChaCha) (replaying : Replaying) : Type 0 where
   pub secret : Bytes
   pub left : ChaCha
   pub drew : (secret, left) ≡ drawn 32 words
-  pub begun : (script : Script) → TokensDiffer secret → BeginsAt script secret words known
+  pub begun : (script : Script) → TokensDiffer secret → BeginsAt script secret words replaying
 
--- what is known, or what it begins with
-abbrev pub KnownOr : Option Known → Moment → Known → Type 0
-KnownOr None at known = Begins (words_of at.settings at.number) known
-KnownOr (Some before) at known = known ≡ before
+-- the replay that goes on, or what it begins with
+abbrev pub ReplayingOr : Option Replaying → Moment → Replaying → Type 0
+ReplayingOr None at replaying = Begins (words_of at.settings at.number) replaying
+ReplayingOr (Some before) at replaying = replaying ≡ before
 
 -- ---- behind some lines
 
 -- the events recount the lines that report, and all is as they leave it
-pub record HasPlayed (script : Script) (secret : Bytes) (rs : List Reported) (known : Known) (events : List Event) : Type 0 where
+pub record HasPlayed (script : Script) (secret : Bytes) (rs : List Reported) (replaying : Replaying) (events : List Event) : Type 0 where
   pub opened : World
   pub opens : OpensWith rs secret opened
-  pub last : Course
-  pub recounts : Recounts (ends_slots known.ends) secret (start opened) rs events last
-  pub at : IsAt script secret known last
+  pub last : Stage
+  pub recounts : Recounts (ends_slots replaying.ends) secret (start opened) rs events last
+  pub at : IsAt script secret replaying last
   pub moves_are : moves_in events ≡ last.moves
-  pub mark : last.server_mark ≡ slot_mark (server_slot known.ends)
+  pub mark : last.server_mark ≡ slot_mark (server_slot replaying.ends)
 
 -- a line behind these, where it reports
 abbrev pub behind : Settings → List Line → Line → Reported
 behind first lines l = record { number = 1 + length lines; settings = settings_behind first lines; asks = l }
 
 -- before the first line that reports nothing has begun
-abbrev pub PlaysAs : Script → Bytes → List Reported → Option Known → List Event → Type 0
+abbrev pub PlaysAs : Script → Bytes → List Reported → Option Replaying → List Event → Type 0
 PlaysAs script secret rs None events = (rs ≡ []) × (events ≡ []) × (secret ≡ [])
-PlaysAs script secret rs (Some known) events = (rs ≢ []) × SecretOf rs secret × (TokensDiffer secret → PasswordsApart script → HasPlayed script secret rs known events)
+PlaysAs script secret rs (Some replaying) events = (rs ≢ []) × SecretOf rs secret × (TokensDiffer secret → PasswordsApart script → HasPlayed script secret rs replaying events)
 
 pub record IsPlayed (script : Script) (first : Settings) (lines : List Line) (state : State) : Type 0 where
   pub settings_are : state.settings ≡ settings_behind first lines
   pub cost : 1 ≤ state.settings.cost
   pub secret : Bytes
-  pub plays : PlaysAs script secret (reporting 1 first lines) state.known state.events
+  pub plays : PlaysAs script secret (reporting 1 first lines) state.replaying state.events
 
 -- from the first settings to the last line
 abbrev pub HasPlayedAll : Script → State → Type 0
@@ -159,13 +159,13 @@ pub record IsRefusedBehind (script : Script) (first : Settings) (lines : List Li
   pub secret_is : SecretOf (reporting 1 first lines ++ behind first lines l ∷ []) secret
   pub refused : TokensDiffer secret → PasswordsApart script
       → (opened : World) × OpensWith (reporting 1 first lines ++ behind first lines l ∷ []) secret opened × (1 + length lines ≡ number)
-      × ((events : List Event) × (last : Course) × Goes secret (start opened) (reporting 1 first lines) events last × ¬ (MayStand last l))
+      × ((events : List Event) × (last : Stage) × Goes secret (start opened) (reporting 1 first lines) events last × ¬ (MayStand last l))
 
 abbrev pub IsRefusalBehind : Script → Settings → List Line → Line → ReplayError → Type 0
 IsRefusalBehind script first lines l (refusal.NotAllowed number) = IsRefusedBehind script first lines l number
 IsRefusalBehind script first lines l refusal.Memory = Unit {0}
 
 -- the slots are those of the ends, where there are any
-abbrev pub AreSlotsOf : Option Known → Slots → Type 0
+abbrev pub AreSlotsOf : Option Replaying → Slots → Type 0
 AreSlotsOf None slots = Unit {0}
-AreSlotsOf (Some known) slots = slots ≡ ends_slots known.ends
+AreSlotsOf (Some replaying) slots = slots ≡ ends_slots replaying.ends

@@ -5,8 +5,8 @@ ghost use Rattle.sn_course.specs.Settings.{words_of};
 ghost use Rattle.sn_replay.specs.Playing.{Begins};
 
 use crate::kept::Requests;
-use crate::known::{Known, Seen};
 use crate::mirrors::Mirrors;
+use crate::replaying::{Replaying, Seen};
 use crate::settings::{Moment, line_words};
 use sn_client::steps_stay_sound;
 use sn_events::{Begun, Ends};
@@ -18,7 +18,7 @@ use sn_world::holds_first;
 use std::alloc::{AllocError, Global};
 
 /// A fresh server, which draws its secret from the words of the first line that reports, and no device.
-pub(crate) fn begin(alloc: Global, at: &Moment) -> Result<Known, AllocError>
+pub(crate) fn begin(alloc: Global, at: &Moment) -> Result<Replaying, AllocError>
     ensures { IfOk result (Begins (words_of at.now.settings at.now.number)) }
 {
     holds_first();
@@ -36,5 +36,5 @@ pub(crate) fn begin(alloc: Global, at: &Moment) -> Result<Known, AllocError>
         devices: Mirrors::new(alloc),
         requests: Requests::new(alloc),
     };
-    Ok(Known { ends, seen })
+    Ok(Replaying { ends, seen })
 }

@@ -1,7 +1,7 @@
 //! The event of each line that asks a device for a call.
 
 ghost use Rattle.std.specs.Prelude.{◌≡◌, ◌≤◌, IfErr, IfOk};
-ghost use Rattle.sn_course.specs.Courses.{Course};
+ghost use Rattle.sn_course.specs.Stages.{Stage};
 ghost use Rattle.sn_course.specs.Headline.{IsPasswordOf, PasswordsApart};
 ghost use Rattle.sn_laws.specs.Lookups.{Bytes};
 ghost use Rattle.sn_replay.specs.Lines.{IsRefusalAt, IsRegistering, reported_at, setting_at};
@@ -13,10 +13,10 @@ ghost use Rattle.sn_world.specs.Holds.{TokensDiffer};
 
 use crate::came::came_of;
 use crate::error::ReplayError;
-use crate::known::{Known, LineTold};
 use crate::labelled::labelled_item;
 use crate::losses::losses_of;
 use crate::new_set::new_set;
+use crate::replaying::{LineTold, Replaying};
 use crate::settings::{Moment, line_words};
 use crate::told::told;
 use sn_events::Setting;
@@ -33,7 +33,7 @@ const KIND: &str = "Note";
 /// A line that begins an account.
 pub(crate) fn register_line(
     alloc: Global,
-    known: Known,
+    replaying: Replaying,
     at: &Moment,
     device: &Text,
     identifier: &Text,
@@ -42,11 +42,11 @@ pub(crate) fn register_line(
 ) -> Result<LineTold, AllocError>
     requires identifier { IsIdentifier identifier.now }
     requires cost { 1 ≤ at.now.settings.cost }
-    ensures { (script : Script) (secret : Bytes) (c : Course) → TokensDiffer secret → IsPasswordOf script password.now → IsAt script secret known c
-        → IfOk result (Tells script secret known c (reported_at at.now (line.Register device.now identifier.now password.now fates.now))) }
+    ensures { (script : Script) (secret : Bytes) (c : Stage) → TokensDiffer secret → IsPasswordOf script password.now → IsAt script secret replaying c
+        → IfOk result (Tells script secret replaying c (reported_at at.now (line.Register device.now identifier.now password.now fates.now))) }
 {
     runs_readable();
-    let Known { ends, seen } = known;
+    let Replaying { ends, seen } = replaying;
     let calling = registering(alloc, at, identifier, password)?;
     let mut words = line_words(at);
     let outcome = ends.register(
@@ -63,7 +63,7 @@ pub(crate) fn register_line(
 /// A line that signs in to an account.
 pub(crate) fn sign_in_line(
     alloc: Global,
-    known: Known,
+    replaying: Replaying,
     at: &Moment,
     device: &Text,
     identifier: &Text,
@@ -71,12 +71,12 @@ pub(crate) fn sign_in_line(
     fates: &[Fate],
 ) -> Result<LineTold, AllocError>
     requires identifier { IsIdentifier identifier.now }
-    ensures { (script : Script) (secret : Bytes) (c : Course) → TokensDiffer secret → PasswordsApart script → IsPasswordOf script password.now
-        → IsAt script secret known c
-        → IfOk result (Tells script secret known c (reported_at at.now (line.SignIn device.now identifier.now password.now fates.now))) }
+    ensures { (script : Script) (secret : Bytes) (c : Stage) → TokensDiffer secret → PasswordsApart script → IsPasswordOf script password.now
+        → IsAt script secret replaying c
+        → IfOk result (Tells script secret replaying c (reported_at at.now (line.SignIn device.now identifier.now password.now fates.now))) }
 {
     runs_readable();
-    let Known { ends, seen } = known;
+    let Replaying { ends, seen } = replaying;
     let calling = Calling::SignIn {
         identifier: identifier.twin(alloc)?,
     };
@@ -94,16 +94,16 @@ pub(crate) fn sign_in_line(
 /// A line that puts a new item.
 pub(crate) fn put_line(
     alloc: Global,
-    known: Known,
+    replaying: Replaying,
     at: &Moment,
     device: &Text,
     fates: &[Fate],
     text: &Text,
 ) -> Result<LineTold, AllocError>
-    ensures { (script : Script) (secret : Bytes) (c : Course) → TokensDiffer secret → IsAt script secret known c
-        → IfOk result (Tells script secret known c (reported_at at.now (line.Put device.now fates.now text.now))) }
+    ensures { (script : Script) (secret : Bytes) (c : Stage) → TokensDiffer secret → IsAt script secret replaying c
+        → IfOk result (Tells script secret replaying c (reported_at at.now (line.Put device.now fates.now text.now))) }
 {
-    let Known { ends, seen } = known;
+    let Replaying { ends, seen } = replaying;
     let calling = Calling::Put {
         kind: Text::fixed(KIND),
         text: text.twin(alloc)?,
@@ -122,19 +122,19 @@ pub(crate) fn put_line(
 /// A line that gives an item a new content.
 pub(crate) fn edit_line(
     alloc: Global,
-    known: Known,
+    replaying: Replaying,
     at: &Moment,
     device: &Text,
     label: Ordinal,
     fates: &[Fate],
     text: &Text,
 ) -> Result<LineTold, ReplayError>
-    ensures told { (script : Script) (secret : Bytes) (c : Course) → TokensDiffer secret → IsAt script secret known c
-        → IfOk result (Tells script secret known c (reported_at at.now (line.Edit device.now label fates.now text.now))) }
-    ensures refused { (script : Script) (secret : Bytes) (c : Course) → IsAt script secret known c
+    ensures told { (script : Script) (secret : Bytes) (c : Stage) → TokensDiffer secret → IsAt script secret replaying c
+        → IfOk result (Tells script secret replaying c (reported_at at.now (line.Edit device.now label fates.now text.now))) }
+    ensures refused { (script : Script) (secret : Bytes) (c : Stage) → IsAt script secret replaying c
         → IfErr result (IsRefusalAt at.now.number c (line.Edit device.now label fates.now text.now)) }
 {
-    let Known { ends, seen } = known;
+    let Replaying { ends, seen } = replaying;
     let Some(uuid) = labelled_item(&seen.labels, label) else {
         return Err(ReplayError::NotAllowed { number: at.number });
     };
@@ -156,18 +156,18 @@ pub(crate) fn edit_line(
 /// A line that deletes an item.
 pub(crate) fn delete_line(
     alloc: Global,
-    known: Known,
+    replaying: Replaying,
     at: &Moment,
     device: &Text,
     label: Ordinal,
     fates: &[Fate],
 ) -> Result<LineTold, ReplayError>
-    ensures told { (script : Script) (secret : Bytes) (c : Course) → TokensDiffer secret → IsAt script secret known c
-        → IfOk result (Tells script secret known c (reported_at at.now (line.Delete device.now label fates.now))) }
-    ensures refused { (script : Script) (secret : Bytes) (c : Course) → IsAt script secret known c
+    ensures told { (script : Script) (secret : Bytes) (c : Stage) → TokensDiffer secret → IsAt script secret replaying c
+        → IfOk result (Tells script secret replaying c (reported_at at.now (line.Delete device.now label fates.now))) }
+    ensures refused { (script : Script) (secret : Bytes) (c : Stage) → IsAt script secret replaying c
         → IfErr result (IsRefusalAt at.now.number c (line.Delete device.now label fates.now)) }
 {
-    let Known { ends, seen } = known;
+    let Replaying { ends, seen } = replaying;
     let Some(uuid) = labelled_item(&seen.labels, label) else {
         return Err(ReplayError::NotAllowed { number: at.number });
     };
@@ -186,17 +186,17 @@ pub(crate) fn delete_line(
 /// A line that brings a device and the server together.
 pub(crate) fn sync_line(
     alloc: Global,
-    known: Known,
+    replaying: Replaying,
     at: &Moment,
     device: &Text,
     fates: &[Fate],
 ) -> Result<LineTold, AllocError>
-    ensures { (script : Script) (secret : Bytes) (c : Course) → TokensDiffer secret → PasswordsApart script → IsAt script secret known c
-        → IfOk result (Tells script secret known c (reported_at at.now (line.Sync device.now fates.now))) }
+    ensures { (script : Script) (secret : Bytes) (c : Stage) → TokensDiffer secret → PasswordsApart script → IsAt script secret replaying c
+        → IfOk result (Tells script secret replaying c (reported_at at.now (line.Sync device.now fates.now))) }
 {
     runs_readable();
     every_sync_ends();
-    let Known { ends, seen } = known;
+    let Replaying { ends, seen } = replaying;
     let mut words = line_words(at);
     let outcome = ends.sync(setting_at(at, fates), device.as_str(), &mut words)?;
     told(
@@ -212,20 +212,20 @@ pub(crate) fn sync_line(
 /// A line that gives the account of a device another password.
 pub(crate) fn passwd_line(
     alloc: Global,
-    known: Known,
+    replaying: Replaying,
     at: &Moment,
     device: &Text,
     password: &Text,
     fates: &[Fate],
 ) -> Result<LineTold, AllocError>
     requires cost { 1 ≤ at.now.settings.cost }
-    ensures { (script : Script) (secret : Bytes) (c : Course) → TokensDiffer secret → PasswordsApart script → IsPasswordOf script password.now
-        → IsAt script secret known c
-        → IfOk result (Tells script secret known c (reported_at at.now (line.Passwd device.now password.now fates.now))) }
+    ensures { (script : Script) (secret : Bytes) (c : Stage) → TokensDiffer secret → PasswordsApart script → IsPasswordOf script password.now
+        → IsAt script secret replaying c
+        → IfOk result (Tells script secret replaying c (reported_at at.now (line.Passwd device.now password.now fates.now))) }
 {
     runs_readable();
     passwds_end();
-    let Known { ends, seen } = known;
+    let Replaying { ends, seen } = replaying;
     let mut words = line_words(at);
     let outcome = ends.passwd(
         setting_at(at, fates),

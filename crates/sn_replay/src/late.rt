@@ -1,7 +1,7 @@
 //! The event of a line that delivers a request late or again.
 
 ghost use Rattle.std.specs.Prelude.{◌≡◌, ℕ, List, IfErr, IfOk, OnOk, Option};
-ghost use Rattle.sn_course.specs.Courses.{Course};
+ghost use Rattle.sn_course.specs.Stages.{Stage};
 ghost use Rattle.sn_laws.specs.Lookups.{Bytes};
 ghost use Rattle.sn_replay.specs.Lines.{IsRefusalAt, reported_at};
 ghost use Rattle.sn_replay.specs.Mirrored.{mirrored};
@@ -15,9 +15,9 @@ ghost use Rattle.sn_world.specs.Holds.{TokensDiffer};
 
 use crate::error::ReplayError;
 use crate::kept::Kept;
-use crate::known::{Known, LineTold, Seen};
 use crate::labelled::add_labels;
 use crate::mirrors::Mirrors;
+use crate::replaying::{LineTold, Replaying, Seen};
 use crate::settings::Moment;
 use sn_client::steps_stay_sound;
 use sn_events::Again;
@@ -35,14 +35,14 @@ use std::alloc::{AllocError, Global};
 /// A line that delivers a request of a device once more. No device hears the answer.
 pub(crate) fn late_line(
     alloc: Global,
-    known: Known,
+    replaying: Replaying,
     at: &Moment,
     device: &Text,
     which: Ordinal,
 ) -> Result<LineTold, ReplayError>
-    ensures told { (script : Script) (secret : Bytes) (c : Course) → TokensDiffer secret → IsAt script secret known c
-        → IfOk result (Tells script secret known c (reported_at at.now (line.Late device.now which))) }
-    ensures refused { (script : Script) (secret : Bytes) (c : Course) → IsAt script secret known c
+    ensures told { (script : Script) (secret : Bytes) (c : Stage) → TokensDiffer secret → IsAt script secret replaying c
+        → IfOk result (Tells script secret replaying c (reported_at at.now (line.Late device.now which))) }
+    ensures refused { (script : Script) (secret : Bytes) (c : Stage) → IsAt script secret replaying c
         → IfErr result (IsRefusalAt at.now.number c (line.Late device.now which)) }
 {
     agains_tell();
@@ -50,7 +50,7 @@ pub(crate) fn late_line(
     keeps();
     keeps_held();
     steps_stay_sound();
-    let Known { ends, seen } = known;
+    let Replaying { ends, seen } = replaying;
     let Seen {
         mut labels,
         names,
@@ -84,7 +84,7 @@ pub(crate) fn late_line(
         requests,
     };
     Ok(LineTold {
-        known: Known { ends, seen },
+        replaying: Replaying { ends, seen },
         event: Event {
             number: at.number,
             puts: false,

@@ -1,7 +1,7 @@
 //! The event of each line.
 
 ghost use Rattle.std.specs.Prelude.{◌≡◌, ◌≤◌, IfErr, IfOk, true};
-ghost use Rattle.sn_course.specs.Courses.{Course};
+ghost use Rattle.sn_course.specs.Stages.{Stage};
 ghost use Rattle.sn_course.specs.Headline.{PasswordsApart};
 ghost use Rattle.sn_laws.specs.Each.{One};
 ghost use Rattle.sn_laws.specs.Lookups.{Bytes};
@@ -14,8 +14,8 @@ use crate::calls::{
     delete_line, edit_line, passwd_line, put_line, register_line, sign_in_line, sync_line,
 };
 use crate::error::ReplayError;
-use crate::known::{Known, LineTold};
 use crate::late::late_line;
+use crate::replaying::{LineTold, Replaying};
 use crate::settings::Moment;
 use crate::showing::show_line;
 use sn_script::Line;
@@ -24,16 +24,16 @@ use std::alloc::Global;
 /// Carries out a line that reports at both ends, and gives its event.
 pub(crate) fn line_told(
     alloc: Global,
-    known: Known,
+    replaying: Replaying,
     at: &Moment,
     line: &Line,
 ) -> Result<LineTold, ReplayError>
     requires bounded { IsBounded line.now }
     requires cost { 1 ≤ at.now.settings.cost }
     requires reports { reports line.now ≡ true }
-    ensures told { (script : Script) (secret : Bytes) (c : Course) → TokensDiffer secret → PasswordsApart script → One (λ l. l ≡ line.now) script.lines
-        → IsAt script secret known c → IfOk result (Tells script secret known c (reported_at at.now line.now)) }
-    ensures refused { (script : Script) (secret : Bytes) (c : Course) → IsAt script secret known c → IfErr result (IsRefusalAt at.now.number c line.now) }
+    ensures told { (script : Script) (secret : Bytes) (c : Stage) → TokensDiffer secret → PasswordsApart script → One (λ l. l ≡ line.now) script.lines
+        → IsAt script secret replaying c → IfOk result (Tells script secret replaying c (reported_at at.now line.now)) }
+    ensures refused { (script : Script) (secret : Bytes) (c : Stage) → IsAt script secret replaying c → IfErr result (IsRefusalAt at.now.number c line.now) }
 {
     match line {
         Line::Seed(_) => unreachable!(),
@@ -46,7 +46,7 @@ pub(crate) fn line_told(
             fates,
         } => {
             let fates = fates.as_slice();
-            let told = register_line(alloc, known, at, device, identifier, password, fates)?;
+            let told = register_line(alloc, replaying, at, device, identifier, password, fates)?;
             Ok(told)
         }
         Line::SignIn {
@@ -56,7 +56,7 @@ pub(crate) fn line_told(
             fates,
         } => {
             let fates = fates.as_slice();
-            let told = sign_in_line(alloc, known, at, device, identifier, password, fates)?;
+            let told = sign_in_line(alloc, replaying, at, device, identifier, password, fates)?;
             Ok(told)
         }
         Line::Put {
@@ -64,7 +64,7 @@ pub(crate) fn line_told(
             fates,
             text,
         } => {
-            let told = put_line(alloc, known, at, device, fates.as_slice(), text)?;
+            let told = put_line(alloc, replaying, at, device, fates.as_slice(), text)?;
             Ok(told)
         }
         Line::Edit {
@@ -72,14 +72,14 @@ pub(crate) fn line_told(
             label,
             fates,
             text,
-        } => edit_line(alloc, known, at, device, *label, fates.as_slice(), text),
+        } => edit_line(alloc, replaying, at, device, *label, fates.as_slice(), text),
         Line::Delete {
             device,
             label,
             fates,
-        } => delete_line(alloc, known, at, device, *label, fates.as_slice()),
+        } => delete_line(alloc, replaying, at, device, *label, fates.as_slice()),
         Line::Sync { device, fates } => {
-            let told = sync_line(alloc, known, at, device, fates.as_slice())?;
+            let told = sync_line(alloc, replaying, at, device, fates.as_slice())?;
             Ok(told)
         }
         Line::Passwd {
@@ -87,12 +87,12 @@ pub(crate) fn line_told(
             password,
             fates,
         } => {
-            let told = passwd_line(alloc, known, at, device, password, fates.as_slice())?;
+            let told = passwd_line(alloc, replaying, at, device, password, fates.as_slice())?;
             Ok(told)
         }
-        Line::Late { device, request } => late_line(alloc, known, at, device, *request),
+        Line::Late { device, request } => late_line(alloc, replaying, at, device, *request),
         Line::Show => {
-            let told = show_line(alloc, known, at)?;
+            let told = show_line(alloc, replaying, at)?;
             Ok(told)
         }
     }

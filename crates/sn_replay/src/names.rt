@@ -3,7 +3,7 @@
 ghost use Rattle.std.specs.Prelude.{◌≡◌, OnOk, Some};
 ghost use Rattle.std.specs.List.{list_any};
 ghost use Rattle.std.specs.Str.{bytes_eq};
-ghost use Rattle.sn_course.specs.Courses.{names_with};
+ghost use Rattle.sn_course.specs.Stages.{names_with};
 
 use sn_string::{Many, Text, Twin};
 use std::alloc::{AllocError, Global};

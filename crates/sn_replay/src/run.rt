@@ -7,15 +7,15 @@ ghost use Rattle.sn_disk.specs.MemShelf.{shelf_slot};
 ghost use Rattle.sn_disk.specs.Shelf.{unknown};
 ghost use Rattle.sn_laws.specs.Each.{One};
 ghost use Rattle.sn_replay.specs.Lines.{IsBounded, IsReplayRefusal};
-ghost use Rattle.sn_replay.specs.Playing.{AreSlotsOf, HasPlayedAll, IsPlayed, IsRefusalBehind, KnownOr};
+ghost use Rattle.sn_replay.specs.Playing.{AreSlotsOf, HasPlayedAll, IsPlayed, IsRefusalBehind, ReplayingOr};
 ghost use Rattle.sn_replay.specs.declared.error.ReplayError.TheVariants as refusal;
 ghost use Rattle.sn_script.specs.declared.script.Line.{Line};
 ghost use Rattle.sn_script.specs.declared.script.Script.{Script};
 
 use crate::beginning::begin;
 use crate::error::ReplayError;
-use crate::known::{Known, LineTold};
 use crate::lines::line_told;
+use crate::replaying::{LineTold, Replaying};
 use crate::settings::{Moment, after_line, first_settings, reports};
 use sn_course::{
     Settings, carried_of_moves, moves_more, recounts_go, recounts_grow, recounts_more,
@@ -38,27 +38,31 @@ pub fn replay(alloc: Global, script: &Script, shelf: &mut MemShelf) -> Result<Re
 {
     carried_of_moves();
     let played = play(alloc, script)?;
-    let State { known, events, .. } = played;
-    put_away(known, shelf)?;
+    let State {
+        replaying,
+        events,
+        ..
+    } = played;
+    put_away(replaying, shelf)?;
     Ok(Report { events })
 }
 
 // Puts the disks of both ends on the shelf, where there are any.
-fn put_away(known: Option<Known>, shelf: &mut MemShelf) -> Result<(), AllocError>
+fn put_away(replaying: Option<Replaying>, shelf: &mut MemShelf) -> Result<(), AllocError>
     requires fresh { (name : List ℕ) → shelf_slot shelf.old name ≡ unknown }
-    ensures { OnOk result (AreSlotsOf known (shelf_slots shelf.new)) }
+    ensures { OnOk result (AreSlotsOf replaying (shelf_slots shelf.new)) }
 {
-    match known {
-        Some(Known { ends, .. }) => ends.put_away(shelf),
+    match replaying {
+        Some(Replaying { ends, .. }) => ends.put_away(shelf),
         None => Ok(()),
     }
 }
 
-/// Where a replay stands between two lines: before the first line that reports nothing is known.
+/// Where a replay stands between two lines; before the first line that reports it has no ends.
 #[derive(Drop)]
 pub(crate) struct State {
     pub(crate) settings: Settings,
-    pub(crate) known: Option<Known>,
+    pub(crate) replaying: Option<Replaying>,
     pub(crate) events: Many<Event>,
 }
 
@@ -70,7 +74,7 @@ fn play(alloc: Global, script: &Script) -> Result<State, ReplayError>
 {
     let mut state = State {
         settings: first_settings(),
-        known: None,
+        replaying: None,
         events: Many::new(alloc),
     };
     'lines: for (index, line) in script.lines.as_slice().iter().enumerate() {
@@ -95,34 +99,38 @@ fn step(alloc: Global, state: State, number: u64, line: &Line) -> Result<State, 
     moves_more();
     let State {
         settings,
-        known,
+        replaying,
         mut events,
     } = state;
     if !reports(line) {
         let settings = after_line(settings, line);
         return Ok(State {
             settings,
-            known,
+            replaying,
             events,
         });
     }
     let at = Moment { number, settings };
-    let known = known_or(alloc, known, &at)?;
-    let LineTold { known, event } = line_told(alloc, known, &at, line)?;
+    let replaying = replaying_or(alloc, replaying, &at)?;
+    let LineTold { replaying, event } = line_told(alloc, replaying, &at, line)?;
     events.push(event)?;
     Ok(State {
         settings,
-        known: Some(known),
+        replaying: Some(replaying),
         events,
     })
 }
 
-// What is known; before the first line that reports, what it begins with.
-fn known_or(alloc: Global, known: Option<Known>, at: &Moment) -> Result<Known, AllocError>
-    ensures { IfOk result (KnownOr known at.now) }
+// The replay that goes on; before the first line that reports, what it begins with.
+fn replaying_or(
+    alloc: Global,
+    replaying: Option<Replaying>,
+    at: &Moment,
+) -> Result<Replaying, AllocError>
+    ensures { IfOk result (ReplayingOr replaying at.now) }
 {
-    match known {
-        Some(known) => Ok(known),
+    match replaying {
+        Some(replaying) => Ok(replaying),
         None => begin(alloc, at),
     }
 }

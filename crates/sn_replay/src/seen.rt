@@ -1,7 +1,7 @@
 //! What is seen of a call.
 
 ghost use Rattle.std.specs.Prelude.{◌≡◌, ◌≢◌, ℕ, List, IfOk, None, OnOk, Some, false};
-ghost use Rattle.sn_course.specs.Courses.{names_with};
+ghost use Rattle.sn_course.specs.Stages.{names_with};
 ghost use Rattle.sn_replay.specs.Keeping.{puts_of};
 ghost use Rattle.sn_replay.specs.Mirrored.{mirrored};
 ghost use Rattle.sn_report.specs.Labels.{labels_of};
@@ -9,10 +9,10 @@ ghost use Rattle.sn_row_map.specs.RowMaps.{row_in};
 ghost use Rattle.sn_telling.specs.Walking.{SaysWalk};
 
 use crate::came::Came;
-use crate::known::Seen;
 use crate::labelled::add_labels;
 use crate::mirrors::Mirrors;
 use crate::names::add_name;
+use crate::replaying::Seen;
 use sn_row_map::RowMap;
 use sn_string::Text;
 use sn_telling::{Calling, Told, call_moves};

@@ -2,7 +2,7 @@
 
 ghost use Rattle.std.specs.Prelude.{ℕ, List, IfOk};
 ghost use Rattle.sn_client.specs.Runs.{Call};
-ghost use Rattle.sn_course.specs.Courses.{Course};
+ghost use Rattle.sn_course.specs.Stages.{Stage};
 ghost use Rattle.sn_course.specs.Lines.{fates_of};
 ghost use Rattle.sn_course.specs.Settings.{words_of};
 ghost use Rattle.sn_course.specs.declared.settings.Settings.{Settings};
@@ -21,7 +21,7 @@ ghost use Rattle.sn_world.specs.Holds.{TokensDiffer};
 ghost use Rattle.sn_world.specs.World.{World};
 
 use crate::came::Came;
-use crate::known::{Known, LineTold, Seen};
+use crate::replaying::{LineTold, Replaying, Seen};
 use crate::seen::{puts, see};
 use sn_client::steps_stay_sound;
 use sn_events::Ends;
@@ -42,7 +42,7 @@ pub(crate) fn told(
     name: &Text,
     calling: &Calling,
 ) -> Result<LineTold, AllocError>
-    ensures { (script : Script) (secret : Bytes) (c : Course) (settings : Settings) (asks : Line) (call : Call) (old : Ends) → TokensDiffer secret
+    ensures { (script : Script) (secret : Bytes) (c : Stage) (settings : Settings) (asks : Line) (call : Call) (old : Ends) → TokensDiffer secret
         → IsAt script secret (record { ends = old; seen = seen }) c → IsLineOf script secret c (record { number = number; settings = settings; asks = asks }) name.now call calling.now
         → HasCame secret c.world (end c.moves) name.now call (words_of settings number) (setting_at settings (fates_of asks)) old came
         → IfOk result (Tells script secret (record { ends = old; seen = seen }) c (record { number = number; settings = settings; asks = asks })) }
@@ -62,7 +62,7 @@ pub(crate) fn told(
     seen.requests.add(name.as_str(), exchanged, begun)?;
     let event = event_of(alloc, &ends, number, name, calling, moves, last)?;
     Ok(LineTold {
-        known: Known { ends, seen },
+        replaying: Replaying { ends, seen },
         event,
     })
 }

@@ -1,4 +1,4 @@
-use Rattle.sn_course.proofs.CourseLemmas.{recounts_go}
+use Rattle.sn_course.proofs.StageLemmas.{recounts_go}
 use Rattle.sn_course.proofs.laws.recounts_go.Goals as goal
 
 pub returns : goal.returns

@@ -1,4 +1,4 @@
-use Rattle.sn_course.proofs.CourseLemmas.{recounts_grow}
+use Rattle.sn_course.proofs.StageLemmas.{recounts_grow}
 use Rattle.sn_course.proofs.laws.recounts_grow.Goals as goal
 
 pub returns : goal.returns

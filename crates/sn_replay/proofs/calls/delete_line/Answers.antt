@@ -18,20 +18,20 @@ returns-clause-told c =
     let fates = c.args.fates.now in
     let uuid : Bytes = c.in-Some.uuid in
     let call : Call = delete uuid in
-    λ script secret course differ is_at.
-    let w = course.world in
-    let s = end course.moves in
-    let found : labelled_item course.labels c.args.label ≡ Some uuid =
+    λ script secret stage differ is_at.
+    let w = stage.world in
+    let s = end stage.moves in
+    let found : labelled_item stage.labels c.args.label ≡ Some uuid =
     ap (λ (ls : Labels). labelled_item ls c.args.label) (sym is_at.labels_are) ∙ sym c.labelled_item.ensures ∙ c.in-Some.is in
     let came = c.in_ok-outcome.ensures.came secret w s (words_of at.settings at.number) differ is_at.stands in
     let has = c.in_ok-came_of.ensures secret w s c.as_str.result.now call (words_of at.settings at.number) (words_of at.settings at.number) c.setting_at.result (λ given. nothing)
-    c.args.known.ends came in
-    c.in_ok-told.ensures script secret course at.settings (line.Delete name c.args.label fates) call c.args.known.ends differ is_at
-    (delete_of script secret course at.number at.settings name c.args.label fates uuid found)
-    (has_along secret w s call c.args.known.ends c.in_ok-came_of.field-0 c.as_str.result.now name (words_of at.settings at.number) (words_of at.settings at.number)
+    c.args.replaying.ends came in
+    c.in_ok-told.ensures script secret stage at.settings (line.Delete name c.args.label fates) call c.args.replaying.ends differ is_at
+    (delete_of script secret stage at.number at.settings name c.args.label fates uuid found)
+    (has_along secret w s call c.args.replaying.ends c.in_ok-came_of.field-0 c.as_str.result.now name (words_of at.settings at.number) (words_of at.settings at.number)
     c.setting_at.result (setting_at at.settings fates) c.as_str.ensures refl c.setting_at.ensures has)
 
 pub returns-in_default-clause-refused : goal.returns-in_default-clause-refused
 returns-in_default-clause-refused c =
-    λ script secret course is_at.
-    (refl, not_labelled course.labels c.args.known.seen.labels c.args.label c.labelled_item.result is_at.labels_are c.labelled_item.ensures c.in_default.is)
+    λ script secret stage is_at.
+    (refl, not_labelled stage.labels c.args.replaying.seen.labels c.args.label c.labelled_item.result is_at.labels_are c.labelled_item.ensures c.in_default.is)

@@ -20,13 +20,13 @@ returns c =
     let call : Call = put note_kind text in
     let written : Call = put note_kind c.as_str-2.result.now in
     let same : written ≡ call = ap (λ (t : Bytes). put note_kind t) c.as_str-2.ensures in
-    λ script secret course differ is_at.
-    let w = course.world in
-    let s = end course.moves in
+    λ script secret stage differ is_at.
+    let w = stage.world in
+    let s = end stage.moves in
     let came = c.in_ok-outcome.ensures.came secret w s differ is_at.stands in
-    let has = c.in_ok-came_of.ensures secret w s c.as_str.result.now written c.line_words-words.result c.put.new.words c.setting_at.result a_uuid c.args.known.ends came in
-    c.told.ensures script secret course at.settings (line.Put name fates text) call c.args.known.ends differ is_at
-    (put_of script secret course at.number at.settings name fates text c.fixed.result c.in_ok-twin.field-0 (sym c.fixed.ensures) (sym c.in_ok-twin.ensures))
-    (subst (λ (k : Call). HasCame secret w s name k (words_of at.settings at.number) (setting_at at.settings fates) c.args.known.ends c.in_ok-came_of.field-0) same
-    (has_along secret w s written c.args.known.ends c.in_ok-came_of.field-0 c.as_str.result.now name c.line_words-words.result (words_of at.settings at.number)
+    let has = c.in_ok-came_of.ensures secret w s c.as_str.result.now written c.line_words-words.result c.put.new.words c.setting_at.result a_uuid c.args.replaying.ends came in
+    c.told.ensures script secret stage at.settings (line.Put name fates text) call c.args.replaying.ends differ is_at
+    (put_of script secret stage at.number at.settings name fates text c.fixed.result c.in_ok-twin.field-0 (sym c.fixed.ensures) (sym c.in_ok-twin.ensures))
+    (subst (λ (k : Call). HasCame secret w s name k (words_of at.settings at.number) (setting_at at.settings fates) c.args.replaying.ends c.in_ok-came_of.field-0) same
+    (has_along secret w s written c.args.replaying.ends c.in_ok-came_of.field-0 c.as_str.result.now name c.line_words-words.result (words_of at.settings at.number)
     c.setting_at.result (setting_at at.settings fates) c.as_str.ensures c.line_words-words.ensures c.setting_at.ensures has))

@@ -23,17 +23,17 @@ returns c =
     let written : Call = register c.as_str-2.result.now c.as_str-3.result.now at.settings.cost in
     let same : written ≡ call = ap (λ (i : Bytes). register i c.as_str-3.result.now at.settings.cost) c.as_str-2.ensures
     ∙ ap (λ (p : Bytes). register identifier p at.settings.cost) c.as_str-3.ensures in
-    λ script secret course differ of is_at.
-    let w = course.world in
-    let s = end course.moves in
+    λ script secret stage differ of is_at.
+    let w = stage.world in
+    let s = end stage.moves in
     let came = c.in_ok-outcome.ensures.came secret w s differ is_at.stands
-    (readable_of c.runs_readable.ensures script secret c.args.known course c.as_str.result.now written is_at tt) in
+    (readable_of c.runs_readable.ensures script secret c.args.replaying stage c.as_str.result.now written is_at tt) in
     let has = c.in_ok-came_of.ensures secret w s c.as_str.result.now written c.line_words-words.result c.register.new.words c.setting_at.result (λ given. nothing)
-    c.args.known.ends came in
+    c.args.replaying.ends came in
     let set = c.in_ok-calling.ensures in
-    c.told.ensures script secret course at.settings (line.Register name identifier password fates) call c.args.known.ends differ is_at
-    (subst (λ (k : Calling). IsLineOf script secret course (record { number = at.number; settings = at.settings; asks = line.Register name identifier password fates }) name call k)
-    (sym set.1) (register_of script secret course at.number at.settings name identifier password fates set.0 of set.2))
-    (subst (λ (k : Call). HasCame secret w s name k (words_of at.settings at.number) (setting_at at.settings fates) c.args.known.ends c.in_ok-came_of.field-0) same
-    (has_along secret w s written c.args.known.ends c.in_ok-came_of.field-0 c.as_str.result.now name c.line_words-words.result (words_of at.settings at.number)
+    c.told.ensures script secret stage at.settings (line.Register name identifier password fates) call c.args.replaying.ends differ is_at
+    (subst (λ (k : Calling). IsLineOf script secret stage (record { number = at.number; settings = at.settings; asks = line.Register name identifier password fates }) name call k)
+    (sym set.1) (register_of script secret stage at.number at.settings name identifier password fates set.0 of set.2))
+    (subst (λ (k : Call). HasCame secret w s name k (words_of at.settings at.number) (setting_at at.settings fates) c.args.replaying.ends c.in_ok-came_of.field-0) same
+    (has_along secret w s written c.args.replaying.ends c.in_ok-came_of.field-0 c.as_str.result.now name c.line_words-words.result (words_of at.settings at.number)
     c.setting_at.result (setting_at at.settings fates) c.as_str.ensures c.line_words-words.ensures c.setting_at.ensures has))

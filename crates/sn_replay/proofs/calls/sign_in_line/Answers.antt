@@ -23,21 +23,21 @@ returns c =
     let call : Call = sign_in identifier password in
     let written : Call = sign_in c.as_str-2.result.now c.as_str-3.result.now in
     let same : written ≡ call = ap (λ (i : Bytes). sign_in i c.as_str-3.result.now) c.as_str-2.ensures ∙ ap (λ (p : Bytes). sign_in identifier p) c.as_str-3.ensures in
-    λ script secret course differ apart of is_at.
-    let w = course.world in
-    let s = end course.moves in
+    λ script secret stage differ apart of is_at.
+    let w = stage.world in
+    let s = end stage.moves in
     let only : IsOnlyOf s c.as_str-2.result.now c.as_str-3.result.now =
     subst (λ (i : Bytes). IsOnlyOf s i c.as_str-3.result.now) (sym c.as_str-2.ensures)
     (subst (λ (p : Bytes). IsOnlyOf s identifier p) (sym c.as_str-3.ensures)
-    (may_call script secret c.args.known course name call apart is_at of)) in
+    (may_call script secret c.args.replaying stage name call apart is_at of)) in
     let came = c.in_ok-outcome.ensures.came secret w s differ is_at.stands only
-    (readable_of c.runs_readable.ensures script secret c.args.known course c.as_str.result.now written is_at
+    (readable_of c.runs_readable.ensures script secret c.args.replaying stage c.as_str.result.now written is_at
     (subst IsIdentifier (sym c.as_str-2.ensures) c.requires.identifier, c.as_str-2.utf8)) in
     let has = c.in_ok-came_of.ensures secret w s c.as_str.result.now written c.line_words-words.result c.sign_in.new.words c.setting_at.result (λ given. nothing)
-    c.args.known.ends came in
-    c.told.ensures script secret course at.settings (line.SignIn name identifier password fates) call c.args.known.ends differ is_at
-    (sign_in_of script secret course at.number at.settings name identifier password fates c.in_ok-twin.field-0 (sym c.in_ok-twin.ensures) c.requires.identifier
+    c.args.replaying.ends came in
+    c.told.ensures script secret stage at.settings (line.SignIn name identifier password fates) call c.args.replaying.ends differ is_at
+    (sign_in_of script secret stage at.number at.settings name identifier password fates c.in_ok-twin.field-0 (sym c.in_ok-twin.ensures) c.requires.identifier
     (subst IsUtf8 c.as_str-2.ensures c.as_str-2.utf8) of)
-    (subst (λ (k : Call). HasCame secret w s name k (words_of at.settings at.number) (setting_at at.settings fates) c.args.known.ends c.in_ok-came_of.field-0) same
-    (has_along secret w s written c.args.known.ends c.in_ok-came_of.field-0 c.as_str.result.now name c.line_words-words.result (words_of at.settings at.number)
+    (subst (λ (k : Call). HasCame secret w s name k (words_of at.settings at.number) (setting_at at.settings fates) c.args.replaying.ends c.in_ok-came_of.field-0) same
+    (has_along secret w s written c.args.replaying.ends c.in_ok-came_of.field-0 c.as_str.result.now name c.line_words-words.result (words_of at.settings at.number)
     c.setting_at.result (setting_at at.settings fates) c.as_str.ensures c.line_words-words.ensures c.setting_at.ensures has))

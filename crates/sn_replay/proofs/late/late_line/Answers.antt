@@ -11,7 +11,7 @@ use Rattle.sn_telling.specs.Walking.{SaysGained, rows_behind_all}
 use Rattle.sn_replay.specs.Keeping.{nth_of, requests_of}
 use Rattle.sn_replay.specs.Mirrored.{mirrored}
 use Rattle.sn_replay.specs.declared.kept.Kept.{Kept}
-use Rattle.sn_replay.specs.declared.known.Seen.{Seen}
+use Rattle.sn_replay.specs.declared.replaying.Seen.{Seen}
 use Rattle.sn_replay.proofs.Lateness.{Meant, late_tells, nth_kept, nth_none}
 use Rattle.sn_replay.proofs.late.late_line.Goals as goal
 
@@ -20,28 +20,28 @@ returns-clause-told c =
     let at = c.args.at.now in
     let name : Bytes = c.args.device.now in
     let kept : Kept = c.in-Some.kept.now in
-    let behind : Seen = record { labels = c.add_labels.new.labels; names = c.args.known.seen.names; server = c.moves_of.new.server; devices = c.moves_of.new.devices; requests = c.args.known.seen.requests } in
-    λ script secret course differ is_at.
-    let found : nth_of (requests_of c.args.known.seen.requests name) c.args.which ≡ Some kept =
-    ap (λ (n : Bytes). nth_of (requests_of c.args.known.seen.requests n) c.args.which) (sym c.as_str.ensures) ∙ sym c.in-Some.ensures in
-    let meant : Meant name course.world.made c.args.which kept =
-    nth_kept name course.world.made (requests_of c.args.known.seen.requests name) c.args.which kept (is_at.requests_are name) found in
-    let came = c.in_ok-ends.ensures.came secret course.world (end course.moves) meant.m differ is_at.stands meant.among
+    let behind : Seen = record { labels = c.add_labels.new.labels; names = c.args.replaying.seen.names; server = c.moves_of.new.server; devices = c.moves_of.new.devices; requests = c.args.replaying.seen.requests } in
+    λ script secret stage differ is_at.
+    let found : nth_of (requests_of c.args.replaying.seen.requests name) c.args.which ≡ Some kept =
+    ap (λ (n : Bytes). nth_of (requests_of c.args.replaying.seen.requests n) c.args.which) (sym c.as_str.ensures) ∙ sym c.in-Some.ensures in
+    let meant : Meant name stage.world.made c.args.which kept =
+    nth_kept name stage.world.made (requests_of c.args.replaying.seen.requests name) c.args.which kept (is_at.requests_are name) found in
+    let came = c.in_ok-ends.ensures.came secret stage.world (end stage.moves) meant.m differ is_at.stands meant.among
     (subst (IsRequestBytes host meant.m.request) (sym c.as_slice.ensures) meant.is.sent) meant.is.readable in
     let told = c.in_ok-moves.ensures.moves in
-    late_tells c.agains_tell.ensures c.each_fits.ensures c.keeps.ensures c.keeps_held.ensures c.steps_stay_sound.ensures script secret differ course at.number at.settings
-    name c.args.which c.args.known is_at kept meant c.in_ok-ends.field-0 came c.in_ok-moves.moves behind c.new.result c.server_mark-server_mark.result
-    (told.0, told.1, subst (λ bs. SaysGained (row_in c.args.known.seen.server) (mirrored c.args.known.seen.devices name) name kept.begins told.0 bs c.in_ok-moves.moves) c.as_slice-2.ensures told.2)
-    (c.in_ok-moves.ensures.server ∙ ap (rows_behind_all (row_in c.args.known.seen.server)) c.as_slice-2.ensures)
-    (c.in_ok-add_labels.ensures ∙ ap (labels_of false c.args.known.seen.labels) c.as_slice-3.ensures) refl c.in_ok-moves.ensures.devices refl c.new.ensures
+    late_tells c.agains_tell.ensures c.each_fits.ensures c.keeps.ensures c.keeps_held.ensures c.steps_stay_sound.ensures script secret differ stage at.number at.settings
+    name c.args.which c.args.replaying is_at kept meant c.in_ok-ends.field-0 came c.in_ok-moves.moves behind c.new.result c.server_mark-server_mark.result
+    (told.0, told.1, subst (λ bs. SaysGained (row_in c.args.replaying.seen.server) (mirrored c.args.replaying.seen.devices name) name kept.begins told.0 bs c.in_ok-moves.moves) c.as_slice-2.ensures told.2)
+    (c.in_ok-moves.ensures.server ∙ ap (rows_behind_all (row_in c.args.replaying.seen.server)) c.as_slice-2.ensures)
+    (c.in_ok-add_labels.ensures ∙ ap (labels_of false c.args.replaying.seen.labels) c.as_slice-3.ensures) refl c.in_ok-moves.ensures.devices refl c.new.ensures
     (c.server_mark-server_mark.ensures secret came.leads.next _ came.stands)
 
 pub returns-in_default-clause-refused : goal.returns-in_default-clause-refused
 returns-in_default-clause-refused c =
-    λ script secret course is_at.
-    let none : nth_of (requests_of c.args.known.seen.requests c.args.device.now) c.args.which ≡ None =
-    ap (λ (n : Bytes). nth_of (requests_of c.args.known.seen.requests n) c.args.which) (sym c.as_str.ensures) ∙ sym c.nth.ensures ∙ ap option_copied c.in_default.is in (
+    λ script secret stage is_at.
+    let none : nth_of (requests_of c.args.replaying.seen.requests c.args.device.now) c.args.which ≡ None =
+    ap (λ (n : Bytes). nth_of (requests_of c.args.replaying.seen.requests n) c.args.which) (sym c.as_str.ensures) ∙ sym c.nth.ensures ∙ ap option_copied c.in_default.is in (
       refl,
-      λ some. some (nth_none c.args.device.now course.world.made (requests_of c.args.known.seen.requests c.args.device.now) c.args.which
+      λ some. some (nth_none c.args.device.now stage.world.made (requests_of c.args.replaying.seen.requests c.args.device.now) c.args.which
           (is_at.requests_are c.args.device.now) none),
     )

@@ -11,11 +11,11 @@ returns-clause-played c =
     let l = c.args.line.now in
     let so : reports l ≡ true = sym c.reports.ensures ∙ c.if-not-reports.false in
     λ script first lines number_is among p.
-    subst (λ (es : List Event). IsPlayed script first (lines ++ l ∷ []) (record { settings = c.args.state.settings; known = Some c.in_ok-known-2.field-0.known; events = es }))
+    subst (λ (es : List Event). IsPlayed script first (lines ++ l ∷ []) (record { settings = c.args.state.settings; replaying = Some c.in_ok-replaying-2.field-0.replaying; events = es }))
     (sym c.in_ok-push.ensures.ok)
     (played_line c.recounts_grow.ensures c.recounts_more.ensures c.moves_more.ensures script c.reporting_more.ensures first lines l c.args.state p c.args.number number_is
-    so c.in_ok-known.known c.in_ok-known.ensures c.in_ok-known-2.field-0
-    (λ secret course differ apart at. c.in_ok-known-2.ensures.told script secret course differ apart among at))
+    so c.in_ok-replaying.replaying c.in_ok-replaying.ensures c.in_ok-replaying-2.field-0
+    (λ secret stage differ apart at. c.in_ok-replaying-2.ensures.told script secret stage differ apart among at))
 
 pub returns-then-not-reports-clause-played : goal.returns-then-not-reports-clause-played
 returns-then-not-reports-clause-played c =
@@ -26,12 +26,12 @@ returns-then-not-reports-clause-played c =
     c.after_line-settings.result none c.after_line-settings.ensures
     (cost_after c.args.state.settings c.after_line-settings.result l c.requires.cost c.requires.bounded c.after_line-settings.ensures)
 
-pub returns-in_err-known-2-clause-refused : goal.returns-in_err-known-2-clause-refused
-returns-in_err-known-2-clause-refused c =
+pub returns-in_err-replaying-2-clause-refused : goal.returns-in_err-replaying-2-clause-refused
+returns-in_err-replaying-2-clause-refused c =
     let l = c.args.line.now in
     let so : reports l ≡ true = sym c.reports.ensures ∙ c.if-not-reports.false in
     λ script first lines number_is p.
-    handed_on (IsRefusalBehind script first lines l) c.from_residual-in_err-known-2.result c.in_err-known-2.field-0.0 c.from_residual-in_err-known-2.ensures.1
+    handed_on (IsRefusalBehind script first lines l) c.from_residual-in_err-replaying-2.result c.in_err-replaying-2.field-0.0 c.from_residual-in_err-replaying-2.ensures.1
     (refused_line c.recounts_grow.ensures c.recounts_more.ensures c.moves_more.ensures script c.reporting_more.ensures first lines l c.args.state p c.args.number number_is
-    so c.in_ok-known.known c.in_ok-known.ensures c.recounts_go.ensures c.in_err-known-2.field-0.0
-    (λ secret course at. c.in_err-known-2.ensures.refused script secret course at))
+    so c.in_ok-replaying.replaying c.in_ok-replaying.ensures c.recounts_go.ensures c.in_err-replaying-2.field-0.0
+    (λ secret stage at. c.in_err-replaying-2.ensures.refused script secret stage at))

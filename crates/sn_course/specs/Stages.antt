@@ -35,11 +35,11 @@ abbrev pub reporting : ℕ → Settings → List Line → List Reported
 reporting number settings [] = []
 reporting number settings (l ∷ ls) = reported number settings l ++ reporting (suc number) (settings_after settings l) ls
 
--- ---- a course
+-- ---- a stage of a replay
 
 -- where a replay stands: the devices in the order of their first lines, the labels, the moves so far, how long the record of each disk is, and what both
 -- ends have
-pub record Course : Type 0 where
+pub record Stage : Type 0 where
   pub names : List Bytes
   pub labels : Labels
   pub moves : List Move
@@ -48,7 +48,7 @@ pub record Course : Type 0 where
   pub world : World
 
 -- before the first line that reports, with the server as it begins
-abbrev pub start : World → Course
+abbrev pub start : World → Stage
 start opened = record { names = []; labels = []; moves = []; server_mark = 0; marks = λ name. 0; world = opened }
 
 -- a device begins with its first line
@@ -61,7 +61,7 @@ marks_with marks None name = marks name
 marks_with marks (Some m) name = if bytes_eq m.name name then m.mark else marks name
 
 -- behind an event
-abbrev pub past : Course → Line → Event → World → Course
+abbrev pub past : Stage → Line → Event → World → Stage
 past c l e next = record {
   names = names_with c.names (device_of l);
   labels = labels_of e.puts c.labels e.moves;

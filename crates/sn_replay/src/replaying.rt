@@ -20,14 +20,14 @@ pub(crate) struct Seen {
 
 /// Both ends, and what was seen of them.
 #[derive(Drop)]
-pub(crate) struct Known {
+pub(crate) struct Replaying {
     pub(crate) ends: Ends,
     pub(crate) seen: Seen,
 }
 
-/// The event of a line, and what is known behind it.
+/// The event of a line, and the replay behind it.
 #[derive(Drop)]
 pub(crate) struct LineTold {
-    pub(crate) known: Known,
+    pub(crate) replaying: Replaying,
     pub(crate) event: Event,
 }

@@ -10,7 +10,7 @@ use Rattle.sn_laws.specs.declared.moves.Move.{Move}
 use Rattle.sn_report.specs.declared.report.Event.{Event}
 use Rattle.sn_rows.specs.Table.{Rows}
 use Rattle.sn_tail.specs.Shelves.{SlotGrows, SlotReads}
-use Rattle.sn_course.specs.Courses.{Course, past, reported, reporting}
+use Rattle.sn_course.specs.Stages.{Stage, past, reported, reporting}
 use Rattle.sn_course.specs.Fits.{Fits}
 use Rattle.sn_course.specs.Headline.{Recovers, Slots, moves_in}
 use Rattle.sn_course.specs.Laws.{Grow, GoesMore, MovesMore, RecountsGo, RecountsGrow, RecountsMore, ReportingMore, settings_behind}
@@ -22,7 +22,7 @@ use Rattle.sn_course.specs.Settings.{settings_after}
 abbrev ReadsThen : Type 0
 ReadsThen = (old new : Slot MemDisk) → SlotGrows old new → (owner : Owner) (mark : ℕ) (rows : Rows) → SlotReads old owner mark rows → SlotReads new owner mark rows
 
-recovers_still : ReadsThen → (old new : Slots) (c : Course) → Grow old new → Recovers old c → Recovers new c
+recovers_still : ReadsThen → (old new : Slots) (c : Stage) → Grow old new → Recovers old c → Recovers new c
 recovers_still reads old new c grow h =
     record {
       server = reads old.server new.server grow.server ServerOwner c.server_mark c.world.server h.server;
@@ -47,9 +47,9 @@ recounts_grow reads old new secret c last (r ∷ rs) (e ∷ es) grow h = (
 pub recounts_more : RecountsMore
 recounts_more slots secret c last [] [] r e next h fits recovers = (
   next,
-  subst (λ (x : Course). Fits secret x r e next) h fits,
-  subst (λ (x : Course). Recovers slots (past x r.asks e next)) h recovers,
-  ap (λ (x : Course). past x r.asks e next) h,
+  subst (λ (x : Stage). Fits secret x r e next) h fits,
+  subst (λ (x : Stage). Recovers slots (past x r.asks e next)) h recovers,
+  ap (λ (x : Stage). past x r.asks e next) h,
 )
 recounts_more slots secret c last [] (y ∷ es) r e next h fits recovers = absurd h
 recounts_more slots secret c last (x ∷ rs) [] r e next h fits recovers = absurd h
@@ -64,7 +64,7 @@ recounts_go slots secret c last (r ∷ rs) (e ∷ es) h = (h.0, h.1, recounts_go
 
 pub goes_more : GoesMore
 goes_more secret c last [] [] r e next h fits =
-    (next, subst (λ (x : Course). Fits secret x r e next) h fits, ap (λ (x : Course). past x r.asks e next) h)
+    (next, subst (λ (x : Stage). Fits secret x r e next) h fits, ap (λ (x : Stage). past x r.asks e next) h)
 goes_more secret c last [] (y ∷ es) r e next h fits = absurd h
 goes_more secret c last (x ∷ rs) [] r e next h fits = absurd h
 goes_more secret c last (x ∷ rs) (y ∷ es) r e next h fits =
