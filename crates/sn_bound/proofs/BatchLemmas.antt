@@ -1,0 +1,74 @@
+-- Fronts and batches of the items that wait.
+use Rattle.std.proofs.Common.{◌≡◌, ◌≢◌, ◌⊎◌, ◌+◌, ◌*◌, ◌<◌, ◌≤◌, List, [], ◌∷◌, ◌++◌, length, length-append, refl, sym, ap, ◌∙◌, subst, inl, inr, append_assoc, arith}
+use Rattle.std.proofs.lemmas.Bool.{cases_lt}
+use Rattle.std.proofs.lemmas.List.{append-nil}
+use Rattle.sn_bound.specs.Batches.{AreBatches, AreLight, FewBatches, IsFront}
+use Rattle.sn_client.specs.Sending.{AreChosen, FitsSending, Numbered, most_sent}
+use Rattle.sn_rows.specs.Table.{Rows}
+
+-- ---- fronts
+
+none_of : {A : Type 0} (front later : List A) → [] ≡ front ++ later → front ≡ []
+none_of [] later e = refl
+none_of (x ∷ front) later e = absurd (cc)
+
+-- where some are chosen of those that wait, they are such a front
+pub is_front : (rows : Rows) (chosen later : List Numbered) → AreChosen rows chosen later → chosen ≢ [] → IsFront chosen later
+is_front rows chosen later x some = record { some = some; fits = x.fits; longest = λ next others e. (x.longest next others e).1 }
+
+-- and some are where some wait
+pub some_chosen : (rows : Rows) (chosen later : List Numbered) → AreChosen rows chosen later → chosen ++ later ≢ [] → chosen ≢ []
+some_chosen rows chosen [] x some none = some (append-nil chosen ∙ none)
+some_chosen rows chosen (next ∷ others) x some none = (x.longest next others refl).0 none
+
+front_size : (front later : List Numbered) → IsFront front later → FitsSending front ⊎ (length front ≡ 1) → length front ≤ most_sent
+front_size front later f (inl fits) = fits.0
+front_size front later f (inr one) = omega arith
+
+-- ---- batches
+
+pub light_later : (front later : List Numbered) → AreLight (front ++ later) → AreLight later
+light_later front later light before some rest e few =
+    light (front ++ before) some rest (ap (λ (xs : List Numbered). front ++ xs) e ∙ simp append_assoc) few
+
+-- a front behind which another waits is full
+front_full : (front : List Numbered) (next : Numbered) (others : List Numbered) → IsFront front (next ∷ others) → AreLight (front ++ next ∷ others)
+    → length front ≡ most_sent
+front_full front next others f light = by (cases_lt (length front) most_sent)
+  where
+    by : (length front < most_sent) ⊎ (most_sent ≤ length front) → length front ≡ most_sent
+    by (inl less) =
+        let few : length (front ++ next ∷ []) ≤ most_sent = omega (arith, length-append front (next ∷ [])) in
+        absurd (f.longest next others refl (few, light [] (front ++ next ∷ []) others (sym (append_assoc front (next ∷ []) others)) few))
+    by (inr more) = let most = front_size front (next ∷ others) f f.fits in omega arith
+
+some_length : {A : Type 0} (xs : List A) → xs ≢ [] → 1 ≤ length xs
+some_length [] some = absurd (some refl)
+some_length (x ∷ xs) some = omega arith
+
+last_one : (batches : List (List Numbered)) → AreBatches batches [] → batches ≡ []
+last_one [] none = refl
+last_one (front ∷ batches) (later, is, f, rest) = absurd (f.some (none_of front later is))
+
+few_more : (front later : List Numbered) (batches : List (List Numbered)) → IsFront front later → AreBatches batches later → AreLight (front ++ later)
+    → length later ≤ most_sent * length batches → most_sent * length batches < length later + most_sent
+    → (length (front ++ later) ≤ most_sent * length (front ∷ batches)) × (most_sent * length (front ∷ batches) < length (front ++ later) + most_sent)
+few_more front [] batches f are light most least =
+    let size = front_size front [] f f.fits in
+    let last : length batches ≡ 0 = ap length (last_one batches are) in
+    let whole : length (front ++ []) ≡ length front = ap length (append-nil front) in
+    let some = some_length front f.some in
+    (omega arith, omega arith)
+few_more front (next ∷ others) batches f are light most least =
+    let full = front_full front next others f light in
+    let whole = length-append front (next ∷ others) in
+    (omega arith, omega arith)
+
+pub few_batches : FewBatches
+few_batches waiting [] are light = let none : length waiting ≡ 0 = ap length are in (omega arith, omega arith)
+few_batches waiting (front ∷ batches) (later, is, f, rest) light =
+    let light_so : AreLight (front ++ later) = subst AreLight is light in
+    let x = few_batches later batches rest (light_later front later light_so) in
+    let y = few_more front later batches f rest light_so x.0 x.1 in
+    let whole : length waiting ≡ length (front ++ later) = ap length is in
+    (omega arith, omega arith)

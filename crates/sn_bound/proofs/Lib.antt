@@ -1,0 +1,13 @@
+pub mod BatchLemmas
+pub mod BatchingLemmas
+pub mod WholeLemmas
+pub mod WholeCalls
+pub mod CommitLemmas
+pub mod AllSaved
+pub mod SavedTaken
+pub mod SentNamed
+pub mod WaitingLists
+pub mod OneExchange
+pub mod SecondRow
+pub mod BehindChange
+pub mod ChangesBounded

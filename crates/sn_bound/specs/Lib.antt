@@ -1,0 +1,4 @@
+pub mod Batches
+pub mod Bound
+pub mod Commits
+pub mod Whole
