@@ -46,7 +46,7 @@ some_length : {A : Type 0} (xs : List A) → xs ≢ [] → 1 ≤ length xs
 some_length [] some = absurd (some refl)
 some_length (x ∷ xs) some = omega arith
 
-last_one : (batches : List (List Numbered)) → AreBatches batches [] → batches ≡ []
+pub last_one : (batches : List (List Numbered)) → AreBatches batches [] → batches ≡ []
 last_one [] none = refl
 last_one (front ∷ batches) (later, is, f, rest) = absurd (f.some (none_of front later is))
 

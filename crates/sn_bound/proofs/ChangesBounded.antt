@@ -185,14 +185,14 @@ module _ (laws : CallLaws) (begins_whole : WholeBegins) (stays : WholeStays) (ch
       record { second = second; at_most = omega arith }
 
 pub changes_bounded : CallLaws → WholeBegins → WholeStays → WholeChanges → SyncedRows → ChangeCounts → ChangesBounded
-changes_bounded laws begins_whole stays changes_whole synced counts secret w s name owner least password cost words acts fates halt differ h ready owned fits
-    (inl none) over arrive x c =
+changes_bounded laws begins_whole stays changes_whole synced counts secret w s name owner least password cost words acts fates halt differ h ready owned
+    (inl none) over x c =
     let count = counts password cost w.server (w.devices name) words acts fates halt x c in
     let no_acts : requests_in acts ≡ 0 = ap requests_in none.0 in
     absurd (omega arith)
-changes_bounded laws begins_whole stays changes_whole synced counts secret w s name owner least password cost words acts fates halt differ h ready owned fits
-    (inr (inl (nobody, refuses))) over arrive x c =
+changes_bounded laws begins_whole stays changes_whole synced counts secret w s name owner least password cost words acts fates halt differ h ready owned
+    (inr (inl (nobody, refuses))) over x c =
     absurd (cc)
-changes_bounded laws begins_whole stays changes_whole synced counts secret w s name owner least password cost words acts fates halt differ h ready owned fits
-    (inr (inr (one, sets, holds, so))) over arrive x c =
+changes_bounded laws begins_whole stays changes_whole synced counts secret w s name owner least password cost words acts fates halt differ h ready owned
+    (inr (inr (one, sets, holds, so))) over x c =
     bounded laws begins_whole stays changes_whole synced counts secret differ w s h name ready password cost words acts fates halt over x c one sets holds

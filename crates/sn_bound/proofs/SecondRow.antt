@@ -2,7 +2,7 @@
 -- is one exchange.
 use Rattle.std.proofs.Common.{◌≡◌, ◌≢◌, ℕ, suc, List, [], ◌∷◌, ◌++◌, length, Option, Some, None, refl, ap, ◌∙◌, subst, inl, inr, append_assoc, arith}
 use Rattle.std.specs.List.{Contains, flat_map}
-use Rattle.sn_bound.proofs.BatchLemmas.{is_front, some_chosen}
+use Rattle.sn_bound.proofs.BatchLemmas.{is_front, last_one, some_chosen}
 use Rattle.sn_bound.proofs.OneExchange.{HasAllAt, IsBehindOne, one_exchange, still_whole}
 use Rattle.sn_bound.proofs.WaitingLists.{one_waiting}
 use Rattle.sn_bound.specs.Batches.{AreBatches}
@@ -53,14 +53,6 @@ done_none rows (answer.Refused status tag more) done = absurd done
 
 abbrev FallInto : List Numbered → ℕ → Type 0
 FallInto waiting count = (batches : List (List Numbered)) × AreBatches batches waiting × (count ≡ length batches)
-
-front_empty : {A : Type 0} (front later : List A) → [] ≡ front ++ later → front ≡ []
-front_empty [] later is = refl
-front_empty (x ∷ front) later is = absurd (cc)
-
-no_batch : (batches : List (List Numbered)) → AreBatches batches [] → batches ≡ []
-no_batch [] are = refl
-no_batch (front ∷ batches) (later, is, f, rest) = absurd (f.some (front_empty front later is))
 
 one_more : (rows : Rows) (waiting chosen later : List Numbered) (count : ℕ) → AreWaiting rows waiting → AreChosen rows chosen later → chosen ≢ []
     → FallInto later count → FallInto waiting (suc count)
@@ -139,7 +131,7 @@ module _ (laws : RoundLaws) (stays : WholeStays) (keeps : Keeps) (says : SaysSom
       by [] none =
           let no_later : is.sends.later ≡ [] = none_later is.sends.later refl none in
           let count : length rounds ≡ 0 =
-          others.2 ∙ ap length (no_batch others.0 (subst (λ (ws : List Numbered). AreBatches others.0 ws) no_later others.1)) in
+          others.2 ∙ ap length (last_one others.0 (subst (λ (ws : List Numbered). AreBatches others.0 ws) no_later others.1)) in
           record {
             waiting = is.sends.chosen ++ is.sends.later;
             wait = is.sends.chosen_are.all;

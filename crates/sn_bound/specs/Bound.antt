@@ -1,20 +1,18 @@
--- How many requests a change of password makes that is answered, where no request is lost, no answer is, and no crash takes a commit away.
+-- How many requests a change of password makes that is answered, with no other's request served between its own.
 use Rattle.std.specs.Prelude.{◌≡◌, ◌+◌, ◌≤◌, ℕ, List, [], ◌∷◌, length}
 use Rattle.rand_chacha.specs.ChaCha.{ChaCha}
 use Rattle.sn_bound.specs.Batches.{AreBatches}
 use Rattle.sn_client.specs.Runs.{Act, Halt, Run, passwd}
 use Rattle.sn_client.specs.Sending.{AreWaiting, Numbered}
 use Rattle.sn_client.specs.States.{HasOwner}
-use Rattle.sn_laws.specs.Each.{Each}
 use Rattle.sn_laws.specs.Lookups.{Bytes}
 use Rattle.sn_laws.specs.declared.ideal.Ideal.{Ideal}
 use Rattle.sn_ready.specs.Passwds.{BehindFirst, IsChanged, rows_made}
 use Rattle.sn_ready.specs.Ready.{IsReady}
 use Rattle.sn_rows.specs.Table.{Rows}
 use Rattle.sn_rows.specs.declared.device_rows.OwnerRow.{OwnerRow}
-use Rattle.sn_world.specs.Answering.{Arrives, requests_in}
+use Rattle.sn_world.specs.Answering.{requests_in}
 use Rattle.sn_world.specs.Calls.{AreServed, Fate}
-use Rattle.sn_world.specs.Delivered.{FitsDevices}
 use Rattle.sn_world.specs.Holds.{Holds, TokensDiffer}
 use Rattle.sn_world.specs.World.{World}
 
@@ -41,6 +39,6 @@ pub record IsBounded (server rows : Rows) (words : ChaCha) (password : Bytes) (c
 abbrev pub ChangesBounded : Type 0
 ChangesBounded = (secret : Bytes) (w : World) (s : Ideal) (name : Bytes) (owner : OwnerRow) (least : ℕ) (password : Bytes) (cost : ℕ) (words : ChaCha)
     (acts : List Act) (fates : List Fate) (halt : Halt) → TokensDiffer secret → Holds secret w s → IsReady w s name → HasOwner (w.devices name) owner
-    → FitsDevices w → Run least (passwd password cost) (w.devices name) words acts halt → AreServed w.server acts fates → Each Arrives fates
+    → Run least (passwd password cost) (w.devices name) words acts halt → AreServed w.server acts fates
     → (x : BehindFirst w.server (w.devices name) words acts fates) → (c : IsChanged password cost x.first.behind.at x.first.behind.later halt)
     → IsBounded w.server (w.devices name) words password cost acts fates halt x c
