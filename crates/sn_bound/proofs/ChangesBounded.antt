@@ -1,4 +1,4 @@
--- A change of password that is answered makes at most as many requests as its first row has exchanges and there are batches behind its adoption, and two more.
+-- A change of password that is answered makes at most as many requests as its first row has exchanges and there are portions behind its adoption, and two more.
 use Rattle.std.proofs.Common.{◌≡◌, ◌+◌, ◌≤◌, ℕ, List, [], ◌∷◌, length, Option, Some, None, refl, sym, ap, ◌∙◌, subst, inl, inr, arith}
 use Rattle.std.proofs.lemmas.List.{append-nil}
 use Rattle.std.specs.List.{flat_map}
@@ -6,7 +6,7 @@ use Rattle.rand_chacha.specs.ChaCha.{ChaCha}
 use Rattle.sn_bound.proofs.BehindChange.{IsBehindChange, behind_change}
 use Rattle.sn_bound.proofs.OneExchange.{HasAllAt}
 use Rattle.sn_bound.proofs.SecondRow.{all_rounds}
-use Rattle.sn_bound.specs.Bound.{ChangesBounded, IsBounded, SendsBatches, exchanges_for}
+use Rattle.sn_bound.specs.Bound.{ChangesBounded, IsBounded, SendsPortions, exchanges_for}
 use Rattle.sn_bound.specs.Whole.{HasWhole, IsLastPage, WholeBegins, WholeChanges, WholeStays}
 use Rattle.sn_client.specs.Asking.{said}
 use Rattle.sn_client.specs.Runs.{Act, AreRounds, Halt, IsDone, Point, Round, Standing, acts_of, answered, asked, begun, change_to, commits as committed, nothing, rows_done}
@@ -75,9 +75,9 @@ none_of (Some b) none = absurd (none refl)
 
 -- ---- numbers
 
-most_exchanges_for : {A : Type 0} (batches : List A) → exchanges_for batches ≤ length batches + 1
+most_exchanges_for : {A : Type 0} (portions : List A) → exchanges_for portions ≤ length portions + 1
 most_exchanges_for [] = omega arith
-most_exchanges_for (batch ∷ batches) = omega arith
+most_exchanges_for (portion ∷ portions) = omega arith
 
 -- ---- the call
 
@@ -170,7 +170,7 @@ module _ (laws : CallLaws) (begins_whole : WholeBegins) (stays : WholeStays) (ch
 
   -- ---- the second row
 
-  second : SendsBatches (rows_made at c.is_made) (length c.second.behind.rounds)
+  second : SendsPortions (rows_made at c.is_made) (length c.second.behind.rounds)
   second =
       all_rounds laws.rounds stays laws.resolving.keeps laws.resolving.says synced secret differ name c.second.behind.rounds
       (record { rows = rows_made at c.is_made; words = c.is_made.makes.left; last = None }) c.second.behind.at c.second.behind.later behind.world behind.ideal
@@ -181,7 +181,7 @@ module _ (laws : CallLaws) (begins_whole : WholeBegins) (stays : WholeStays) (ch
   bounded =
       let count = counts password cost w.server rows words acts fates halt x c in
       let sent = second.sent in
-      let most = most_exchanges_for second.batches in
+      let most = most_exchanges_for second.portions in
       record { second = second; at_most = omega arith }
 
 pub changes_bounded : CallLaws → WholeBegins → WholeStays → WholeChanges → SyncedRows → ChangeCounts → ChangesBounded

@@ -1,5 +1,5 @@
-pub mod BatchLemmas
-pub mod BatchingLemmas
+pub mod PortionLemmas
+pub mod DivisionLemmas
 pub mod WholeLemmas
 pub mod WholeCalls
 pub mod CommitLemmas

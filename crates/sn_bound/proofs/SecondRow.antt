@@ -1,12 +1,12 @@
--- A row of exchanges of a device that has all versions of its account and no draft: each exchange sends one batch of what waits, and where nothing waits there
+-- A row of exchanges of a device that has all versions of its account and no draft: each exchange sends one portion of what waits, and where nothing waits there
 -- is one exchange.
 use Rattle.std.proofs.Common.{◌≡◌, ◌≢◌, ℕ, suc, List, [], ◌∷◌, ◌++◌, length, Option, Some, None, refl, ap, ◌∙◌, subst, inl, inr, append_assoc, arith}
 use Rattle.std.specs.List.{Contains, flat_map}
-use Rattle.sn_bound.proofs.BatchLemmas.{is_front, last_one, some_chosen}
+use Rattle.sn_bound.proofs.PortionLemmas.{is_front, last_one, some_chosen}
 use Rattle.sn_bound.proofs.OneExchange.{HasAllAt, IsBehindOne, one_exchange, still_whole}
 use Rattle.sn_bound.proofs.WaitingLists.{one_waiting}
-use Rattle.sn_bound.specs.Batches.{AreBatches}
-use Rattle.sn_bound.specs.Bound.{SendsBatches, exchanges_for}
+use Rattle.sn_bound.specs.Portions.{ArePortions}
+use Rattle.sn_bound.specs.Bound.{SendsPortions, exchanges_for}
 use Rattle.sn_bound.specs.Whole.{RetrievesNothing, WholeStays}
 use Rattle.sn_client.specs.Runs.{Act, AreRounds, IsDone, IsDue, IsRound, Round, Standing, acts_of}
 use Rattle.sn_client.specs.Sending.{AreChosen, AreWaiting, NoneWaits, Numbered, SomeWaits}
@@ -49,15 +49,15 @@ done_none rows (answer.Account token identifier uuid) done = absurd done
 done_none rows (answer.Params params) done = absurd done
 done_none rows (answer.Refused status tag more) done = absurd done
 
--- ---- batches
+-- ---- portions
 
 abbrev FallInto : List Numbered → ℕ → Type 0
-FallInto waiting count = (batches : List (List Numbered)) × AreBatches batches waiting × (count ≡ length batches)
+FallInto waiting count = (portions : List (List Numbered)) × ArePortions portions waiting × (count ≡ length portions)
 
 one_more : (rows : Rows) (waiting chosen later : List Numbered) (count : ℕ) → AreWaiting rows waiting → AreChosen rows chosen later → chosen ≢ []
     → FallInto later count → FallInto waiting (suc count)
-one_more rows waiting chosen later count wait x some (batches, are, is) =
-    (chosen ∷ batches, (later, one_waiting rows waiting (chosen ++ later) wait x.all, is_front rows chosen later x some, are), omega arith)
+one_more rows waiting chosen later count wait x some (portions, are, is) =
+    (chosen ∷ portions, (later, one_waiting rows waiting (chosen ++ later) wait x.all, is_front rows chosen later x some, are), omega arith)
 
 -- ---- all exchanges
 
@@ -106,7 +106,7 @@ module _ (laws : RoundLaws) (stays : WholeStays) (keeps : Keeps) (says : SaysSom
   -- from the first
   pub all_rounds : (rounds : List Round) (at after : Standing) (acts : List Act) (v : World) (t : Ideal) (server : Rows) (fates : List Fate)
       → HasAllAt secret name v t server at.rows → at.last ≡ None → AreRounds at rounds after → IsDone after.rows after.last
-      → AreServed server (flat_map acts_of rounds ++ acts) fates → SendsBatches at.rows (length rounds)
+      → AreServed server (flat_map acts_of rounds ++ acts) fates → SendsPortions at.rows (length rounds)
   all_rounds [] at after acts v t server fates k first same done over =
       absurd (subst (λ (o : Option Answer). IsDone at.rows o) first (subst (λ (z : Standing). IsDone z.rows z.last) same done))
   all_rounds (round ∷ rounds) at after acts v t server fates k first (between, is, rest) done over = by is.sends.chosen refl
@@ -123,19 +123,19 @@ module _ (laws : RoundLaws) (stays : WholeStays) (keeps : Keeps) (says : SaysSom
       none_later [] later_is none = refl
       none_later (next ∷ more) later_is none = absurd ((is.sends.chosen_are.longest next more later_is).0 none)
 
-      counted : (batches : List (List Numbered)) → suc (length rounds) ≡ length batches → suc (length rounds) ≡ exchanges_for batches
+      counted : (portions : List (List Numbered)) → suc (length rounds) ≡ length portions → suc (length rounds) ≡ exchanges_for portions
       counted [] count = absurd (omega arith)
-      counted (batch ∷ batches) count = count
+      counted (portion ∷ portions) count = count
 
-      by : (chosen : List Numbered) → is.sends.chosen ≡ chosen → SendsBatches at.rows (suc (length rounds))
+      by : (chosen : List Numbered) → is.sends.chosen ≡ chosen → SendsPortions at.rows (suc (length rounds))
       by [] none =
           let no_later : is.sends.later ≡ [] = none_later is.sends.later refl none in
           let count : length rounds ≡ 0 =
-          others.2 ∙ ap length (last_one others.0 (subst (λ (ws : List Numbered). AreBatches others.0 ws) no_later others.1)) in
+          others.2 ∙ ap length (last_one others.0 (subst (λ (ws : List Numbered). ArePortions others.0 ws) no_later others.1)) in
           record {
             waiting = is.sends.chosen ++ is.sends.later;
             wait = is.sends.chosen_are.all;
-            batches = [];
+            portions = [];
             are = ap (λ (ws : List Numbered). ws ++ is.sends.later) none ∙ no_later;
             sent = ap suc count;
           }
@@ -146,7 +146,7 @@ module _ (laws : RoundLaws) (stays : WholeStays) (keeps : Keeps) (says : SaysSom
           record {
             waiting = is.sends.chosen ++ is.sends.later;
             wait = is.sends.chosen_are.all;
-            batches = more.0;
+            portions = more.0;
             are = more.1;
             sent = counted more.0 more.2;
           }

@@ -1,7 +1,7 @@
 -- How many requests a change of password makes that is answered, with no other's request served between its own.
 use Rattle.std.specs.Prelude.{◌≡◌, ◌+◌, ◌≤◌, ℕ, List, [], ◌∷◌, length}
 use Rattle.rand_chacha.specs.ChaCha.{ChaCha}
-use Rattle.sn_bound.specs.Batches.{AreBatches}
+use Rattle.sn_bound.specs.Portions.{ArePortions}
 use Rattle.sn_client.specs.Runs.{Act, Halt, Run, passwd}
 use Rattle.sn_client.specs.Sending.{AreWaiting, Numbered}
 use Rattle.sn_client.specs.States.{HasOwner}
@@ -16,25 +16,25 @@ use Rattle.sn_world.specs.Calls.{AreServed, Fate}
 use Rattle.sn_world.specs.Holds.{Holds, TokensDiffer}
 use Rattle.sn_world.specs.World.{World}
 
--- one request for each batch; and one where there is none
+-- one request for each portion; and one where there is none
 abbrev pub exchanges_for : {A : Type 0} → List A → ℕ
 exchanges_for [] = 1
-exchanges_for (batch ∷ batches) = length (batch ∷ batches)
+exchanges_for (portion ∷ portions) = length (portion ∷ portions)
 
--- behind the adoption these items wait, fall into these batches, and are sent in as many exchanges
-pub record SendsBatches (rows : Rows) (exchanges : ℕ) : Type 0 where
+-- behind the adoption these items wait, fall into these portions, and are sent in as many exchanges
+pub record SendsPortions (rows : Rows) (exchanges : ℕ) : Type 0 where
   pub waiting : List Numbered
   pub wait : AreWaiting rows waiting
-  pub batches : List (List Numbered)
-  pub are : AreBatches batches waiting
-  pub sent : exchanges ≡ exchanges_for batches
+  pub portions : List (List Numbered)
+  pub are : ArePortions portions waiting
+  pub sent : exchanges ≡ exchanges_for portions
 
--- of a change of password that is answered on a device that is ready: its first row of exchanges is that of a sync; its second sends each batch in one
--- exchange. So it makes at most as many requests as the first row has exchanges and there are batches, and two more
+-- of a change of password that is answered on a device that is ready: its first row of exchanges is that of a sync; its second sends each portion in one
+-- exchange. So it makes at most as many requests as the first row has exchanges and there are portions, and two more
 pub record IsBounded (server rows : Rows) (words : ChaCha) (password : Bytes) (cost : ℕ) (acts : List Act) (fates : List Fate) (halt : Halt)
     (x : BehindFirst server rows words acts fates) (c : IsChanged password cost x.first.behind.at x.first.behind.later halt) : Type 0 where
-  pub second : SendsBatches (rows_made x.first.behind.at c.is_made) (length c.second.behind.rounds)
-  pub at_most : requests_in acts ≤ 2 + length x.first.behind.rounds + length second.batches
+  pub second : SendsPortions (rows_made x.first.behind.at c.is_made) (length c.second.behind.rounds)
+  pub at_most : requests_in acts ≤ 2 + length x.first.behind.rounds + length second.portions
 
 abbrev pub ChangesBounded : Type 0
 ChangesBounded = (secret : Bytes) (w : World) (s : Ideal) (name : Bytes) (owner : OwnerRow) (least : ℕ) (password : Bytes) (cost : ℕ) (words : ChaCha)

@@ -1,4 +1,4 @@
-pub mod Batches
+pub mod Portions
 pub mod Bound
 pub mod Commits
 pub mod Whole

@@ -1,7 +1,7 @@
 //! How many requests and commits a change of password makes, by the definitions alone. The functions call the
 //! laws below them and do nothing else; their contracts are the laws.
 
-ghost use Rattle.sn_bound.specs.Batches.{FewBatches, OneBatching};
+ghost use Rattle.sn_bound.specs.Portions.{FewPortions, OneDivision};
 ghost use Rattle.sn_bound.specs.Bound.{ChangesBounded};
 ghost use Rattle.sn_bound.specs.Commits.{ChangesCommit};
 ghost use Rattle.sn_bound.specs.Whole.{SecondWhole, WholeBegins, WholeChanges, WholeStays};
@@ -16,14 +16,14 @@ use sn_world::{
     sends_are_posted, served_tells, signed_in_adopts, synced_rows,
 };
 
-/// Items that are light fall into as few batches as 150 to a request allow.
-pub fn few_batches()
-    ensures { FewBatches }
+/// Items that are light fall into as few portions as 150 to a request allow.
+pub fn few_portions()
+    ensures { FewPortions }
 {}
 
-/// Any items fall into batches, in just one way.
-pub fn one_batching()
-    ensures { OneBatching }
+/// Any items fall into portions, in just one way.
+pub fn one_division()
+    ensures { OneDivision }
 {}
 
 /// Behind an exchange whose answer leaves no page, a device has all versions of its account.
@@ -55,8 +55,8 @@ pub fn second_whole()
     stays_sound();
 }
 
-/// A change of password that is answered sends each batch of what waits behind its adoption in one exchange: so
-/// it makes at most as many requests as its first row has exchanges and there are batches, and two more.
+/// A change of password that is answered sends each portion of what waits behind its adoption in one exchange: so
+/// it makes at most as many requests as its first row has exchanges and there are portions, and two more.
 pub fn changes_bounded()
     ensures { ChangesBounded }
 {

@@ -4,6 +4,6 @@
 mod laws;
 
 pub use laws::{
-    changes_bounded, changes_commit, few_batches, one_batching, second_whole, whole_begins,
+    changes_bounded, changes_commit, few_portions, one_division, second_whole, whole_begins,
     whole_changes, whole_stays,
 };

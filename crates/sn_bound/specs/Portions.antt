@@ -9,11 +9,11 @@ pub record IsFront (front later : List Numbered) : Type 0 where
   pub fits : FitsSending front ⊎ (length front ≡ 1)
   pub longest : (next : Numbered) (others : List Numbered) → later ≡ next ∷ others → ¬ (FitsSending (front ++ next ∷ []))
 
--- they fall into these batches: each is the front that one request takes of what those before it leave
-abbrev pub AreBatches : List (List Numbered) → List Numbered → Type 0
-AreBatches [] waiting = waiting ≡ []
-AreBatches (front ∷ batches) waiting =
-    (later : List Numbered) × (waiting ≡ front ++ later) × IsFront front later × AreBatches batches later
+-- they fall into these portions: each is the front that one request takes of what those before it leave
+abbrev pub ArePortions : List (List Numbered) → List Numbered → Type 0
+ArePortions [] waiting = waiting ≡ []
+ArePortions (front ∷ portions) waiting =
+    (later : List Numbered) × (waiting ≡ front ++ later) × IsFront front later × ArePortions portions later
 
 -- no 150 of them that follow one another have more bytes than a request takes
 abbrev pub AreLight : List Numbered → Type 0
@@ -21,11 +21,11 @@ AreLight waiting = (before some later : List Numbered) → waiting ≡ before ++
     → sum_by (λ w. weight_of (sent_of w.1)) some ≤ most_bytes
 
 -- then they fall into as few as 150 to a request allow
-abbrev pub FewBatches : Type 0
-FewBatches = (waiting : List Numbered) (batches : List (List Numbered)) → AreBatches batches waiting → AreLight waiting
-    → (length waiting ≤ most_sent * length batches) × (most_sent * length batches < length waiting + most_sent)
+abbrev pub FewPortions : Type 0
+FewPortions = (waiting : List Numbered) (portions : List (List Numbered)) → ArePortions portions waiting → AreLight waiting
+    → (length waiting ≤ most_sent * length portions) × (most_sent * length portions < length waiting + most_sent)
 
--- any items fall into batches, in just one way
-abbrev pub OneBatching : Type 0
-OneBatching = (waiting : List Numbered) → (batches : List (List Numbered)) × AreBatches batches waiting
-    × ((others : List (List Numbered)) → AreBatches others waiting → others ≡ batches)
+-- any items fall into portions, in just one way
+abbrev pub OneDivision : Type 0
+OneDivision = (waiting : List Numbered) → (portions : List (List Numbered)) × ArePortions portions waiting
+    × ((others : List (List Numbered)) → ArePortions others waiting → others ≡ portions)

@@ -1,8 +1,8 @@
--- Fronts and batches of the items that wait.
+-- Fronts and portions of the items that wait.
 use Rattle.std.proofs.Common.{◌≡◌, ◌≢◌, ◌⊎◌, ◌+◌, ◌*◌, ◌<◌, ◌≤◌, List, [], ◌∷◌, ◌++◌, length, length-append, refl, sym, ap, ◌∙◌, subst, inl, inr, append_assoc, arith}
 use Rattle.std.proofs.lemmas.Bool.{cases_lt}
 use Rattle.std.proofs.lemmas.List.{append-nil}
-use Rattle.sn_bound.specs.Batches.{AreBatches, AreLight, FewBatches, IsFront}
+use Rattle.sn_bound.specs.Portions.{ArePortions, AreLight, FewPortions, IsFront}
 use Rattle.sn_client.specs.Sending.{AreChosen, FitsSending, Numbered, most_sent}
 use Rattle.sn_rows.specs.Table.{Rows}
 
@@ -25,7 +25,7 @@ front_size : (front later : List Numbered) → IsFront front later → FitsSendi
 front_size front later f (inl fits) = fits.0
 front_size front later f (inr one) = omega arith
 
--- ---- batches
+-- ---- portions
 
 pub light_later : (front later : List Numbered) → AreLight (front ++ later) → AreLight later
 light_later front later light before some rest e few =
@@ -46,29 +46,29 @@ some_length : {A : Type 0} (xs : List A) → xs ≢ [] → 1 ≤ length xs
 some_length [] some = absurd (some refl)
 some_length (x ∷ xs) some = omega arith
 
-pub last_one : (batches : List (List Numbered)) → AreBatches batches [] → batches ≡ []
+pub last_one : (portions : List (List Numbered)) → ArePortions portions [] → portions ≡ []
 last_one [] none = refl
-last_one (front ∷ batches) (later, is, f, rest) = absurd (f.some (none_of front later is))
+last_one (front ∷ portions) (later, is, f, rest) = absurd (f.some (none_of front later is))
 
-few_more : (front later : List Numbered) (batches : List (List Numbered)) → IsFront front later → AreBatches batches later → AreLight (front ++ later)
-    → length later ≤ most_sent * length batches → most_sent * length batches < length later + most_sent
-    → (length (front ++ later) ≤ most_sent * length (front ∷ batches)) × (most_sent * length (front ∷ batches) < length (front ++ later) + most_sent)
-few_more front [] batches f are light most least =
+few_more : (front later : List Numbered) (portions : List (List Numbered)) → IsFront front later → ArePortions portions later → AreLight (front ++ later)
+    → length later ≤ most_sent * length portions → most_sent * length portions < length later + most_sent
+    → (length (front ++ later) ≤ most_sent * length (front ∷ portions)) × (most_sent * length (front ∷ portions) < length (front ++ later) + most_sent)
+few_more front [] portions f are light most least =
     let size = front_size front [] f f.fits in
-    let last : length batches ≡ 0 = ap length (last_one batches are) in
+    let last : length portions ≡ 0 = ap length (last_one portions are) in
     let whole : length (front ++ []) ≡ length front = ap length (append-nil front) in
     let some = some_length front f.some in
     (omega arith, omega arith)
-few_more front (next ∷ others) batches f are light most least =
+few_more front (next ∷ others) portions f are light most least =
     let full = front_full front next others f light in
     let whole = length-append front (next ∷ others) in
     (omega arith, omega arith)
 
-pub few_batches : FewBatches
-few_batches waiting [] are light = let none : length waiting ≡ 0 = ap length are in (omega arith, omega arith)
-few_batches waiting (front ∷ batches) (later, is, f, rest) light =
+pub few_portions : FewPortions
+few_portions waiting [] are light = let none : length waiting ≡ 0 = ap length are in (omega arith, omega arith)
+few_portions waiting (front ∷ portions) (later, is, f, rest) light =
     let light_so : AreLight (front ++ later) = subst AreLight is light in
-    let x = few_batches later batches rest (light_later front later light_so) in
-    let y = few_more front later batches f rest light_so x.0 x.1 in
+    let x = few_portions later portions rest (light_later front later light_so) in
+    let y = few_more front later portions f rest light_so x.0 x.1 in
     let whole : length waiting ≡ length (front ++ later) = ap length is in
     (omega arith, omega arith)

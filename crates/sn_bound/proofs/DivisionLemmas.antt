@@ -1,10 +1,10 @@
--- Any items fall into batches, in just one way.
+-- Any items fall into portions, in just one way.
 use Rattle.std.proofs.Common.{◌≡◌, ◌≢◌, ◌⊎◌, ◌+◌, ◌≤◌, ℕ, zero, suc, List, [], ◌∷◌, ◌++◌, length, length-append, refl, sym, ap, ◌∙◌, subst, inl, inr, append_assoc, arith}
 use Rattle.std.specs.Prelude.{sum_by}
 use Rattle.std.proofs.lemmas.Bool.{cases_lt}
 use Rattle.std.proofs.lemmas.List.{append_cancel_left}
 use Rattle.std.proofs.lemmas.List.Sums.{sum_by-append}
-use Rattle.sn_bound.specs.Batches.{AreBatches, IsFront, OneBatching}
+use Rattle.sn_bound.specs.Portions.{ArePortions, IsFront, OneDivision}
 use Rattle.sn_client.specs.Sending.{FitsSending, Numbered, most_sent, sent_of, weight_of}
 use Rattle.sn_string.specs.Bounds.{most_bytes}
 
@@ -15,7 +15,7 @@ push_some : {A : Type 0} (xs : List A) (x : A) → xs ++ x ∷ [] ≢ []
 push_some [] x none = cc
 push_some (y ∷ xs) x none = cc
 
--- ---- there are batches
+-- ---- there are portions
 
 fits_or_not : (xs : List Numbered) → FitsSending xs ⊎ ¬ (FitsSending xs)
 fits_or_not xs =
@@ -68,13 +68,13 @@ extended (next ∷ others) front some fits =
       }
     ]
 
-batches_of : (n : ℕ) (waiting : List Numbered) → length waiting ≤ n → (batches : List (List Numbered)) × AreBatches batches waiting
-batches_of n [] few = ([], refl)
-batches_of zero (w ∷ waiting) few = absurd (omega arith)
-batches_of (suc n) (w ∷ waiting) few =
+portions_of : (n : ℕ) (waiting : List Numbered) → length waiting ≤ n → (portions : List (List Numbered)) × ArePortions portions waiting
+portions_of n [] few = ([], refl)
+portions_of zero (w ∷ waiting) few = absurd (omega arith)
+portions_of (suc n) (w ∷ waiting) few =
     let x = extended waiting (w ∷ []) (λ e. cc) (inr refl) in
     let shorter : length x.later ≤ length waiting = x.shorter in
-    let y = batches_of n x.later (omega arith) in
+    let y = portions_of n x.later (omega arith) in
     (x.front ∷ y.0, (x.later, x.is, x.is_front, y.1))
 
 -- ---- and no others
@@ -138,17 +138,17 @@ one_front a la b lb f g e =
       | inr (inr past) ↦ absurd (not_past b lb a la g f past)
     ]
 
-one_way : (others batches : List (List Numbered)) (waiting : List Numbered) → AreBatches others waiting → AreBatches batches waiting → others ≡ batches
+one_way : (others portions : List (List Numbered)) (waiting : List Numbered) → ArePortions others waiting → ArePortions portions waiting → others ≡ portions
 one_way [] [] waiting are those = refl
-one_way [] (b ∷ batches) waiting none (later, is, f, rest) = absurd (f.some (none_left b later (sym none ∙ is)))
+one_way [] (b ∷ portions) waiting none (later, is, f, rest) = absurd (f.some (none_left b later (sym none ∙ is)))
 one_way (a ∷ others) [] waiting (later, is, f, rest) none = absurd (f.some (none_left a later (sym none ∙ is)))
-one_way (a ∷ others) (b ∷ batches) waiting (la, a_is, f, a_rest) (lb, b_is, g, b_rest) =
+one_way (a ∷ others) (b ∷ portions) waiting (la, a_is, f, a_rest) (lb, b_is, g, b_rest) =
     let front : a ≡ b = one_front a la b lb f g (sym a_is ∙ b_is) in
     let later : lb ≡ la = append_cancel_left a lb la (ap (λ (xs : List Numbered). xs ++ lb) front ∙ sym b_is ∙ a_is) in
-    let rest : others ≡ batches = one_way others batches la a_rest (subst (AreBatches batches) later b_rest) in
+    let rest : others ≡ portions = one_way others portions la a_rest (subst (ArePortions portions) later b_rest) in
     cc
 
-pub one_batching : OneBatching
-one_batching waiting =
-    let x = batches_of (length waiting) waiting (omega arith) in
+pub one_division : OneDivision
+one_division waiting =
+    let x = portions_of (length waiting) waiting (omega arith) in
     (x.0, x.1, λ others are. one_way others x.0 waiting are x.1)
