@@ -1,13 +1,13 @@
 -- How a head ends.
-use Rattle.std.specs.Prelude.{◌≡◌, ℕ, ◌-◌, List, [], ◌∷◌, ◌++◌, length, take}
+use Rattle.std.specs.Prelude.{◌≡◌, ℕ, ◌+◌, ◌≤◌, List, [], ◌∷◌, ◌++◌, length, take}
 use Rattle.std.specs.List.{flat_map}
-use Rattle.std.proofs.Common.{inl, inr, refl, sym, ◌∙◌, ap, subst, append_assoc, append-nil, arith, length-append}
+use Rattle.std.proofs.Common.{inl, inr, refl, sym, ◌∙◌, ap, subst, append_assoc, append-nil, arith}
 use Rattle.std.proofs.lemmas.List.{take_at}
-use Rattle.httparse.specs.Grammar.{LineEnd, crlf, lf, print_end, Field, print_field, RequestHead, print_request, print_version}
+use Rattle.httparse.specs.Grammar.{LineEnd, crlf, lf, print_end, Field, print_field, RequestHead, ReadsRequest, print_request, print_version}
 use Rattle.httparse.specs.Grammar.{print_blank}
 use Rattle.httparse.proofs.GrammarLemmas.{cons-append}
 use Rattle.std.proofs.lemmas.Bool.{cases_lt}
-use Rattle.sn_http.specs.Ends.{EndsBlank, EndsWithin}
+use Rattle.sn_http.specs.Ends.{EndsBlank}
 
 -- a line's end stands at the end
 abbrev pub EndsLine : List ℕ → Type 0
@@ -43,14 +43,14 @@ head_ends h =
     subst EndsBlank (regroup (print_blank h.blank) h.method h.target (print_version h.minor) (print_end h.line_end) (flat_map print_field h.fields) (print_end h.last))
     (blank_behind (line ++ print_end h.line_end ++ flat_map print_field h.fields) h.last (lines_end (line ++ print_end h.line_end) h.fields started))
 
--- a head lies within the bytes that it begins
-pub within_all : (bytes : List ℕ) → EndsWithin (length bytes) bytes
-within_all bytes = λ h rest x. omega (arith, ap length x.1, length-append (print_request h) rest)
+-- no head ends behind the first of these counts of bytes and within the second
+abbrev pub NoneEnds : ℕ → ℕ → List ℕ → Type 0
+NoneEnds seen at bytes = (head : RequestHead) (rest : List ℕ) → ReadsRequest bytes head rest → length (print_request head) ≤ at → length (print_request head) ≤ seen
 
 -- no head ends where no empty line does
-pub ends_before : (bytes : List ℕ) (end : ℕ) → EndsWithin end bytes → ¬ (EndsBlank (take end bytes)) → EndsWithin (end - 1) bytes
-ends_before bytes end within unended = λ h rest x. elim (cases_lt (length (print_request h)) end) [
-  | inl lt ↦ omega (arith, lt)
-  | inr ge ↦ let same : end ≡ length (print_request h) = omega (arith, ge, within h rest x) in
-      absurd (unended (subst EndsBlank (sym (ap (λ (l : List ℕ). take end l) x.1 ∙ take_at (print_request h) rest end (sym same))) (head_ends h)))
+pub none_ends_on : (bytes : List ℕ) (seen at : ℕ) → NoneEnds seen at bytes → ¬ (EndsBlank (take (at + 1) bytes)) → NoneEnds seen (at + 1) bytes
+none_ends_on bytes seen at none unended = λ h rest x le. elim (cases_lt at (length (print_request h))) [
+  | inl lt ↦ let same : length (print_request h) ≡ at + 1 = omega (arith, lt, le) in
+      absurd (unended (subst EndsBlank (sym (ap (λ (l : List ℕ). take (at + 1) l) x.1 ∙ take_at (print_request h) rest (at + 1) same)) (head_ends h)))
+  | inr ge ↦ none h rest x ge
 ]

@@ -1,5 +1,5 @@
 // Where a head may end: only there is it worth while to parse it.
-ghost use Rattle.std.specs.Prelude.{◌≡◌, ◌<◌, ◌≤◌, true, false, length, IsTrue};
+ghost use Rattle.std.specs.Prelude.{◌≡◌, ◌<◌, ◌≤◌, ◌+◌, true, false, length, take, IsTrue};
 ghost use Rattle.sn_http.specs.Blanks.{IsBlank, IsLineEnd};
 ghost use Rattle.sn_http.specs.Ends.{EndsBlank, EndsWithin};
 
@@ -9,14 +9,22 @@ pub(crate) fn may_end_past(bytes: &[u8], seen: usize) -> bool
     ensures within { result ≡ false → EndsWithin seen bytes.now }
     ensures past { IsTrue result → seen < length bytes.now }
 {
-    let mut end = bytes.len();
-    'ends: while seen < end {
-        if ends_blank(&bytes[..end]) {
+    let mut at = seen;
+    'ends: while at < bytes.len() {
+        if ends_blank_with(bytes, at) {
             return true;
         }
-        end -= 1;
+        at += 1;
     }
     false
+}
+
+// Whether an empty line ends with this byte. Most bytes end no line at all.
+fn ends_blank_with(bytes: &[u8], at: usize) -> bool
+    requires { at < length bytes.now }
+    ensures { result ≡ false → ¬ (EndsBlank (take (at + 1) bytes.now)) }
+{
+    bytes[at] == b'\n' && ends_blank(&bytes[..at + 1])
 }
 
 fn ends_blank(bytes: &[u8]) -> bool
