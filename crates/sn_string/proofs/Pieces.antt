@@ -83,13 +83,13 @@ IsFront-nil text = record {
 }
 
 -- one more piece
-pub IsFront-more : (text piece bytes : List ℕ) (done count : ℕ) → IsFront text done count → piece ≡ take 4096 (drop done text)
-    → done + 4096 < length text → IsBase64 piece bytes → length bytes ≡ 3072 → IsFront text (done + 4096) (count + 3072)
+pub IsFront-more : (text piece bytes : List ℕ) (done count : ℕ) → IsFront text done count → piece ≡ take 1024 (drop done text)
+    → done + 1024 < length text → IsBase64 piece bytes → length bytes ≡ 768 → IsFront text (done + 1024) (count + 768)
 IsFront-more text piece bytes done count h piece_is more encoded long =
-    let text_is : take (done + 4096) text ≡ take done text ++ piece = rw piece_is (take-add done 4096 text) in
+    let text_is : take (done + 1024) text ≡ take done text ++ piece = rw piece_is (take-add done 1024 text) in
     let P : List ℕ → Type 0 = λ t. IsBase64 t (h.bytes ++ bytes) in
     record {
-      groups = h.groups + 1024;
+      groups = h.groups + 256;
       done_is = omega (arith, h.done_is);
       count_is = omega (arith, h.count_is);
       within = omega arith;
@@ -124,17 +124,17 @@ rest_of text all done count h encoded =
     let within = count_within text all done count h encoded in
     rw (h.done_is, h.count_is) (cut text all h.groups encoded (omega (arith, h.count_is))).back
 
--- and a piece with more text after it stands for 3072 bytes
-pub piece_of : (text all piece : List ℕ) (done count : ℕ) → IsFront text done count → IsBase64 text all → piece ≡ take 4096 (drop done text)
-    → done + 4096 < length text → (bytes : List ℕ) × IsBase64 piece bytes × (length bytes ≡ 3072)
+-- and a piece with more text after it stands for 768 bytes
+pub piece_of : (text all piece : List ℕ) (done count : ℕ) → IsFront text done count → IsBase64 text all → piece ≡ take 1024 (drop done text)
+    → done + 1024 < length text → (bytes : List ℕ) × IsBase64 piece bytes × (length bytes ≡ 768)
 piece_of text all piece done count h encoded piece_is more =
     let rest = rest_of text all done count h encoded in
-    let left : 4096 < length (drop done text) = omega (arith, length-drop done text) in
-    let few = groups_within (drop done text) (drop count all) 1024 rest left in
-    let P : List ℕ → Type 0 = λ t. IsBase64 t (take 3072 (drop count all)) in (
-      take 3072 (drop count all),
-      subst P (sym piece_is) (cut (drop done text) (drop count all) 1024 rest (omega arith)).front,
-      length-take-le 3072 (drop count all) (omega arith),
+    let left : 1024 < length (drop done text) = omega (arith, length-drop done text) in
+    let few = groups_within (drop done text) (drop count all) 256 rest left in
+    let P : List ℕ → Type 0 = λ t. IsBase64 t (take 768 (drop count all)) in (
+      take 768 (drop count all),
+      subst P (sym piece_is) (cut (drop done text) (drop count all) 256 rest (omega arith)).front,
+      length-take-le 768 (drop count all) (omega arith),
     )
 
 -- what a count of a piece's bytes says
@@ -173,18 +173,18 @@ refused text e err bytes encoded =
     let ok = decode_of-base64 text bytes encoded in
     cc
 
--- a piece with more text after it that isn't counted as 3072 refuses the whole
-pub not_whole : (text piece : List ℕ) (done count : ℕ) (found : Option ℕ) → IsFront text done count → piece ≡ take 4096 (drop done text)
-    → done + 4096 < length text → IfSome found (Counts piece) → IfNone found (IsNoBase64 piece) → (found ≡ Some 3072 → ⊥) → IsNoBase64 text
+-- a piece with more text after it that isn't counted as 768 refuses the whole
+pub not_whole : (text piece : List ℕ) (done count : ℕ) (found : Option ℕ) → IsFront text done count → piece ≡ take 1024 (drop done text)
+    → done + 1024 < length text → IfSome found (Counts piece) → IfNone found (IsNoBase64 piece) → (found ≡ Some 768 → ⊥) → IsNoBase64 text
 not_whole text piece done count found h piece_is more some none other all encoded =
     let whole = piece_of text all piece done count h encoded piece_is more in
     other (counted piece whole.0 found some none whole.1 ∙ ap Some whole.2)
 
 -- one that is goes to the front
-pub more_front : (text piece : List ℕ) (done count : ℕ) (found : Option ℕ) → IsFront text done count → piece ≡ take 4096 (drop done text)
-    → done + 4096 < length text → IfSome found (Counts piece) → found ≡ Some 3072 → IsFront text (done + 4096) (count + 3072)
+pub more_front : (text piece : List ℕ) (done count : ℕ) (found : Option ℕ) → IsFront text done count → piece ≡ take 1024 (drop done text)
+    → done + 1024 < length text → IfSome found (Counts piece) → found ≡ Some 768 → IsFront text (done + 1024) (count + 768)
 more_front text piece done count found h piece_is more some is =
-    let counts : Counts piece 3072 = rw is at some in
+    let counts : Counts piece 768 = rw is at some in
     IsFront-more text piece counts.0 done count h piece_is more counts.1 counts.2
 
 pub last_counted : (text last : List ℕ) (done count n : ℕ) → IsFront text done count → last ≡ drop done text → Counts last n → Counts text (count + n)

@@ -6,10 +6,11 @@ ghost use Rattle.sn_string.specs.Grammar.{IsCiphertext};
 
 use base64::engine::general_purpose::STANDARD;
 
-// A whole number of groups of four characters, which stand for three bytes each.
-const PIECE: usize = 4096;
+// A whole number of groups of four characters, which stand for three bytes each. Most ciphertexts are
+// one piece, and each check fills the room of a piece first, so it is small.
+const PIECE: usize = 1024;
 
-const PIECE_BYTES: usize = 3072;
+const PIECE_BYTES: usize = 768;
 
 /// Whether the text is the base64 of one block of 16 bytes or more.
 pub fn is_ciphertext(text: &str) -> bool

@@ -9,6 +9,9 @@ use crate::params::Params;
 use crate::text::Text;
 use std::alloc::{AllocError, Global};
 
+// The most bytes that plain JSON has beside its two texts: ten are of the cost.
+const FRAME: usize = 68;
+
 /// The parameters, where the text is what is written for them, with nothing escaped.
 pub(crate) fn plain_params(alloc: Global, json: &[u8]) -> Result<Option<Params>, AllocError>
     ensures { IfOk result (λ found. IfSome found (λ p. IsParamsJson json.now p)) }
@@ -69,14 +72,18 @@ fn is_plain_byte(byte: u8) -> bool
     byte >= 32 && byte != b'"' && byte != b'\\'
 }
 
-// The JSON of parameters whose texts are plain.
+// The JSON of parameters whose texts are plain. It takes its room once.
 fn plain_json(alloc: Global, params: &Params) -> Result<String, AllocError>
     ensures { IfOk result (λ json. string_bytes json ≡ plain_json params.now) }
 {
     let identifier = params.identifier.as_str();
     let pw_nonce = params.pw_nonce.as_str();
-    format!(in alloc;
+    let room = identifier.len() + pw_nonce.len() + FRAME;
+    let mut json = String::with_capacity(alloc, room)?;
+    write!(
+        json,
         "{{\"identifier\":\"{identifier}\",\"pw_cost\":{},\"pw_nonce\":\"{pw_nonce}\",\"version\":\"003\"}}",
         params.pw_cost
-    )
+    )?;
+    Ok(json)
 }

@@ -11,19 +11,19 @@ loop-done-init c = IsFront-nil c.args.text.now
 
 pub returns-then-ne-clause-none : goal.returns-then-ne-clause-none
 returns-then-ne-clause-none c =
-    let size : c.loop-done.done + 4096 - c.loop-done.done ≡ 4096 = omega arith in
+    let size : c.loop-done.done + 1024 - c.loop-done.done ≡ 1024 = omega arith in
     not_whole c.args.text.now _ c.loop-done.done c.loop-done.count c.piece_len.result c.loop-done.invariant
     (ap (λ n. take n (drop c.loop-done.done c.args.text.now)) size) (omega arith)
     c.piece_len.ensures.some c.piece_len.ensures.none
-    (other_option c.piece_len.result 3072 (sym c.if-ne.ensures))
+    (other_option c.piece_len.result 768 (sym c.if-ne.ensures))
 
 pub loop-done-preserved : goal.loop-done-preserved
 loop-done-preserved c =
-    let size : c.loop-done.done + 4096 - c.loop-done.done ≡ 4096 = omega arith in
-    let same : option_eq eqb c.piece_len.result (Some 3072) ≡ true = search rules in
+    let size : c.loop-done.done + 1024 - c.loop-done.done ≡ 1024 = omega arith in
+    let same : option_eq eqb c.piece_len.result (Some 768) ≡ true = search rules in
     more_front c.args.text.now _ c.loop-done.done c.loop-done.count c.piece_len.result c.loop-done.invariant
     (ap (λ n. take n (drop c.loop-done.done c.args.text.now)) size) (omega arith)
-    c.piece_len.ensures.some (option_eq-some c.piece_len.result 3072 same)
+    c.piece_len.ensures.some (option_eq-some c.piece_len.result 768 same)
 
 pub returns-in_err-last-clause-none : goal.returns-in_err-last-clause-none
 returns-in_err-last-clause-none c =
