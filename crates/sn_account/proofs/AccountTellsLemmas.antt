@@ -13,7 +13,7 @@ use Rattle.sn_string.specs.declared.params.Params.{Params}
 use Rattle.sn_sync.specs.declared.answer.Answer.TheVariants as answer
 use Rattle.sn_account.specs.AccountTells.{ChangesTell, ParametersTell, RegistersTell, SignInsTell, TellsAccount}
 use Rattle.sn_account.specs.Lookups.{Bytes, HasAccount, HasStore}
-use Rattle.sn_account.specs.Rules.{Begins, IsPresent, Replaces}
+use Rattle.sn_account.specs.Rules.{BeginsAccount, IsPresent, Replaces}
 use Rattle.sn_account.specs.Sessions.{IsSession, account_uuid, session_token}
 use Rattle.sn_account.proofs.PresentLemmas.{lengths}
 use Rattle.sn_account.proofs.SoundSteps.{Steps, put_both, put_count}
@@ -48,7 +48,7 @@ module _ (rows after : Rows) (new : StoreRow) (n : ℕ) (row : AccountRow) (made
 -- ---- registration
 
 module _ (rows : Rows) (store : StoreRow) (has : HasStore rows store) (params : Params) (pw : Bytes) (changes : List Change) (token identifier uuid : Bytes)
-    (b : Begins store params pw changes (answer.Account token identifier uuid)) where
+    (b : BeginsAccount store params pw changes (answer.Account token identifier uuid)) where
   abbrev next : ℕ
   next = suc store.accounts
 

@@ -32,7 +32,7 @@ use Rattle.sn_account.specs.Incoming.{Progress, Takes, TakesAll}
 use Rattle.sn_account.specs.Lookups.{Bytes, HasStore}
 use Rattle.sn_account.specs.Rule.{Rule, RuleOf}
 use Rattle.sn_account.specs.RuleBatch.{BatchesFit, IsServerBatch, IsServerKind}
-use Rattle.sn_account.specs.Rules.{Begins, ChangesKeys, ChangesPassword, Registers}
+use Rattle.sn_account.specs.Rules.{BeginsAccount, ChangesKeys, ChangesPassword, Registers}
 use Rattle.sn_account.specs.Syncs.{AreChanges, Serves, ServesBounded, Synced, Syncs, most_items, start}
 use Rattle.sn_account.proofs.PresentLemmas.{lengths}
 
@@ -159,7 +159,7 @@ few_none F changes e = subst (AreFew F) (sym e) (record { small = All-nil (IsSma
 -- ---- by route
 
 begins_few : (F : Known) (store : StoreRow) (params : Params) (pw : Bytes) (changes : List Change) (given : Answer) → HasSecret F store.secret
-    → Begins store params pw changes given → AreFew F changes
+    → BeginsAccount store params pw changes given → AreFew F changes
 begins_few F store params pw changes given has b =
     subst (AreFew F) (sym b.changes_are)
     (record {

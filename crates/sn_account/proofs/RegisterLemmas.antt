@@ -10,7 +10,7 @@ use Rattle.sn_sync.specs.declared.answer.Answer.{Answer}
 use Rattle.sn_sync.specs.declared.answer.Answer.TheVariants as answer
 use Rattle.sn_sync.specs.declared.answer.More.TheVariants as more
 use Rattle.sn_account.specs.Lookups.{Bytes, HasStore, IsNamed, IsUnknown}
-use Rattle.sn_account.specs.Rules.{Begins, Registers}
+use Rattle.sn_account.specs.Rules.{BeginsAccount, Registers}
 use Rattle.sn_account.specs.Sound.{IsSound, most_accounts}
 use Rattle.sn_account.specs.declared.accounts.Ruled.{Ruled}
 use Rattle.sn_account.proofs.NamedLemmas.{found_named, none_found, one_store}
@@ -77,10 +77,10 @@ may_begin rows store params found cause is = subst (IsCause rows store params) i
 -- and has done what is asked
 pub begins : {E : Type 0} (rows : Rows) (store row : StoreRow) (params : Params) (pw : Bytes) (result : Result Ruled E)
     → HasStore rows store → HasStore rows row → IsUnknown rows params.identifier × (store.accounts < most_accounts)
-    → IfOk result (λ ruled. Begins row params pw ruled.changes ruled.answer)
+    → IfOk result (λ ruled. BeginsAccount row params pw ruled.changes ruled.answer)
     → IfOk result (λ ruled. Registers rows store params pw ruled.changes ruled.answer)
 begins rows store row params pw result stands has may begun =
-    let Of : StoreRow → Type 0 = λ r. IfOk result (λ (ruled : Ruled). Begins r params pw ruled.changes ruled.answer) in
+    let Of : StoreRow → Type 0 = λ r. IfOk result (λ (ruled : Ruled). BeginsAccount r params pw ruled.changes ruled.answer) in
     let own : Of store = subst Of (one_store rows row store has stands) begun in
-    IfOk-weaker result (λ (ruled : Ruled). Begins store params pw ruled.changes ruled.answer)
+    IfOk-weaker result (λ (ruled : Ruled). BeginsAccount store params pw ruled.changes ruled.answer)
     (λ (ruled : Ruled). Registers rows store params pw ruled.changes ruled.answer) (λ ruled is. inr (inr (may.0, may.1, is))) own

@@ -17,7 +17,7 @@ use Rattle.sn_sync.specs.declared.item.Item.{Item}
 use Rattle.sn_sync.specs.declared.request.Request.TheVariants as request
 use Rattle.sn_account.specs.Lookups.{Bytes, HasItem, HasStore}
 use Rattle.sn_account.specs.RuleLaws.{SparesAccount, SparesEveryOther}
-use Rattle.sn_account.specs.Rules.{Begins, ChangesPassword, Registers}
+use Rattle.sn_account.specs.Rules.{BeginsAccount, ChangesPassword, Registers}
 use Rattle.sn_account.specs.Sessions.{IsSession}
 use Rattle.sn_account.specs.Sound.{IsSound}
 use Rattle.sn_account.specs.Syncs.{AreChanges, Synced, start}
@@ -36,7 +36,7 @@ spared_none rows changes m e =
 
 -- ---- registration
 
-begun_spares : (rows : Rows) (s : IsSound rows) (params : Params) (pw : Bytes) (changes : List Change) (given : Answer) (b : Begins s.store params pw changes given)
+begun_spares : (rows : Rows) (s : IsSound rows) (params : Params) (pw : Bytes) (changes : List Change) (given : Answer) (b : BeginsAccount s.store params pw changes given)
     (m : ℕ) → m ≢ suc s.store.accounts → SparesAccount rows (rows_after rows changes) m
 begun_spares rows s params pw changes given b m apart =
     let after : Rows = rows_after rows (b.account ∷ b.generation ∷ b.count ∷ []) in
@@ -56,7 +56,7 @@ registers_spares rows s store has params pw changes given (inl (taken, refused))
 registers_spares rows s store has params pw changes given (inr (inl (unknown, full, refused))) m apart = spared_none rows changes m refused.0
 registers_spares rows s store has params pw changes given (inr (inr (unknown, less, begun))) m apart =
     let same : store ≡ s.store = one_store rows store s.store has s.stands in
-    begun_spares rows s params pw changes given (subst (λ (x : StoreRow). Begins x params pw changes given) same begun) m
+    begun_spares rows s params pw changes given (subst (λ (x : StoreRow). BeginsAccount x params pw changes given) same begun) m
     (subst (λ (x : StoreRow). m ≢ suc x.accounts) same apart)
 
 -- ---- sync

@@ -11,7 +11,7 @@ use Rattle.sn_string.specs.declared.params.Params.{Params}
 use Rattle.sn_sync.specs.declared.answer.Answer.{Answer}
 use Rattle.sn_account.specs.Laws.{StaysSoundRegistering}
 use Rattle.sn_account.specs.Lookups.{Bytes, HasAccount, HasStore, IsUnknown}
-use Rattle.sn_account.specs.Rules.{Begins}
+use Rattle.sn_account.specs.Rules.{BeginsAccount}
 use Rattle.sn_account.specs.Sound.{IsSound, most_accounts}
 use Rattle.sn_account.proofs.SoundFields.{Fits, stays_sound}
 use Rattle.sn_account.proofs.SoundSteps.{Steps, put_both, put_count}
@@ -20,7 +20,7 @@ use Rattle.sn_account.proofs.SoundSteps.{Steps, put_both, put_count}
 pub one_store : (rows : Rows) (a b : StoreRow) → HasStore rows a → HasStore rows b → a ≡ b
 one_store rows a b h k = cc
 
-module _ (rows : Rows) (s : IsSound rows) (params : Params) (pw : Bytes) (changes : List Change) (given : Answer) (b : Begins s.store params pw changes given) where
+module _ (rows : Rows) (s : IsSound rows) (params : Params) (pw : Bytes) (changes : List Change) (given : Answer) (b : BeginsAccount s.store params pw changes given) where
   abbrev next : ℕ
   next = suc s.store.accounts
 
@@ -73,5 +73,5 @@ registers_soundly rows store params pw changes given s has (inl taken) = sound_u
 registers_soundly rows store params pw changes given s has (inr (inl full)) = sound_unchanged rows changes s full.2.0
 registers_soundly rows store params pw changes given s has (inr (inr begun)) =
     let same : store ≡ s.store = one_store rows store s.store has s.stands in
-    begun_sound rows s params pw changes given (subst (λ (x : StoreRow). Begins x params pw changes given) same begun.2) begun.0
+    begun_sound rows s params pw changes given (subst (λ (x : StoreRow). BeginsAccount x params pw changes given) same begun.2) begun.0
     (subst (λ (x : StoreRow). x.accounts < most_accounts) same begun.1)

@@ -20,7 +20,7 @@ use Rattle.sn_sync.specs.declared.answer.Answer.{Answer}
 use Rattle.sn_sync.specs.declared.answer.Answer.TheVariants as answer
 use Rattle.sn_sync.specs.declared.answer.More.TheVariants as more
 use Rattle.sn_account.specs.Lookups.{Bytes, HasAccount, HasGeneration, IsUnknown}
-use Rattle.sn_account.specs.Rules.{Admits, Begins, ChangesKeys, ChangesPassword, IsBefore, IsLeastBehind, IsPresent, PutsAccount, PutsCount, PutsGeneration, Registers, Rejects, Replaces, SignsIn, Tells, TellsParams}
+use Rattle.sn_account.specs.Rules.{Admits, BeginsAccount, ChangesKeys, ChangesPassword, IsBefore, IsLeastBehind, IsPresent, PutsAccount, PutsCount, PutsGeneration, Registers, Rejects, Replaces, SignsIn, Tells, TellsParams}
 use Rattle.sn_account.specs.Sessions.{IsSession, account_uuid, session_token}
 use Rattle.sn_account.specs.Sound.{IsSound}
 use Rattle.sn_account.proofs.NamedLemmas.{one_account}
@@ -50,7 +50,7 @@ one_count_put a b store x y =
 -- ---- registration
 
 begins_same : (store : StoreRow) (params : Params) (pw : Bytes) (changes others : List Change) (given other : Answer)
-    → Begins store params pw changes given → Begins store params pw others other → Same changes given others other
+    → BeginsAccount store params pw changes given → BeginsAccount store params pw others other → Same changes given others other
 begins_same store params pw changes others given other a b =
     let accounts : a.account ≡ b.account = one_account_put a.account b.account _ _ _ _ a.account_puts b.account_puts in
     let generations : a.generation ≡ b.generation = one_generation_put a.generation b.generation _ _ _ _ a.generation_puts b.generation_puts in

@@ -55,7 +55,7 @@ pub record PutsCount (change : Change) (store : StoreRow) : Type 0 where
 -- ---- registration
 
 -- the account has the next number, and its first keys
-pub record Begins (store : StoreRow) (params : Params) (pw : Bytes) (changes : List Change) (given : Answer) : Type 0 where
+pub record BeginsAccount (store : StoreRow) (params : Params) (pw : Bytes) (changes : List Change) (given : Answer) : Type 0 where
   pub account : Change
   pub account_puts : PutsAccount account (suc store.accounts) params.identifier 1 (check_value pw)
   pub generation : Change
@@ -70,7 +70,7 @@ abbrev pub Registers : Rows → StoreRow → Params → Bytes → List Change �
 Registers rows store params pw changes given =
     (((n : ℕ) × IsNamed rows params.identifier n) × Refuses 409 (codes "taken") more.Nothing changes given)
     ⊎ (IsUnknown rows params.identifier × (store.accounts ≡ most_accounts) × Refuses 409 (codes "full") (more.Number most_accounts) changes given)
-    ⊎ (IsUnknown rows params.identifier × (store.accounts < most_accounts) × Begins store params pw changes given)
+    ⊎ (IsUnknown rows params.identifier × (store.accounts < most_accounts) × BeginsAccount store params pw changes given)
 
 -- ---- parameters
 

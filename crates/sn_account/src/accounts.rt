@@ -2,7 +2,7 @@
 
 ghost use Rattle.std.specs.Prelude.{◌≡◌, ◌↔◌, ◌<◌, ◌≤◌, ◌^◌, [], codes, IfNone, IfOk, IfSome, IsTrue, MatchOption};
 ghost use Rattle.sn_account.specs.Lookups.{Bytes, HasAccount, HasStore, IsNamed, IsUnknown};
-ghost use Rattle.sn_account.specs.Rules.{Begins, IsPresent, PutsAccount, PutsCount, PutsGeneration, Registers, SignsIn, TellsParams};
+ghost use Rattle.sn_account.specs.Rules.{BeginsAccount, IsPresent, PutsAccount, PutsCount, PutsGeneration, Registers, SignsIn, TellsParams};
 ghost use Rattle.sn_account.specs.Sessions.{account_uuid, session_token};
 ghost use Rattle.sn_account.specs.Sound.{IsSound, most_accounts};
 ghost use Rattle.sn_account.specs.States.{IsUnmarked, state_rows};
@@ -18,14 +18,14 @@ use crate::sessions::{account_uuid, session_token};
 use crate::state::State;
 use sn_keys::check_of;
 use sn_rows::{AccountRow, Change, GenerationRow, StoreRow};
-use sn_string::{MOST_ACCOUNTS, Many, Params, Text, Twin};
+use sn_string::{MOST_ACCOUNTS, OwnedList, Params, Text, TryClone};
 use sn_sync::{Answer, More};
 use std::alloc::{AllocError, Global};
 
 /// What a request changes, and what is answered to it.
 #[derive(Drop)]
 pub struct Ruled {
-    pub changes: Many<Change>,
+    pub changes: OwnedList<Change>,
     pub answer: Answer,
 }
 
@@ -42,7 +42,7 @@ pub fn register(
         → IfOk result (λ ruled. Registers (state_rows state.now) store params.now pw.now ruled.changes ruled.answer) }
 {
     if let Some(answer) = register_cause(state, params) {
-        let changes = Many::new(alloc);
+        let changes = OwnedList::new(alloc);
         return Ok(Ruled { changes, answer });
     }
     begin(alloc, store_of(state), params, pw)
@@ -83,12 +83,12 @@ fn begin(
     pw: &[u8; 32],
 ) -> Result<Ruled, AllocError>
     requires { store.now.accounts < most_accounts }
-    ensures { IfOk result (λ ruled. Begins store.now params.now pw.now ruled.changes ruled.answer) }
+    ensures { IfOk result (λ ruled. BeginsAccount store.now params.now pw.now ruled.changes ruled.answer) }
 {
     let number = store.accounts + 1;
     let account = first_account(alloc, number, params, pw)?;
     let generation = first_generation(alloc, number, params)?;
-    let mut changes = Many::new(alloc);
+    let mut changes = OwnedList::new(alloc);
     changes.push(account)?;
     changes.push(generation)?;
     changes.push(count_change(store))?;
@@ -105,7 +105,7 @@ fn first_account(
 ) -> Result<Change, AllocError>
     ensures { IfOk result (λ change. PutsAccount change number params.now.identifier 1 (check_value pw.now)) }
 {
-    let identifier = params.identifier.twin(alloc)?;
+    let identifier = params.identifier.try_clone(alloc)?;
     match AccountRow::new(identifier, 1, check_of(pw)) {
         Some(row) => {
             let change = put_account(alloc, number, row)?;
@@ -119,7 +119,7 @@ fn first_account(
 fn first_generation(alloc: Global, number: u64, params: &Params) -> Result<Change, AllocError>
     ensures { IfOk result (λ change. PutsGeneration change number 1 params.now.pw_cost params.now.pw_nonce) }
 {
-    let nonce = params.pw_nonce.twin(alloc)?;
+    let nonce = params.pw_nonce.try_clone(alloc)?;
     match GenerationRow::new(params.pw_cost, nonce) {
         Some(row) => Ok(put_generation(number, 1, row)),
         None => unreachable!(),
@@ -177,9 +177,9 @@ fn params_of(
     ensures { IfOk result (λ params. (params.identifier ≡ account.now.identifier)
         × (params.pw_cost ≡ generation.now.pw_cost) × (params.pw_nonce ≡ generation.now.pw_nonce)) }
 {
-    let identifier = account.identifier.twin(alloc)?;
+    let identifier = account.identifier.try_clone(alloc)?;
     let cost = generation.pw_cost;
-    let nonce = generation.pw_nonce.twin(alloc)?;
+    let nonce = generation.pw_nonce.try_clone(alloc)?;
     match Params::new(identifier, cost, nonce) {
         Some(params) => Ok(params),
         None => unreachable!(),
@@ -235,7 +235,7 @@ pub(crate) fn admitted(
         identifier.now (account_uuid number)) }
 {
     let token = session_token(alloc, secret, number, generation)?;
-    let identifier = identifier.twin(alloc)?;
+    let identifier = identifier.try_clone(alloc)?;
     let uuid = account_uuid(number);
     Ok(Answer::Account {
         token,

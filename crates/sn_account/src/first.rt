@@ -8,7 +8,7 @@ ghost use Rattle.sn_rows.specs.declared.server_rows.StoreRow.{StoreRow};
 
 use crate::state::State;
 use sn_rows::{Key, StoreRow, Value};
-use sn_string::Many;
+use sn_string::OwnedList;
 use std::alloc::{AllocError, Global};
 
 /// The state of a server that has a secret, has given no stamp, and has no accounts.
@@ -19,7 +19,7 @@ pub fn first_state(alloc: Global, secret: [u8; 32]) -> Result<State, AllocError>
         × ((key : Key) → state_rows state key ≡ first_rows store key)) }
 {
     let store = first_store(secret);
-    let mut rows = Many::new(alloc);
+    let mut rows = OwnedList::new(alloc);
     rows.push((Key::Store, Value::Store(store)))?;
     State::of(alloc, rows)
 }

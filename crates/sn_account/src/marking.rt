@@ -13,13 +13,13 @@ use crate::places::Places;
 use crate::state::State;
 use sn_row_map::RowMap;
 use sn_rows::{Change, Key, Row, Value};
-use sn_string::{Many, Twin};
+use sn_string::{OwnedList, TryClone};
 use std::alloc::{AllocError, Global};
 use std::mem;
 
 impl State {
     /// The state of these rows, each of which has a value of its key's kind.
-    pub fn of(alloc: Global, rows: Many<(Key, Value)>) -> Result<State, AllocError>
+    pub fn of(alloc: Global, rows: OwnedList<(Key, Value)>) -> Result<State, AllocError>
         requires kinds { All (λ row. key_kind row.0 ≡ value_kind row.1) rows }
         ensures rows { IfOk result (λ state. (key : Key) → state_rows state key ≡ listed rows key) }
         ensures unmarked { IfOk result IsUnmarked }
@@ -34,7 +34,7 @@ impl State {
         Ok(State {
             alloc,
             rows: map,
-            marked: Many::new(alloc),
+            marked: OwnedList::new(alloc),
             names,
             places,
         })
@@ -49,7 +49,7 @@ impl State {
         ensures unmarked { OnErr result (IsUnmarked self.new) }
         ensures rooms { HasNoRooms self.old → HasNoRooms self.new }
     {
-        let marked = twins(self.alloc, changes)?;
+        let marked = clones(self.alloc, changes)?;
         if self.names.add_all(changes).is_err()
             || self.places.add_all(&self.rows, changes).is_err()
             || self.rows.make_room_for(changes).is_err()
@@ -69,7 +69,7 @@ impl State {
         ensures unmarked { IsUnmarked self.new }
         ensures rooms { HasNoRooms self.old → HasNoRooms self.new }
     {
-        let changes = mem::replace(&mut self.marked, Many::new(self.alloc));
+        let changes = mem::replace(&mut self.marked, OwnedList::new(self.alloc));
         self.names.remove_all(&self.rows, changes.as_slice());
         self.places.sweep(&self.rows);
         self.rows.sweep_for(changes.as_slice());
@@ -81,7 +81,7 @@ impl State {
         ensures unmarked { IsUnmarked self.new }
         ensures rooms { HasNoRooms self.old → HasNoRooms self.new }
     {
-        let changes = mem::replace(&mut self.marked, Many::new(self.alloc));
+        let changes = mem::replace(&mut self.marked, OwnedList::new(self.alloc));
         self.rows.set_all(changes.into_vec());
         self.places.sweep(&self.rows);
     }
@@ -96,7 +96,7 @@ impl State {
 }
 
 // The changes that put these rows, in their order.
-fn puts_of(alloc: Global, rows: Many<(Key, Value)>) -> Result<Vec<Change>, AllocError>
+fn puts_of(alloc: Global, rows: OwnedList<(Key, Value)>) -> Result<Vec<Change>, AllocError>
     requires kinds { All (λ row. key_kind row.0 ≡ value_kind row.1) rows }
     ensures { IfOk result (λ changes. (found : Option Value) (key : Key) → row_after found key changes.items ≡ listed_after found key rows) }
 {
@@ -108,12 +108,12 @@ fn puts_of(alloc: Global, rows: Many<(Key, Value)>) -> Result<Vec<Change>, Alloc
 }
 
 // The same changes once more.
-fn twins(alloc: Global, changes: &[Change]) -> Result<Many<Change>, AllocError>
+fn clones(alloc: Global, changes: &[Change]) -> Result<OwnedList<Change>, AllocError>
     ensures { IfOk result (λ copies. copies ≡ changes.now) }
 {
-    let mut copies = Many::new(alloc);
+    let mut copies = OwnedList::new(alloc);
     'changes: for change in changes {
-        copies.push(change.twin(alloc)?)?;
+        copies.push(change.try_clone(alloc)?)?;
     }
     Ok(copies)
 }

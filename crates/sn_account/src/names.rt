@@ -9,7 +9,7 @@ ghost use Rattle.sn_rows.specs.declared.value.Value.TheVariants as value;
 
 use sn_row_map::RowMap;
 use sn_rows::{Change, Key, RowKind, Value};
-use sn_string::Many;
+use sn_string::OwnedList;
 use std::alloc::{AllocError, Global};
 use std::collections::BTreeMap;
 
@@ -18,7 +18,7 @@ use std::collections::BTreeMap;
 #[derive(Drop)]
 pub(crate) struct Names {
     alloc: Global,
-    entries: BTreeMap<String, Many<u64>>,
+    entries: BTreeMap<String, OwnedList<u64>>,
 }
 
 impl Names {
@@ -137,13 +137,13 @@ impl Names {
 }
 
 // The numbers, and one more.
-fn with_number(alloc: Global, numbers: &[u64], number: u64) -> Result<Many<u64>, AllocError>
+fn with_number(alloc: Global, numbers: &[u64], number: u64) -> Result<OwnedList<u64>, AllocError>
     ensures { IfOk result (λ more. more ≡ numbers.now ++ number ∷ []) }
 {
     let mut more = Vec::new(alloc);
     more.extend_from_slice(numbers)?;
     more.push(number)?;
-    Ok(Many::of_vec(more))
+    Ok(OwnedList::of_vec(more))
 }
 
 // Whether the number is the only one.

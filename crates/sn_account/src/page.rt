@@ -3,13 +3,13 @@
 ghost use Rattle.std.specs.Prelude.{◌≤◌};
 ghost use Rattle.sn_sync.specs.Stamps.{last_stamp};
 
-use sn_string::Many;
+use sn_string::OwnedList;
 use sn_sync::Item;
 
 /// The items of a page as an answer gives them.
 #[derive(Drop)]
 pub struct Page {
-    pub items: Many<Item>,
+    pub items: OwnedList<Item>,
     /// The stamp of the last of them.
     pub last: u64,
     /// Whether something is left.

@@ -15,7 +15,7 @@ use crate::places::{bounds_above, is_at};
 use crate::state::State;
 use crate::stored::{given, weight};
 use sn_rows::ItemRow;
-use sn_string::{MOST_BYTES, Many};
+use sn_string::{MOST_BYTES, OwnedList};
 use sn_sync::Item;
 use std::alloc::{AllocError, Global};
 
@@ -34,7 +34,7 @@ pub(crate) fn next_page(
     ensures { IfOk result (IsPageOf (state_rows state.now) number above first limit) }
 {
     let greatest = greatest(state, number);
-    let mut items = Many::new(alloc);
+    let mut items = OwnedList::new(alloc);
     let mut last = 0;
     let mut bytes = 0;
     'places: for place in state.places.entries.range(bounds_above(number, above)) {
@@ -103,7 +103,7 @@ fn is_full(count: usize, limit: u32, sum: u64) -> bool
     count > 0 && (count >= limit as usize || sum > MOST_BYTES)
 }
 
-fn page_with(items: Many<Item>, last: u64, more: bool, greatest: u64) -> Page
+fn page_with(items: OwnedList<Item>, last: u64, more: bool, greatest: u64) -> Page
     requires last { last ≤ last_stamp }
     requires greatest { greatest ≤ last_stamp }
     ensures items { result.items ≡ items }

@@ -23,7 +23,7 @@ use crate::sessions::{account_uuid, session, session_token};
 use crate::state::State;
 use sn_keys::check_of;
 use sn_rows::{AccountRow, GenerationRow, ItemRow, Key, RowKind, Value};
-use sn_string::{Many, Params, StringError, Text, Twin, read};
+use sn_string::{OwnedList, Params, StringError, Text, TryClone, read};
 use sn_sync::{Answer, More};
 use std::alloc::{AllocError, Global};
 use uuid::Uuid;
@@ -67,7 +67,7 @@ pub(crate) fn unchanged(alloc: Global, answer: Answer) -> Ruled
     ensures answer { result.answer ≡ answer }
 {
     Ruled {
-        changes: Many::new(alloc),
+        changes: OwnedList::new(alloc),
         answer,
     }
 }
@@ -282,8 +282,8 @@ fn replace_keys(
     let account_change = put_account(alloc, number, account_row)?;
     let generation_row = next_generation(alloc, cost, nonce)?;
     let token = session_token(alloc, &store.secret, number, generation)?;
-    let identifier = account.identifier.twin(alloc)?;
-    let mut changes = Many::new(alloc);
+    let identifier = account.identifier.try_clone(alloc)?;
+    let mut changes = OwnedList::new(alloc);
     changes.push(account_change)?;
     changes.push(put_generation(number, generation, generation_row))?;
     let uuid = account_uuid(number);
@@ -305,7 +305,7 @@ fn next_account(
     ensures { IfOk result (λ row. (row.identifier ≡ account.now.identifier) × (row.generation ≡ generation)
         × (row.check ≡ check_value pw.now)) }
 {
-    let identifier = account.identifier.twin(alloc)?;
+    let identifier = account.identifier.try_clone(alloc)?;
     let check = check_of(pw);
     Ok(AccountRow {
         identifier,
@@ -320,7 +320,7 @@ fn next_generation(alloc: Global, cost: u32, nonce: &Text) -> Result<GenerationR
     requires nonce { IsNonce nonce.now }
     ensures { IfOk result (λ row. (row.pw_cost ≡ cost) × (row.pw_nonce ≡ nonce.now)) }
 {
-    let nonce = nonce.twin(alloc)?;
+    let nonce = nonce.try_clone(alloc)?;
     match GenerationRow::new(cost, nonce) {
         Some(row) => Ok(row),
         None => unreachable!(),

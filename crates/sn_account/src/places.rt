@@ -14,7 +14,7 @@ ghost use Rattle.sn_sync.specs.Stamps.{last_stamp};
 use crate::place::Place;
 use sn_row_map::RowMap;
 use sn_rows::{Change, ItemRow, Key, RowKind, Value};
-use sn_string::Many;
+use sn_string::OwnedList;
 use std::alloc::{AllocError, Global};
 use std::collections::BTreeSet;
 use std::mem;
@@ -28,7 +28,7 @@ pub(crate) struct Places {
     alloc: Global,
     pub(crate) entries: BTreeSet<Place>,
     // Where items stood or were to stand, by the changes since the last sweep.
-    touched: Many<Place>,
+    touched: OwnedList<Place>,
 }
 
 impl Places {
@@ -37,7 +37,7 @@ impl Places {
         Places {
             alloc,
             entries: BTreeSet::new(alloc),
-            touched: Many::new(alloc),
+            touched: OwnedList::new(alloc),
         }
     }
 
@@ -116,7 +116,7 @@ impl Places {
     pub(crate) fn sweep(&mut self, rows: &RowMap)
         ensures { PlacesRows self.old rows.now → PlacesRows self.new rows.now }
     {
-        let touched = mem::replace(&mut self.touched, Many::new(self.alloc));
+        let touched = mem::replace(&mut self.touched, OwnedList::new(self.alloc));
         'touched: for place in touched.as_slice() {
             self.sweep_one(rows, *place);
         }

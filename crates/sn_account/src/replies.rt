@@ -11,7 +11,7 @@ use crate::changes::put_store;
 use crate::page::Page;
 use crate::taken::Taken;
 use sn_rows::{Change, StoreRow};
-use sn_string::{Many, Text, Twin};
+use sn_string::{OwnedList, Text, TryClone};
 use sn_sync::{Answer, token_text};
 use std::alloc::{AllocError, Global};
 
@@ -74,16 +74,16 @@ fn cursor_of(alloc: Global, more: bool, token: &Text) -> Result<Option<Text>, Al
     if !more {
         return Ok(None);
     }
-    let cursor = token.twin(alloc)?;
+    let cursor = token.try_clone(alloc)?;
     Ok(Some(cursor))
 }
 
 // The changes, with the store's row at their end where there are some.
 fn with_last(
-    mut changes: Many<Change>,
+    mut changes: OwnedList<Change>,
     store: &StoreRow,
     last: u64,
-) -> Result<Many<Change>, AllocError>
+) -> Result<OwnedList<Change>, AllocError>
     requires { last ≤ last_stamp }
     ensures { IfOk result (AreChanges store.now changes last) }
 {

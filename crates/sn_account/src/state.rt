@@ -10,7 +10,7 @@ use crate::names::Names;
 use crate::places::Places;
 use sn_row_map::RowMap;
 use sn_rows::Change;
-use sn_string::Many;
+use sn_string::OwnedList;
 use std::alloc::{AllocError, Global};
 
 /// The rows of a server. Changes may be marked: they count already, and are taken back or kept without
@@ -19,7 +19,7 @@ use std::alloc::{AllocError, Global};
 pub struct State {
     pub(crate) alloc: Global,
     pub(crate) rows: RowMap,
-    pub(crate) marked: Many<Change>,
+    pub(crate) marked: OwnedList<Change>,
     // The accounts of the rows and of the marked changes, by their identifiers.
     pub(crate) names: Names,
     // The places of the items of both.
@@ -47,7 +47,7 @@ impl State {
         Ok(State {
             alloc,
             rows,
-            marked: Many::new(alloc),
+            marked: OwnedList::new(alloc),
             names,
             places,
         })

@@ -7,7 +7,7 @@ ghost use Rattle.sn_account.specs.Stored.{IsGiven, body_of};
 ghost use Rattle.sn_account.specs.Taking.{most_weight};
 
 use sn_rows::ItemRow;
-use sn_string::{Text, Twin};
+use sn_string::{Text, TryClone};
 use sn_sync::{Body, Item, Stamp};
 use std::alloc::{AllocError, Global};
 use uuid::Uuid;
@@ -79,8 +79,8 @@ fn body_of(alloc: Global, row: &ItemRow) -> Result<Body, AllocError>
 pub(crate) fn copy_of(alloc: Global, item: &Item) -> Result<Item, AllocError>
     ensures { IfOk result (λ copy. copy ≡ item.now) }
 {
-    let kind = item.kind.twin(alloc)?;
-    let updated_at = item.updated_at.twin(alloc)?;
+    let kind = item.kind.try_clone(alloc)?;
+    let updated_at = item.updated_at.try_clone(alloc)?;
     let body = copy_of_body(alloc, &item.body)?;
     Ok(Item {
         uuid: item.uuid,
@@ -97,8 +97,8 @@ fn copy_of_body(alloc: Global, body: &Body) -> Result<Body, AllocError>
     match body {
         Body::Deleted => Ok(Body::Deleted),
         Body::Strings { content, enc } => {
-            let content = content.twin(alloc)?;
-            let enc = enc.twin(alloc)?;
+            let content = content.try_clone(alloc)?;
+            let enc = enc.try_clone(alloc)?;
             Ok(Body::Strings { content, enc })
         }
     }

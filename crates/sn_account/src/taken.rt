@@ -4,7 +4,7 @@ ghost use Rattle.std.specs.Prelude.{◌≤◌};
 ghost use Rattle.sn_sync.specs.Stamps.{last_stamp};
 
 use sn_rows::Change;
-use sn_string::Many;
+use sn_string::OwnedList;
 use sn_sync::{Conflict, Item};
 
 /// What the items that were dealt with leave.
@@ -12,9 +12,9 @@ use sn_sync::{Conflict, Item};
 pub struct Taken {
     /// The last stamp that was given.
     pub last: u64,
-    pub changes: Many<Change>,
-    pub saved: Many<Item>,
-    pub conflicts: Many<Conflict>,
+    pub changes: OwnedList<Change>,
+    pub saved: OwnedList<Item>,
+    pub conflicts: OwnedList<Conflict>,
     /// The bytes of the stored items' strings in the conflicts.
     pub bytes: u64,
     pub ghost last_fits: { last ≤ last_stamp },

@@ -15,7 +15,7 @@ ghost use Rattle.sn_sync.specs.Stamps.{last_stamp};
 use crate::state::State;
 use crate::taken::{Effect, Taken};
 use sn_rows::{Change, ItemRow, Key, Value};
-use sn_string::Many;
+use sn_string::OwnedList;
 use sn_sync::Conflict;
 use std::alloc::{AllocError, Global};
 use uuid::Uuid;
@@ -31,9 +31,9 @@ pub(crate) fn none_taken(alloc: Global, last: u64) -> Taken
 {
     Taken {
         last,
-        changes: Many::new(alloc),
-        saved: Many::new(alloc),
-        conflicts: Many::new(alloc),
+        changes: OwnedList::new(alloc),
+        saved: OwnedList::new(alloc),
+        conflicts: OwnedList::new(alloc),
         bytes: 0,
     }
 }

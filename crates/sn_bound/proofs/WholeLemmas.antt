@@ -41,32 +41,32 @@ use Rattle.sn_world.proofs.AppliedPulled.{token_some}
 -- ---- the server's rows
 
 -- the rows are those that the changes leave, and no account's row is another
-record Went (rows : Rows) (p : Progress) : Type 0 where
+record TakenSoFar (rows : Rows) (p : Progress) : Type 0 where
   rows_are : p.rows ≡ rows_after rows p.changes
   accounts : (n : ℕ) → p.rows (key.Account n) ≡ rows (key.Account n)
 
-went_takes : (rows : Rows) (present : Params) (now n : ℕ) (p q : Progress) (i : Item) → Went rows p → Takes present now n p i q → Went rows q
+went_takes : (rows : Rows) (present : Params) (now n : ℕ) (p q : Progress) (i : Item) → TakenSoFar rows p → Takes present now n p i q → TakenSoFar rows q
 went_takes rows present now n p q i w (inl c) =
-    subst (λ (x : Progress). Went rows x) (sym c.1) (record { rows_are = w.rows_are; accounts = w.accounts })
+    subst (λ (x : Progress). TakenSoFar rows x) (sym c.1) (record { rows_are = w.rows_are; accounts = w.accounts })
 went_takes rows present now n p q i w (inr (inl c)) =
-    subst (λ (x : Progress). Went rows x) (sym c.5) (record { rows_are = w.rows_are; accounts = w.accounts })
+    subst (λ (x : Progress). TakenSoFar rows x) (sym c.5) (record { rows_are = w.rows_are; accounts = w.accounts })
 went_takes rows present now n p q i w (inr (inr (inl c))) =
-    subst (λ (x : Progress). Went rows x) (sym c.6) (record { rows_are = w.rows_are; accounts = w.accounts })
+    subst (λ (x : Progress). TakenSoFar rows x) (sym c.6) (record { rows_are = w.rows_are; accounts = w.accounts })
 went_takes rows present now n p q i w (inr (inr (inr (inl c)))) =
-    subst (λ (x : Progress). Went rows x) (sym c.2) (record { rows_are = w.rows_are; accounts = w.accounts })
+    subst (λ (x : Progress). TakenSoFar rows x) (sym c.2) (record { rows_are = w.rows_are; accounts = w.accounts })
 went_takes rows present now n p q i w (inr (inr (inr (inr c)))) =
-    subst (λ (x : Progress). Went rows x) (sym c.2.5) (record {
+    subst (λ (x : Progress). TakenSoFar rows x) (sym c.2.5) (record {
       rows_are = ap (λ (r : Rows). rows_after r (c.2.1 ∷ [])) w.rows_are ∙ sym (after_append rows p.changes (c.2.1 ∷ []));
       accounts = λ m. put_elsewhere p.rows c.2.1 (key.Item i.uuid) (key.Account m) (value.Item c.2.0) c.2.3.puts (λ e. cc) ∙ w.accounts m;
     })
 
-went_all : (rows : Rows) (present : Params) (now n : ℕ) (p q : Progress) (items : List Item) → Went rows p → TakesAll present now n p items q → Went rows q
-went_all rows present now n p q [] w is = subst (λ (x : Progress). Went rows x) (sym is) w
-went_all rows present now n p q (i ∷ is) w (inl c) = subst (λ (x : Progress). Went rows x) (sym c.1) w
+went_all : (rows : Rows) (present : Params) (now n : ℕ) (p q : Progress) (items : List Item) → TakenSoFar rows p → TakesAll present now n p items q → TakenSoFar rows q
+went_all rows present now n p q [] w is = subst (λ (x : Progress). TakenSoFar rows x) (sym is) w
+went_all rows present now n p q (i ∷ is) w (inl c) = subst (λ (x : Progress). TakenSoFar rows x) (sym c.1) w
 went_all rows present now n p q (i ∷ is) w (inr c) = went_all rows present now n c.1.0 q is (went_takes rows present now n p c.1.0 i w c.1.1) c.1.2
 
 -- behind the changes each row but the store's own is that behind the last item
-row_then : (rows : Rows) (store : StoreRow) (q : Progress) (changes : List Change) → Went rows q → AreChanges store q.changes q.last changes → (k : Key)
+row_then : (rows : Rows) (store : StoreRow) (q : Progress) (changes : List Change) → TakenSoFar rows q → AreChanges store q.changes q.last changes → (k : Key)
     → key.Store ≢ k → rows_after rows changes k ≡ q.rows k
 row_then rows store q changes w (inl none) k off =
     ap (λ (cs : List Change). rows_after rows cs k) (none.1 ∙ sym none.0) ∙ ap (λ (r : Rows). r k) (sym w.rows_are)
@@ -195,7 +195,7 @@ module _ (server : Rows) (at after : Standing) (round : Round) (now : ℕ) (chan
   applies = subst (λ (g : Answer). AppliesAnswer is.ready at.words items g round.applied is.left) x.answers step_so
 
   -- the server's rows behind it
-  went : Went server x.end
+  went : TakenSoFar server x.end
   went = went_all server served.present now served.number (before_first server store) x.end items (record { rows_are = refl; accounts = λ n. refl }) x.taken
 
   session_then : IsSession (rows_after server changes) owner.token served.number

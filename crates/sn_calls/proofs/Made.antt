@@ -17,7 +17,7 @@ use Rattle.sn_rows.specs.Table.{Rows}
 use Rattle.sn_table.specs.Batches.{IsStore}
 use Rattle.sn_table.specs.Facts.{open_each}
 use Rattle.sn_table.specs.Kept.{Kept}
-use Rattle.sn_calls.specs.Ends.{Makes, outside}
+use Rattle.sn_calls.specs.Ends.{RunsCall, outside}
 use Rattle.sn_calls.specs.Making.{Draws, EachStands, HasEnded, HasRun, IsAimed, end_called, end_told}
 use Rattle.sn_calls.specs.Parts.{call_of, draws, given_of, server_of}
 use Rattle.sn_calls.specs.declared.device_call.DeviceCall.{DeviceCall}
@@ -111,7 +111,7 @@ module _ {D L R T : Type 0} (g : Ghosts D) (asks : L → L → List Exchange →
   Ran server words = HasRun g asks aimed (call_of made) server least old_link new_link kept words back how
 
   abbrev MakesOf : DeviceCall → Type 0
-  MakesOf dc = Makes g asks aimed drawn (call_of dc) (server_of dc) least (outside old_link old_seeds) (outside new_link new_seeds) kept back how
+  MakesOf dc = RunsCall g asks aimed drawn (call_of dc) (server_of dc) least (outside old_link old_seeds) (outside new_link new_seeds) kept back how
 
   -- the call that was asked for, by its server and whether it draws
   as_asked : (server : Option Bytes) (b : Bool) → server_of made ≡ server → draws (call_of made) ≡ b → Draws drawn b old_seeds new_seeds (Ran server) → MakesOf asked

@@ -15,7 +15,7 @@ use Rattle.sn_disk.specs.declared.disk.Disk.{Ghosts}
 use Rattle.sn_io.specs.Causes.{Rose}
 use Rattle.sn_net.specs.Exchanges.{Asking, Exchange}
 use Rattle.sn_table.specs.Kept.{Kept}
-use Rattle.sn_calls.specs.Ends.{CallEnds, DeviceEnds, DiskEnds, Handed, HasCalled, LoadsFrom, Makes, Outside, outside}
+use Rattle.sn_calls.specs.Ends.{CallEnds, DeviceEnds, DiskEnds, Handed, HasCalled, LoadsFrom, RunsCall, Outside, outside}
 use Rattle.sn_calls.specs.Making.{HasEnded, HasRun}
 use Rattle.sn_calls.specs.Parts.{draws, end_of}
 use Rattle.sn_calls.specs.Standing.{StaysRefused}
@@ -38,26 +38,26 @@ module _ {D L R : Type 0} (g : Ghosts D) (asks : L → L → List Exchange → T
   }
 
   pub makes_behind : (law : Asking L asks) (old mid new : L) (seeds later : R) (server : Option Bytes) (host : Bytes) (kept : Kept) → server ≡ Some host → asks old mid []
-      → Makes g asks aimed drawn call server least (outside mid seeds) (outside new later) kept back how
-      → Makes g asks aimed drawn call server least (outside old seeds) (outside new later) kept back how
+      → RunsCall g asks aimed drawn call server least (outside mid seeds) (outside new later) kept back how
+      → RunsCall g asks aimed drawn call server least (outside old seeds) (outside new later) kept back how
   makes_behind law old mid new seeds later server host kept is none makes =
-      subst (λ (s : Option Bytes). Makes g asks aimed drawn call s least (outside old seeds) (outside new later) kept back how) (sym is)
+      subst (λ (s : Option Bytes). RunsCall g asks aimed drawn call s least (outside old seeds) (outside new later) kept back how) (sym is)
       (draws_on drawn (draws call) seeds later (λ words. HasRun g asks aimed call (Some host) least mid new kept words back how)
       (λ words. HasRun g asks aimed call (Some host) least old new kept words back how)
       (λ words run. run_behind law old mid new host kept words none run)
-      (subst (λ (s : Option Bytes). Makes g asks aimed drawn call s least (outside mid seeds) (outside new later) kept back how) is makes))
+      (subst (λ (s : Option Bytes). RunsCall g asks aimed drawn call s least (outside mid seeds) (outside new later) kept back how) is makes))
 
 module _ {D L R : Type 0} (g : Ghosts D) (asks : L → L → List Exchange → Type 0) (aimed : L → Bytes) (drawn : R → Option (List (List ℕ)))
     (call : Call) (server : Option Bytes) (least : ℕ) (old new : Outside L R) (device : Device D g) (opens : g.told → (kept : Kept) × IsOpen device kept) (back : D) where
   none_made : (how : CallEnd) → ((kept : Kept) (acts : List Act) (halt : Halt) → HasEnded g kept acts halt back how → ⊥)
-      → ((kept : Kept) → IsOpen device kept → Makes g asks aimed drawn call server least old new kept back how) → ⊥
+      → ((kept : Kept) → IsOpen device kept → RunsCall g asks aimed drawn call server least old new kept back how) → ⊥
   none_made how never makes =
       has_some device opens (λ kept is.
       draws_none drawn (draws call) old.seeds new.seeds (λ words. HasRun g asks aimed call server least old.link new.link kept words back how)
       (λ words run. never kept run.acts run.halt run.ended) (makes kept is))
 
   -- a device whose call was made ends so
-  pub made : (how : CallEnd) → ((kept : Kept) → IsOpen device kept → Makes g asks aimed drawn call server least old new kept back how)
+  pub made : (how : CallEnd) → ((kept : Kept) → IsOpen device kept → RunsCall g asks aimed drawn call server least old new kept back how)
       → DeviceEnds g asks aimed drawn call server least old new device back how
   made (Answered given) makes = makes
   made (Refused why) makes = makes

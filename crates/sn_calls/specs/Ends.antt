@@ -42,8 +42,8 @@ outside link seeds = record { link = link; seeds = seeds }
 module _ {D L R : Type 0} (g : Ghosts D) (asks : L → L → List Exchange → Type 0) (aimed : L → Bytes) (drawn : R → Option (List (List ℕ)))
     (call : Call) (server : Option Bytes) (least : ℕ) (old new : Outside L R) where
   -- its run on a device that had this
-  abbrev pub Makes : Kept → D → CallEnd → Type 0
-  Makes kept back end = Draws drawn (draws call) old.seeds new.seeds (λ words. HasRun g asks aimed call server least old.link new.link kept words back end)
+  abbrev pub RunsCall : Kept → D → CallEnd → Type 0
+  RunsCall kept back end = Draws drawn (draws call) old.seeds new.seeds (λ words. HasRun g asks aimed call server least old.link new.link kept words back end)
 
   -- The disk has no store that loads, for this cause. It isn't written over (`StaysRefused`), and all else is as it was.
   pub record IsUnloaded (disk back : D) (error : DeviceError) : Type 0 where
@@ -63,12 +63,12 @@ module _ {D L R : Type 0} (g : Ghosts D) (asks : L → L → List Exchange → T
 
   -- how a call of a device ends
   abbrev pub DeviceEnds : Device D g → D → CallEnd → Type 0
-  DeviceEnds device back (Answered given) = (kept : Kept) → IsOpen device kept → Makes kept back (Answered given)
-  DeviceEnds device back (Refused why) = (kept : Kept) → IsOpen device kept → Makes kept back (Refused why)
+  DeviceEnds device back (Answered given) = (kept : Kept) → IsOpen device kept → RunsCall kept back (Answered given)
+  DeviceEnds device back (Refused why) = (kept : Kept) → IsOpen device kept → RunsCall kept back (Refused why)
   DeviceEnds device back (Foreign place) = ⊥
   DeviceEnds device back (Damaged place) = ⊥
   DeviceEnds device back (Rows kind) = ⊥
-  DeviceEnds device back DiskFault = (kept : Kept) → IsOpen device kept → Makes kept back DiskFault
+  DeviceEnds device back DiskFault = (kept : Kept) → IsOpen device kept → RunsCall kept back DiskFault
   DeviceEnds device back LinkFault = IsUnaimed device back
   DeviceEnds device back Memory = IsUnaimed device back
 
@@ -91,12 +91,12 @@ module _ {D L R : Type 0} (g : Ghosts D) (asks : L → L → List Exchange → T
 
   -- What a crash leaves of a disk whose every outcome stood for these batches, and where the call was made, its run on them.
   abbrev pub DiskStands : List (List Change) → D → CallEnd → Type 0
-  DiskStands batches back (Answered given) = Makes (kept_of batches) back (Answered given)
-  DiskStands batches back (Refused why) = Makes (kept_of batches) back (Refused why)
+  DiskStands batches back (Answered given) = RunsCall (kept_of batches) back (Answered given)
+  DiskStands batches back (Refused why) = RunsCall (kept_of batches) back (Refused why)
   DiskStands batches back (Foreign place) = EachStands g back batches
   DiskStands batches back (Damaged place) = EachStands g back batches
   DiskStands batches back (Rows kind) = EachStands g back batches
-  DiskStands batches back DiskFault = EachStands g back batches ⊎ Makes (kept_of batches) back DiskFault
+  DiskStands batches back DiskFault = EachStands g back batches ⊎ RunsCall (kept_of batches) back DiskFault
   DiskStands batches back LinkFault = EachStands g back batches
   DiskStands batches back Memory = EachStands g back batches
 

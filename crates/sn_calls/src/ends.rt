@@ -5,7 +5,7 @@ ghost use Rattle.sn_calls.specs.Parts.{end_of};
 
 use sn_client::{ClientError, DeviceError, Listed};
 use sn_rows::RowKind;
-use sn_string::Many;
+use sn_string::OwnedList;
 use uuid::Uuid;
 
 /// What a call gives that is answered.
@@ -17,7 +17,7 @@ pub enum Answered {
     /// A content.
     Text(String),
     /// A line of each item, by rising local number.
-    Lines(Many<Listed>),
+    Lines(OwnedList<Listed>),
 }
 
 /// How a call ended.

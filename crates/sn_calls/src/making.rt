@@ -5,7 +5,7 @@ ghost use Rattle.sn_client.specs.Calls.{IsOpen, called_disk, device_disk, device
 ghost use Rattle.sn_client.specs.States.{IsSound};
 ghost use Rattle.sn_io.specs.Causes.{Rose};
 ghost use Rattle.sn_table.specs.Kept.{Kept};
-ghost use Rattle.sn_calls.specs.Ends.{Makes, outside};
+ghost use Rattle.sn_calls.specs.Ends.{RunsCall, outside};
 ghost use Rattle.sn_calls.specs.Making.{IsAimed, end_called, end_told};
 ghost use Rattle.sn_calls.specs.Parts.{HasBounds, IsLinkFault, call_of, server_of};
 ghost use Rattle.sn_calls.specs.declared.ends.Answered.TheVariants as answer;
@@ -17,7 +17,7 @@ use sn_disk::Disk;
 use sn_io::Seeds;
 use sn_items::Words;
 use sn_net::Link;
-use sn_string::Many;
+use sn_string::OwnedList;
 use uuid::Uuid;
 
 /// Makes a call, over a link that is aimed where the call asks a server. Gives the disk back.
@@ -31,7 +31,7 @@ pub(crate) fn make<D: Disk, L: Link, R: Seeds>(
     requires sound { IsSound (device_rows device) }
     requires opens { D.told → (kept : Kept) × IsOpen device kept }
     requires aimed { IsAimed (server_of call.now) (L.aimed link.old) }
-    ensures makes { (kept : Kept) → IsOpen device kept → Makes ⟦<D as Disk>⟧ L.asks L.aimed R.given (call_of call.now) (server_of call.now) device.least_cost
+    ensures makes { (kept : Kept) → IsOpen device kept → RunsCall ⟦<D as Disk>⟧ L.asks L.aimed R.given (call_of call.now) (server_of call.now) device.least_cost
         (outside link.old seeds.old) (outside link.new seeds.new) kept result.0 result.1 }
     ensures disk { result.1 ≡ CallEnd.DiskFault → Rose (D.fault_count (device_disk device)) (D.fault_count result.0) }
     ensures link { IsLinkFault result.1 → Rose (L.fault_count link.old) (L.fault_count link.new) }
@@ -107,7 +107,7 @@ fn ended_with_uuid<D: Disk>(called: Called<Device<D>, D, Uuid>) -> (D, CallEnd)
     }
 }
 
-fn listed(told: Result<Many<Listed>, ClientError>) -> CallEnd
+fn listed(told: Result<OwnedList<Listed>, ClientError>) -> CallEnd
     ensures { result ≡ end_told answer.Lines told }
 {
     match told {

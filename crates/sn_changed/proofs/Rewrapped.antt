@@ -27,7 +27,7 @@ use Rattle.sn_shows.specs.Sets.{OpensUnder}
 use Rattle.sn_sync.specs.declared.item.Body.TheVariants as body
 use Rattle.sn_sync.specs.declared.item.Item.{Item}
 use Rattle.sn_changed.proofs.Found.{above_all, one_item, owner_of}
-use Rattle.sn_changed.specs.Laws.{IsRewrapped, IsSealedAgain, MeetsBehind, RewrapServed, RewrapTaken}
+use Rattle.sn_changed.specs.Laws.{IsRewrapped, IsVersionSealedAgain, MeetsBehind, RewrapServed, RewrapTaken}
 
 abbrev pair : Bytes → Bytes → Sealed
 pair content enc = record { content = content; enc = enc }
@@ -43,7 +43,7 @@ strings_are row content enc false h =
 
 module _ (shows_law : RewrappedShows) (rows : Rows) (s : Ideal) (number : ℕ) (a : Account) (v : Version) (i : Item) (m : MeetsBehind rows s number a v i)
     (stamp : ℕ) (new : IsNewStamp s stamp) where
-  again : IsSealedAgain a v i
+  again : IsVersionSealedAgain a v i
   again = m.again
 
   abbrev its : ShowsItem rows number a i.uuid v

@@ -17,7 +17,7 @@ use Rattle.sn_shows.specs.Rekeying.{PutsGeneration}
 use Rattle.sn_string.specs.declared.params.KeySet.{KeySet}
 use Rattle.sn_changed.proofs.Found.{apart_numbers}
 use Rattle.sn_changed.proofs.Holders.{one_account}
-use Rattle.sn_changed.specs.Sessions.{ChangeSessions, ChangeSpares, IsSessionBehind, ItemSessions}
+use Rattle.sn_changed.specs.Sessions.{ChangeSessions, ChangeSpares, IsSessionAfter, ItemSessions}
 
 one_store : (x y : StoreRow) (found : Option Value) → found ≡ Some (value.Store x) → found ≡ Some (value.Store y) → x ≡ y
 one_store x y found e k = cc
@@ -58,7 +58,7 @@ module _ (rows : Rows) (number : ℕ) (a : Account) (set : KeySet) (account gene
       first_put rows account generation own_key set_key (value.Account puts.row) (value.Generation puts.params) puts.account_puts puts.generation_puts (λ e. cc)
 
   module _ (store : StoreRow) (stands : HasStore rows store) (token : Bytes) (owner : ℕ) where
-    from_later : IsSession later token owner → IsSessionBehind rows store number a token owner
+    from_later : IsSession later token owner → IsSessionAfter rows store number a token owner
     from_later z = by (apart_numbers owner number)
       where
         store_is : z.store ≡ store
@@ -75,11 +75,11 @@ module _ (rows : Rows) (number : ℕ) (a : Account) (set : KeySet) (account gene
             ∙ ap (λ (g : ℕ). session_token store.secret owner g) (generation_is own)
             ∙ ap (λ (n : ℕ). session_token store.secret n (length a.sets + 1)) own
 
-        by : (owner ≡ number) ⊎ (owner ≢ number) → IsSessionBehind rows store number a token owner
+        by : (owner ≡ number) ⊎ (owner ≢ number) → IsSessionAfter rows store number a token owner
         by (inl own) = inr (own, spelled own)
         by (inr differs) = inl (differs, session_kept later rows token owner (sym store_row) (sym (other_row owner differs)) z)
 
-    to_later : IsSessionBehind rows store number a token owner → IsSession later token owner
+    to_later : IsSessionAfter rows store number a token owner → IsSession later token owner
     to_later (inl (differs, z)) = session_kept rows later token owner store_row (other_row owner differs) z
     to_later (inr (own, is)) = record {
       store = store;

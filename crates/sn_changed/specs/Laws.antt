@@ -100,7 +100,7 @@ ChangeServed = (rows : Rows) (store : StoreRow) (s : Ideal) (token current pw : 
 -- ---- an item that is sealed again
 
 -- the item is this version of the account, which is live and under another set than the last, with strings that open to its text under the last one
-pub record IsSealedAgain (a : Account) (v : Version) (i : Item) : Type 0 where
+pub record IsVersionSealedAgain (a : Account) (v : Version) (i : Item) : Type 0 where
   pub text : Bytes
   pub under : ℕ
   pub live : v.body ≡ Under text under
@@ -117,7 +117,7 @@ pub record MeetsBehind (rows : Rows) (s : Ideal) (number : ℕ) (a : Account) (v
   pub apart : AreApart s.accounts
   pub at : account_at number s.accounts ≡ Some a
   pub last : last_of i.uuid a.versions ≡ Some v
-  pub again : IsSealedAgain a v i
+  pub again : IsVersionSealedAgain a v i
 
 -- the item's rewrap at this stamp is allowed, and the rows show the accounts after it
 pub record IsRewrapped (rows : Rows) (s : Ideal) (uuid : Bytes) (stamp under : ℕ) : Type 0 where

@@ -17,15 +17,15 @@ use Rattle.sn_sync.specs.declared.answer.Answer.{Answer}
 use Rattle.sn_changed.specs.Laws.{IsChanged}
 
 -- the account of this number has got its next set: the token is a session of another account, which it was before; or it is this account's, of the next set
-abbrev pub IsSessionBehind : Rows → StoreRow → ℕ → Account → Bytes → ℕ → Type 0
-IsSessionBehind rows store number a token owner =
+abbrev pub IsSessionAfter : Rows → StoreRow → ℕ → Account → Bytes → ℕ → Type 0
+IsSessionAfter rows store number a token owner =
     ((owner ≢ number) × IsSession rows token owner) ⊎ ((owner ≡ number) × (token ≡ session_token store.secret number (length a.sets + 1)))
 
 -- the sessions behind a change of password that is done are these
 abbrev pub ChangeSessions : Type 0
 ChangeSessions = (rows : Rows) (store : StoreRow) (s : Ideal) (token current : Bytes) (set : KeySet) (changes : List Change) (given : Answer)
     → HasStore rows store → (x : IsChanged rows store s token current set changes given)
-    → (other : Bytes) (owner : ℕ) → IsSession (rows_after rows changes) other owner ↔ IsSessionBehind rows store x.number x.account other owner
+    → (other : Bytes) (owner : ℕ) → IsSession (rows_after rows changes) other owner ↔ IsSessionAfter rows store x.number x.account other owner
 
 -- and every row stays but that of the account and that of its next set
 abbrev pub ChangeSpares : Type 0

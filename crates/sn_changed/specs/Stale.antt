@@ -16,7 +16,7 @@ use Rattle.sn_string.specs.declared.params.Params.{Params}
 use Rattle.sn_sync.specs.Versions.{NamesStamp}
 use Rattle.sn_sync.specs.declared.item.Body.TheVariants as body
 use Rattle.sn_sync.specs.declared.item.Item.{Item}
-use Rattle.sn_changed.specs.Laws.{IsSealedAgain, MeetsBehind}
+use Rattle.sn_changed.specs.Laws.{IsVersionSealedAgain, MeetsBehind}
 
 -- the row is stale and stands on the version of this stamp; the item is its uuid, its type and its strings
 pub record IsResent (local : LocalItem) (stamp : ℕ) (i : Item) : Type 0 where
@@ -37,7 +37,7 @@ HasRisingStamps a = Rises (map (λ v. v.stamp) a.versions)
 abbrev pub StaleBehind : Type 0
 StaleBehind = (s : Ideal) (name : Bytes) (a : Account) (local : LocalItem) (v : Version) (i : Item)
     → ShowsLocal s name (length a.sets) a local → HasRisingStamps a → IsResent local v.stamp i → last_of i.uuid a.versions ≡ Some v
-    → IsSealedAgain a v i
+    → IsVersionSealedAgain a v i
 
 -- the version of this stamp is the item's last one in the account of this number, and is behind
 pub record IsBehindAt (p : Progress) (s : Ideal) (number : ℕ) (a : Account) (stamp : ℕ) (i : Item) : Type 0 where

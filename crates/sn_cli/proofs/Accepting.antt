@@ -35,7 +35,7 @@ use Rattle.sn_script.specs.declared.script.Line.{Line as ScriptLine}
 use Rattle.sn_script.specs.declared.script.Script.{Script}
 use Rattle.sn_string.specs.Grammar.{parts_of}
 use Rattle.sn_string.specs.Laws.{IsReadBack}
-use Rattle.sn_string.specs.Refusals.{Refuses}
+use Rattle.sn_string.specs.Refusals.{RefusedFor}
 use Rattle.sn_string.specs.Refusals.{IsRefusal as MayRefuse}
 use Rattle.sn_string.specs.declared.reader.StringError.TheVariants as string_errors
 
@@ -130,7 +130,7 @@ open_apart law line input plain calls (Item refusal) refuses =
 
 -- ---- `show`
 
-may_refuse : (text : List ℕ) (refusal : FormRefusal) → Refuses (parts_of text) (form_error refusal) → MayRefuse text (form_error refusal)
+may_refuse : (text : List ℕ) (refusal : FormRefusal) → RefusedFor (parts_of text) (form_error refusal) → MayRefuse text (form_error refusal)
 may_refuse text (form.Parts count) refuses = refuses
 may_refuse text (form.Version place) refuses = refuses
 may_refuse text (form.Hash place) refuses = refuses

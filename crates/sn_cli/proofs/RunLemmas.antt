@@ -148,31 +148,31 @@ seal_to_memory line status tells i j o p s t runs = record {
 -- ---- `gen`
 
 -- a status of writing an output that the line calls for
-pub gen_written : (line : GenLine) (bench : MemShelf) (status : Status) (o p : Option (List ℕ)) (output : List ℕ) → GenCallsFor bench line output
-    → Writes status o p output → GenRuns line bench status o p
-gen_written line bench Done o p output called wrote = record { output = output; called = called; wrote = wrote }
-gen_written line bench Usage o p output called wrote = absurd wrote
-gen_written line bench (Refused refusal) o p output called wrote = absurd wrote
-gen_written line bench DiskFault o p output called wrote = absurd wrote
-gen_written line bench LinkFault o p output called wrote = absurd wrote
-gen_written line bench ReadFault o p output called wrote = absurd wrote
-gen_written line bench WriteFault o p output called wrote = record { output = output; called = called; wrote = wrote }
-gen_written line bench Memory o p output called wrote = absurd wrote
-gen_written line bench (Foreign unfit) o p output called wrote = absurd wrote
-gen_written line bench (Server number tag) o p output called wrote = absurd wrote
-gen_written line bench (BadAnswer place) o p output called wrote = absurd wrote
+pub gen_written : (line : GenLine) (memory_shelf : MemShelf) (status : Status) (o p : Option (List ℕ)) (output : List ℕ) → GenCallsFor memory_shelf line output
+    → Writes status o p output → GenRuns line memory_shelf status o p
+gen_written line memory_shelf Done o p output called wrote = record { output = output; called = called; wrote = wrote }
+gen_written line memory_shelf Usage o p output called wrote = absurd wrote
+gen_written line memory_shelf (Refused refusal) o p output called wrote = absurd wrote
+gen_written line memory_shelf DiskFault o p output called wrote = absurd wrote
+gen_written line memory_shelf LinkFault o p output called wrote = absurd wrote
+gen_written line memory_shelf ReadFault o p output called wrote = absurd wrote
+gen_written line memory_shelf WriteFault o p output called wrote = record { output = output; called = called; wrote = wrote }
+gen_written line memory_shelf Memory o p output called wrote = absurd wrote
+gen_written line memory_shelf (Foreign unfit) o p output called wrote = absurd wrote
+gen_written line memory_shelf (Server number tag) o p output called wrote = absurd wrote
+gen_written line memory_shelf (BadAnswer place) o p output called wrote = absurd wrote
 
 -- a status for whose line memory was wanting
-pub gen_to_memory : (line : GenLine) (bench : MemShelf) (status : Status) → TellsValues status → (o p : Option (List ℕ)) → GenRuns line bench status o p
+pub gen_to_memory : (line : GenLine) (memory_shelf : MemShelf) (status : Status) → TellsValues status → (o p : Option (List ℕ)) → GenRuns line memory_shelf status o p
     → Keeps o p
-gen_to_memory line bench Done tells o p ran = absurd tells
-gen_to_memory line bench Usage tells o p ran = absurd tells
-gen_to_memory line bench (Refused refusal) tells o p ran = ran.silent
-gen_to_memory line bench DiskFault tells o p ran = absurd tells
-gen_to_memory line bench LinkFault tells o p ran = absurd tells
-gen_to_memory line bench ReadFault tells o p ran = absurd tells
-gen_to_memory line bench WriteFault tells o p ran = absurd tells
-gen_to_memory line bench Memory tells o p ran = absurd tells
-gen_to_memory line bench (Foreign unfit) tells o p ran = absurd ran
-gen_to_memory line bench (Server number tag) tells o p ran = absurd ran
-gen_to_memory line bench (BadAnswer place) tells o p ran = absurd ran
+gen_to_memory line memory_shelf Done tells o p ran = absurd tells
+gen_to_memory line memory_shelf Usage tells o p ran = absurd tells
+gen_to_memory line memory_shelf (Refused refusal) tells o p ran = ran.silent
+gen_to_memory line memory_shelf DiskFault tells o p ran = absurd tells
+gen_to_memory line memory_shelf LinkFault tells o p ran = absurd tells
+gen_to_memory line memory_shelf ReadFault tells o p ran = absurd tells
+gen_to_memory line memory_shelf WriteFault tells o p ran = absurd tells
+gen_to_memory line memory_shelf Memory tells o p ran = absurd tells
+gen_to_memory line memory_shelf (Foreign unfit) tells o p ran = absurd ran
+gen_to_memory line memory_shelf (Server number tag) tells o p ran = absurd ran
+gen_to_memory line memory_shelf (BadAnswer place) tells o p ran = absurd ran

@@ -12,7 +12,7 @@ use Rattle.sn_items.specs.Opens.{Opens}
 use Rattle.sn_items.specs.Refusals.{HasCause}
 use Rattle.sn_items.specs.Seals.{IsSealed}
 use Rattle.sn_items.specs.declared.error.ItemError.{ItemError}
-use Rattle.sn_course.specs.Headline.{Carries, IsNotAllowed, PasswordsApart, moves_in, shelf_slots}
+use Rattle.sn_course.specs.Headline.{CarriesHeadline, IsNotAllowed, PasswordsApart, moves_in, shelf_slots}
 use Rattle.sn_disk.specs.declared.mem_shelf.MemShelf.{MemShelf}
 use Rattle.sn_generator.specs.Generated.{IsGenerated}
 use Rattle.sn_laws.specs.Runs.{Legal}
@@ -23,7 +23,7 @@ use Rattle.sn_script.specs.declared.script.Script.{Script}
 use Rattle.sn_summary.specs.Summaries.{IsSummaryOf, summary_text}
 use Rattle.sn_summary.specs.declared.summary.Summary.{Summary}
 use Rattle.sn_string.specs.Grammar.{parts_of}
-use Rattle.sn_string.specs.Refusals.{Refuses}
+use Rattle.sn_string.specs.Refusals.{RefusedFor}
 use Rattle.sn_string.specs.declared.params.Params.{Params}
 
 -- the parameters of a line of `seal`
@@ -70,19 +70,19 @@ OpenRefuses line input (Client refusal) = ⊥
 abbrev pub ShowRefuses : List ℕ → Refusal → Type 0
 ShowRefuses text InputLong = ⊥
 ShowRefuses text (InputUtf8 place) = ⊥
-ShowRefuses text (Form refusal) = Refuses (parts_of text) (form_error refusal)
+ShowRefuses text (Form refusal) = RefusedFor (parts_of text) (form_error refusal)
 ShowRefuses text (Item refusal) = ⊥
 ShowRefuses text (Line number) = ⊥
 ShowRefuses text (NotAllowed number) = ⊥
 ShowRefuses text (PasswordLine length) = ⊥
 ShowRefuses text (Client refusal) = ⊥
 
--- `replay` calls for the report that the text's script carries over the disks that it leaves on this bench
-pub record ReplayCallsFor (bench : MemShelf) (text output : List ℕ) : Type 0 where
+-- `replay` calls for the report that the text's script carries over the disks that it leaves on this memory_shelf
+pub record ReplayCallsFor (memory_shelf : MemShelf) (text output : List ℕ) : Type 0 where
   pub script : Script
   pub is : IsScript text script.lines
   pub report : Report
-  pub carries : Carries script (shelf_slots bench) report
+  pub carries : CarriesHeadline script (shelf_slots memory_shelf) report
   pub spelled : output ≡ report_text report
 
 -- or the text is no script: the number of its first line out of the grammar; or it is one, and the line of this number is the first that may not come
@@ -96,14 +96,14 @@ ReplayRefuses text (NotAllowed number) = (script : Script) × IsScript text scri
 ReplayRefuses text (PasswordLine length) = ⊥
 ReplayRefuses text (Client refusal) = ⊥
 
--- `gen` calls for the summary of the report that the script of its number and its count carries over the disks that it leaves on this bench. That script has
+-- `gen` calls for the summary of the report that the script of its number and its count carries over the disks that it leaves on this memory_shelf. That script has
 -- one password alone, so of the premises of its report it meets that of passwords.
-pub record GenCallsFor (bench : MemShelf) (line : GenLine) (output : List ℕ) : Type 0 where
+pub record GenCallsFor (memory_shelf : MemShelf) (line : GenLine) (output : List ℕ) : Type 0 where
   pub script : Script
   pub generated : IsGenerated line.number line.count script
   pub apart : PasswordsApart script
   pub report : Report
-  pub carries : Carries script (shelf_slots bench) report
+  pub carries : CarriesHeadline script (shelf_slots memory_shelf) report
   pub summary : Summary
   pub sums : Legal (moves_in report.events) → IsSummaryOf report summary
   pub spelled : output ≡ summary_text summary

@@ -71,9 +71,9 @@ RunsOver calls_for refuses (Server number tag) input_before input_after out_befo
 RunsOver calls_for refuses (BadAnswer place) input_before input_after out_before out_after = ⊥
 
 -- the line of `gen` calls for an output, and that was appended
-pub record WritesGen (bench : MemShelf) (line : GenLine) (status : Status) (out_before out_after : Option (List ℕ)) : Type 0 where
+pub record WritesGen (memory_shelf : MemShelf) (line : GenLine) (status : Status) (out_before out_after : Option (List ℕ)) : Type 0 where
   pub output : List ℕ
-  pub called : GenCallsFor bench line output
+  pub called : GenCallsFor memory_shelf line output
   pub wrote : Writes status out_before out_after output
 
 -- the line is refused, and nothing was written
@@ -83,17 +83,17 @@ pub record RefusesGen (line : GenLine) (refusal : Refusal) (out_before out_after
 
 -- What a line of `gen` did, which reads no input. Where memory was wanting, nothing was written.
 abbrev pub GenRuns : GenLine → MemShelf → Status → (out_before out_after : Option (List ℕ)) → Type 0
-GenRuns line bench Done out_before out_after = WritesGen bench line Done out_before out_after
-GenRuns line bench Usage out_before out_after = ⊥
-GenRuns line bench (Refused refusal) out_before out_after = RefusesGen line refusal out_before out_after
-GenRuns line bench DiskFault out_before out_after = ⊥
-GenRuns line bench LinkFault out_before out_after = ⊥
-GenRuns line bench ReadFault out_before out_after = ⊥
-GenRuns line bench WriteFault out_before out_after = WritesGen bench line WriteFault out_before out_after
-GenRuns line bench Memory out_before out_after = Keeps out_before out_after
-GenRuns line bench (Foreign unfit) out_before out_after = ⊥
-GenRuns line bench (Server number tag) out_before out_after = ⊥
-GenRuns line bench (BadAnswer place) out_before out_after = ⊥
+GenRuns line memory_shelf Done out_before out_after = WritesGen memory_shelf line Done out_before out_after
+GenRuns line memory_shelf Usage out_before out_after = ⊥
+GenRuns line memory_shelf (Refused refusal) out_before out_after = RefusesGen line refusal out_before out_after
+GenRuns line memory_shelf DiskFault out_before out_after = ⊥
+GenRuns line memory_shelf LinkFault out_before out_after = ⊥
+GenRuns line memory_shelf ReadFault out_before out_after = ⊥
+GenRuns line memory_shelf WriteFault out_before out_after = WritesGen memory_shelf line WriteFault out_before out_after
+GenRuns line memory_shelf Memory out_before out_after = Keeps out_before out_after
+GenRuns line memory_shelf (Foreign unfit) out_before out_after = ⊥
+GenRuns line memory_shelf (Server number tag) out_before out_after = ⊥
+GenRuns line memory_shelf (BadAnswer place) out_before out_after = ⊥
 
 -- what a command drew that draws one seed: it, once the input is a text, and none before
 abbrev pub Draws : Status → List ℕ → Option (List (List ℕ)) → Option (List (List ℕ)) → Type 0

@@ -21,20 +21,20 @@ use sn_string::Text;
 use sn_summary::{summary_of, summary_text};
 use std::alloc::Global;
 
-/// Makes the script of the number, carries it out over disks that it leaves on the bench, and writes the summary of its report.
+/// Makes the script of the number, carries it out over disks that it leaves on the memory_shelf, and writes the summary of its report.
 pub fn generate_and_replay<O: Sink>(
     alloc: Global,
     options: &GenOptions,
-    bench: &mut MemShelf,
+    memory_shelf: &mut MemShelf,
     out: &mut O,
 ) -> Status
-    requires fresh { (name : List ℕ) → shelf_slot bench.old name ≡ unknown }
-    ensures ran { GenRuns (gen_line options.now) bench.new result (O.held out.old) (O.held out.new) }
-    ensures unplayed { IsOfInput result → bench.new ≡ bench.old }
+    requires fresh { (name : List ℕ) → shelf_slot memory_shelf.old name ≡ unknown }
+    ensures ran { GenRuns (gen_line options.now) memory_shelf.new result (O.held out.old) (O.held out.new) }
+    ensures unplayed { IsOfInput result → memory_shelf.new ≡ memory_shelf.old }
     ensures silent { IsSilent result → Keeps (O.held out.old) (O.held out.new) }
     ensures write { result ≡ Status.WriteFault → Rose (O.fault_count out.old) (O.fault_count out.new) }
 {
-    match summary_for(alloc, options, bench) {
+    match summary_for(alloc, options, memory_shelf) {
         Ok(summary) => write_out(out, summary.as_str().as_bytes()),
         Err(ReplayError::NotAllowed { number }) => {
             Status::Refused(Refusal::NotAllowed { number })
@@ -47,15 +47,15 @@ pub fn generate_and_replay<O: Sink>(
 fn summary_for(
     alloc: Global,
     options: &GenOptions,
-    bench: &mut MemShelf,
+    memory_shelf: &mut MemShelf,
 ) -> Result<Text, ReplayError>
-    requires fresh { (name : List ℕ) → shelf_slot bench.old name ≡ unknown }
-    ensures called { IfOk result (GenCallsFor bench.new (gen_line options.now)) }
+    requires fresh { (name : List ℕ) → shelf_slot memory_shelf.old name ≡ unknown }
+    ensures called { IfOk result (GenCallsFor memory_shelf.new (gen_line options.now)) }
     ensures refused { (number : ℕ) → IsErrOf result (refused.NotAllowed number) → GenRefuses (gen_line options.now) (NotAllowed number) }
-    ensures untouched { (number : ℕ) → IsErrOf result (refused.NotAllowed number) → bench.new ≡ bench.old }
+    ensures untouched { (number : ℕ) → IsErrOf result (refused.NotAllowed number) → memory_shelf.new ≡ memory_shelf.old }
 {
     let script = generate(alloc, options.number, options.count)?;
-    let report = replay(alloc, &script, bench)?;
+    let report = replay(alloc, &script, memory_shelf)?;
     let summary = summary_of(alloc, &report)?;
     let text = summary_text(alloc, &summary)?;
     Ok(text)

@@ -36,13 +36,13 @@ use sn_status::{Status, tell};
 use sn_string::laws::read_back;
 use std::alloc::Global;
 
-/// Carries out the command that the words spell, over the shelf, the bench, the port, the link, the input, the two
-/// outputs, the clock and the seeds that are handed in. `shelf` has the stores, `bench`, which has no disks yet, gets those of a replay or of a script that is made.
+/// Carries out the command that the words spell, over the shelf, the memory_shelf, the port, the link, the input, the two
+/// outputs, the clock and the seeds that are handed in. `shelf` has the stores, `memory_shelf`, which has no disks yet, gets those of a replay or of a script that is made.
 pub fn run<S: Shelf, P: Port, L: Link, I: Source, O: Sink, E: Sink, C: Clock, R: Seeds>(
     alloc: Global,
     words: &[String],
     shelf: &mut S,
-    bench: &mut MemShelf,
+    memory_shelf: &mut MemShelf,
     port: &mut P,
     link: &mut L,
     input: &mut I,
@@ -51,7 +51,7 @@ pub fn run<S: Shelf, P: Port, L: Link, I: Source, O: Sink, E: Sink, C: Clock, R:
     clock: &mut C,
     seeds: &mut R,
 ) -> Status
-    requires fresh { (name : List ℕ) → shelf_slot bench.old name ≡ unknown }
+    requires fresh { (name : List ℕ) → shelf_slot memory_shelf.old name ≡ unknown }
 
     // What each line calls for of its input, and how much of it was appended.
     ensures seal { (line : SealLine) → IsSealLine (texts words.now) line → SealRuns line result
@@ -60,10 +60,10 @@ pub fn run<S: Shelf, P: Port, L: Link, I: Source, O: Sink, E: Sink, C: Clock, R:
         (I.left input.old) (I.left input.new) (O.held out.old) (O.held out.new) }
     ensures show { IsShowLine (texts words.now) → RunsOver IsShown ShowRefuses result
         (I.left input.old) (I.left input.new) (O.held out.old) (O.held out.new) }
-    ensures replay { IsReplayLine (texts words.now) → RunsOver (ReplayCallsFor bench.new) ReplayRefuses result
+    ensures replay { IsReplayLine (texts words.now) → RunsOver (ReplayCallsFor memory_shelf.new) ReplayRefuses result
         (I.left input.old) (I.left input.new) (O.held out.old) (O.held out.new) }
     // What a line of `gen` calls for by its values alone, and how much of it was appended.
-    ensures generate { (line : GenLine) → IsGenLine (texts words.now) line → GenRuns line bench.new result (O.held out.old) (O.held out.new) }
+    ensures generate { (line : GenLine) → IsGenLine (texts words.now) line → GenRuns line memory_shelf.new result (O.held out.old) (O.held out.new) }
     // What a line of `serve` did: how the store was loaded, which connections were served, and how many requests.
     ensures serve { (line : ServeLine) → IsServeLine (texts words.now) line →
         Serves ⟦<S::D as Disk>⟧ S.told S.slot S.fault_count P.goes P.bound O.held C.given R.given
@@ -93,24 +93,33 @@ pub fn run<S: Shelf, P: Port, L: Link, I: Source, O: Sink, E: Sink, C: Clock, R:
     ensures gen_unread { IsGenerating (texts words.now) → I.left input.new ≡ I.left input.old }
     ensures undrawn { ((line : SealLine) → ¬ (IsSealLine (texts words.now) line)) → ¬ (IsServing (texts words.now)) → ¬ (IsDevicing (texts words.now))
         → R.given seeds.new ≡ R.given seeds.old }
-    ensures unplayed { ¬ (IsReplayLine (texts words.now)) → ¬ (IsGenerating (texts words.now)) → bench.new ≡ bench.old }
+    ensures unplayed { ¬ (IsReplayLine (texts words.now)) → ¬ (IsGenerating (texts words.now)) → memory_shelf.new ≡ memory_shelf.old }
     ensures unserved { ¬ (IsServing (texts words.now)) → AreLeft port.old port.new clock.old clock.new }
     ensures unasked { ¬ (IsDevicing (texts words.now)) → link.new ≡ link.old }
     ensures unstored { ¬ (IsServing (texts words.now)) → ¬ (IsDevicing (texts words.now)) → shelf.new ≡ shelf.old }
-    ensures no_script { IsOfInput result → bench.new ≡ bench.old }
+    ensures no_script { IsOfInput result → memory_shelf.new ≡ memory_shelf.old }
     ensures silent { IsSilent result → ¬ (IsServing (texts words.now)) → Keeps (O.held out.old) (O.held out.new) }
 
     ensures read { result ≡ Status.ReadFault → Rose (I.fault_count input.old) (I.fault_count input.new) }
     ensures write { result ≡ Status.WriteFault → Rose (O.fault_count out.old) (O.fault_count out.new) }
     ensures port { result ≡ Status.LinkFault → IsServing (texts words.now) → Rose (P.fault_count port.old) (P.fault_count port.new) }
     ensures link { result ≡ Status.LinkFault → IsDevicing (texts words.now) → Rose (L.fault_count link.old) (L.fault_count link.new) }
-    ensures told { Tells (E.held err.old) (E.held err.new) (E.fault_count err.old) (E.fault_count err.new) (line_of result) }
+    ensures line_written { Tells (E.held err.old) (E.held err.new) (E.fault_count err.old) (E.fault_count err.new) (line_of result) }
 {
     sealed_opens();
     read_back();
     one_script();
     let status = answer(
-        alloc, words, shelf, bench, port, link, input, out, clock, seeds,
+        alloc,
+        words,
+        shelf,
+        memory_shelf,
+        port,
+        link,
+        input,
+        out,
+        clock,
+        seeds,
     );
     tell(alloc, err, status)
 }
@@ -120,7 +129,7 @@ fn answer<S: Shelf, P: Port, L: Link, I: Source, O: Sink, C: Clock, R: Seeds>(
     alloc: Global,
     words: &[String],
     shelf: &mut S,
-    bench: &mut MemShelf,
+    memory_shelf: &mut MemShelf,
     port: &mut P,
     link: &mut L,
     input: &mut I,
@@ -128,14 +137,14 @@ fn answer<S: Shelf, P: Port, L: Link, I: Source, O: Sink, C: Clock, R: Seeds>(
     clock: &mut C,
     seeds: &mut R,
 ) -> Status
-    requires fresh { (name : List ℕ) → shelf_slot bench.old name ≡ unknown }
+    requires fresh { (name : List ℕ) → shelf_slot memory_shelf.old name ≡ unknown }
     ensures met { Meets (texts words.now)
         (Serves ⟦<S::D as Disk>⟧ S.told S.slot S.fault_count P.goes P.bound O.held C.given R.given
         (handed shelf.old port.old out.old clock.old seeds.old) (handed shelf.new port.new out.new clock.new seeds.new))
         (EndsCall ⟦<S::D as Disk>⟧ S.told S.slot S.fault_count L.asks L.aimed R.given
         (handed_call shelf.old link.old seeds.old) (handed_call shelf.new link.new seeds.new))
         (handed_call shelf.new link.new seeds.new ≡ handed_call shelf.old link.old seeds.old)
-        (AreLeft port.old port.new clock.old clock.new) (link.new ≡ link.old) (shelf.new ≡ shelf.old) result bench.old bench.new (I.left input.old) (I.left input.new) (O.held out.old) (O.held out.new)
+        (AreLeft port.old port.new clock.old clock.new) (link.new ≡ link.old) (shelf.new ≡ shelf.old) result memory_shelf.old memory_shelf.new (I.left input.old) (I.left input.new) (O.held out.old) (O.held out.new)
         (R.given seeds.old) (R.given seeds.new) }
     ensures silent { IsSilent result → ¬ (IsServing (texts words.now)) → Keeps (O.held out.old) (O.held out.new) }
     ensures read { result ≡ Status.ReadFault → Rose (I.fault_count input.old) (I.fault_count input.new) }
@@ -149,8 +158,8 @@ fn answer<S: Shelf, P: Port, L: Link, I: Source, O: Sink, C: Clock, R: Seeds>(
         Ok(Command::Seal(item, params)) => seal_input(alloc, &item, &params, input, out, seeds),
         Ok(Command::Open(item)) => open_input(alloc, &item, input, out),
         Ok(Command::Show) => show_input(alloc, input, out),
-        Ok(Command::Replay) => replay_input(alloc, bench, input, out),
-        Ok(Command::Gen(options)) => generate_and_replay(alloc, &options, bench, out),
+        Ok(Command::Replay) => replay_input(alloc, memory_shelf, input, out),
+        Ok(Command::Gen(options)) => generate_and_replay(alloc, &options, memory_shelf, out),
         Ok(Command::Serve(options)) => {
             serve_store(alloc, &options, shelf, port, out, clock, seeds)
         }

@@ -22,17 +22,17 @@ use sn_status::{Refusal, Status};
 use sn_string::Text;
 use std::alloc::Global;
 
-/// Carries the input's script out over disks that it leaves on the bench, and writes the report.
+/// Carries the input's script out over disks that it leaves on the memory_shelf, and writes the report.
 pub fn replay_input<I: Source, O: Sink>(
     alloc: Global,
-    bench: &mut MemShelf,
+    memory_shelf: &mut MemShelf,
     input: &mut I,
     out: &mut O,
 ) -> Status
-    requires fresh { (name : List ℕ) → shelf_slot bench.old name ≡ unknown }
-    ensures ran { RunsOver (ReplayCallsFor bench.new) ReplayRefuses result
+    requires fresh { (name : List ℕ) → shelf_slot memory_shelf.old name ≡ unknown }
+    ensures ran { RunsOver (ReplayCallsFor memory_shelf.new) ReplayRefuses result
         (I.left input.old) (I.left input.new) (O.held out.old) (O.held out.new) }
-    ensures unplayed { IsOfInput result → bench.new ≡ bench.old }
+    ensures unplayed { IsOfInput result → memory_shelf.new ≡ memory_shelf.old }
     ensures silent { IsSilent result → Keeps (O.held out.old) (O.held out.new) }
     ensures read { result ≡ Status.ReadFault → Rose (I.fault_count input.old) (I.fault_count input.new) }
     ensures write { result ≡ Status.WriteFault → Rose (O.fault_count out.old) (O.fault_count out.new) }
@@ -43,7 +43,7 @@ pub fn replay_input<I: Source, O: Sink>(
     };
     reads_bounded();
     match read_script(alloc, &text) {
-        Ok(script) => match report_of(alloc, &script, bench) {
+        Ok(script) => match report_of(alloc, &script, memory_shelf) {
             Ok(report) => write_out(out, report.as_str().as_bytes()),
             Err(ReplayError::NotAllowed { number }) => Status::Refused(Refusal::NotAllowed {
                 number,
@@ -56,14 +56,18 @@ pub fn replay_input<I: Source, O: Sink>(
 }
 
 // The text of the report that the script carries over the disks that it leaves.
-fn report_of(alloc: Global, script: &Script, bench: &mut MemShelf) -> Result<Text, ReplayError>
+fn report_of(
+    alloc: Global,
+    script: &Script,
+    memory_shelf: &mut MemShelf,
+) -> Result<Text, ReplayError>
     requires bounded { All IsBounded script.now.lines }
-    requires fresh { (name : List ℕ) → shelf_slot bench.old name ≡ unknown }
-    ensures carries { (input : List ℕ) → IsScript input script.now.lines → IfOk result (λ text. ReplayCallsFor bench.new input text) }
+    requires fresh { (name : List ℕ) → shelf_slot memory_shelf.old name ≡ unknown }
+    ensures carries { (input : List ℕ) → IsScript input script.now.lines → IfOk result (λ text. ReplayCallsFor memory_shelf.new input text) }
     ensures refused { IfErr result (IsReplayRefusal script.now) }
-    ensures untouched { (number : ℕ) → IsErrOf result (refused.NotAllowed number) → bench.new ≡ bench.old }
+    ensures untouched { (number : ℕ) → IsErrOf result (refused.NotAllowed number) → memory_shelf.new ≡ memory_shelf.old }
 {
-    let report = replay(alloc, script, bench)?;
+    let report = replay(alloc, script, memory_shelf)?;
     let text = report_text(alloc, &report)?;
     Ok(text)
 }

@@ -651,14 +651,23 @@ fn outcome_of(alloc: Global, case: &Case) -> Result<Outcome, Fail> {
     let mut out = MemSink::new(alloc, 50, failing_writes);
     let mut err = MemSink::new(alloc, 7, Vec::new(alloc));
     let mut seeds = MemSeeds::new(Vec::new(alloc));
-    let mut bench = MemShelf::new(alloc, Vec::new(alloc));
+    let mut memory_shelf = MemShelf::new(alloc, Vec::new(alloc));
     let mut shelf = MemShelf::new(alloc, Vec::new(alloc));
     let mut port = MemPort::new(alloc, Vec::new(alloc), 4711, Vec::new(alloc));
     let mut link = MemLink::new(alloc, Vec::new(alloc), Vec::new(alloc));
     let mut clock = MemClock::new(Vec::new(alloc));
     let status = run(
-        alloc, &words, &mut shelf, &mut bench, &mut port, &mut link, &mut input, &mut out,
-        &mut err, &mut clock, &mut seeds,
+        alloc,
+        &words,
+        &mut shelf,
+        &mut memory_shelf,
+        &mut port,
+        &mut link,
+        &mut input,
+        &mut out,
+        &mut err,
+        &mut clock,
+        &mut seeds,
     );
     Ok(Outcome { status, out, err })
 }

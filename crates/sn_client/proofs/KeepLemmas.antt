@@ -10,8 +10,8 @@ use Rattle.sn_client.specs.declared.called.Called.TheVariants as called
 use Rattle.sn_client.specs.declared.device.Device.{Device}
 use Rattle.sn_client.specs.declared.error.ClientError.{ClientError}
 use Rattle.sn_client.specs.declared.error.ClientError.TheVariants as refusal
-use Rattle.sn_client.specs.declared.went.Went.{Went}
-use Rattle.sn_client.specs.declared.went.Went.TheVariants.{On, Over}
+use Rattle.sn_client.specs.declared.piece_end.PieceEnd.{PieceEnd}
+use Rattle.sn_client.specs.declared.piece_end.PieceEnd.TheVariants.{On, Over}
 
 rises : (before between now : ℕ) → before ≤ between → Rose between now → Rose before now
 rises before between now later rose = omega arith
@@ -49,7 +49,7 @@ module _ {D : Type 0} {g : Ghosts D} {T : Type 0} where
   -- ---- pieces of a call
 
   -- the end of a call that goes on from a piece
-  pub keeps_answered : (old : Device D g) (went : Went (Device D g) D T) (result : Called (Device D g) D T) → IsAnsweredPast went result
+  pub keeps_answered : (old : Device D g) (went : PieceEnd (Device D g) D T) (result : Called (Device D g) D T) → IsAnsweredPast went result
       → KeepsDevice old (called_past went) → KeepsDevice old result
   keeps_answered old (On device made) result (given, is) keeps =
       subst (λ (c : Called (Device D g) D T). KeepsDevice old c) (sym is) (keeps_done old device refusal.RoundsUsed given keeps)
@@ -57,17 +57,17 @@ module _ {D : Type 0} {g : Ghosts D} {T : Type 0} where
 
 module _ {S D T : Type 0} where
   -- a call that goes on is not refused
-  pub refused_answered : (went : Went S D T) (result : Called S D T) (P : ClientError → Type 0) → IsAnsweredPast went result → IfRefused (called_past went) P
+  pub refused_answered : (went : PieceEnd S D T) (result : Called S D T) (P : ClientError → Type 0) → IsAnsweredPast went result → IfRefused (called_past went) P
       → IfRefused result P
   refused_answered (On device made) result P (given, is) so = subst (λ (c : Called S D T). IfRefused c P) (sym is) tt
   refused_answered (Over ended) result P is so = subst (λ (c : Called S D T). IfRefused c P) (sym is) so
 
   -- where no piece goes on
-  pub never_on : (went : Went S D T) (P : S → Type 0) → IfOn went (λ device. ⊥) → IfOn went P
+  pub never_on : (went : PieceEnd S D T) (P : S → Type 0) → IfOn went (λ device. ⊥) → IfOn went P
   never_on (On device made) P never = absurd never
   never_on (Over result) P never = tt
 
-  pub never_made : (went : Went S D T) → IfOn went (λ device. ⊥) → MadeAtMost went
+  pub never_made : (went : PieceEnd S D T) → IfOn went (λ device. ⊥) → MadeAtMost went
   never_made (On device made) never = absurd never
   never_made (Over result) never = tt
 

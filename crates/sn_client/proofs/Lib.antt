@@ -55,4 +55,4 @@ pub mod Turns
 pub mod VersionLemmas
 pub mod WaitLemmas
 pub mod Well
-pub mod WentLemmas
+pub mod PieceLemmas

@@ -22,7 +22,7 @@ use Rattle.sn_client.specs.Going.{GoesOver, MayWant}
 use Rattle.sn_client.specs.Calls.{CallsOver}
 use Rattle.sn_client.specs.Runs.{Act, AsksAccount, AsksFirst, Given, Halt, IsOrMayBe, IsOtherOlder, Run, SignsInBy, SignsInUnder, SignsInWith, asked, refused, sign_in}
 use Rattle.sn_client.specs.Signing.{HasKeys, JoinsAgain, JoinsBy, MadeBySignIn, RefusesAgain, RefusesKeys, RefusesParams, RefusesWith}
-use Rattle.sn_client.specs.Steps.{Adopts, Begins, Renews, adopts, begins, renews}
+use Rattle.sn_client.specs.Steps.{Adopts, BeginsDevice, Renews, adopts, begins, renews}
 use Rattle.sn_client.specs.States.{Bytes, HasNoAccount, HasOwner, HasSets}
 use Rattle.sn_client.specs.declared.called.Called.{Called}
 use Rattle.sn_client.specs.declared.called.Called.TheVariants as called
@@ -108,7 +108,7 @@ keys_may_be least rows identifier password asks host set keys may =
 -- what is begun, renewed or adopted with the password's keys is of this sign-in
 pub made_by : (least : ℕ) (rows : Rows) (words left : ChaCha) (identifier password : Bytes) (asks : List Exchange → Type 0) (host : Bytes) (set : KeySet)
     (changes : List Change) → HasKeys asks host least identifier password set
-    → (uuid : Bytes) × (token : Bytes) × (Begins set uuid token changes ⊎ (Renews rows token changes ⊎ Adopts rows words set token changes left))
+    → (uuid : Bytes) × (token : Bytes) × (BeginsDevice set uuid token changes ⊎ (Renews rows token changes ⊎ Adopts rows words set token changes left))
     → MadeBySignIn rows words identifier password changes left
 made_by least rows words left identifier password asks host set changes keys (uuid, token, inl begun) = (
   uuid,

@@ -27,7 +27,7 @@ use Rattle.sn_table.specs.Batches.{IsOf}
 use Rattle.sn_client.specs.Laws.{StepsStaySound}
 use Rattle.sn_client.specs.Sending.{Posts, as_posted}
 use Rattle.sn_client.specs.States.{Bytes, Columns, HasLocal, IsFresh, IsSound, IsSoundItem}
-use Rattle.sn_client.specs.Steps.{AppliesAnswer, AppliesTo, Begins, Deletes, Edits, adopts, applies, asks, begins, deletes, drafted, edits, forgets, posts, puts, renews}
+use Rattle.sn_client.specs.Steps.{AppliesAnswer, AppliesTo, BeginsDevice, Deletes, Edits, adopts, applies, asks, begins, deletes, drafted, edits, forgets, posts, puts, renews}
 use Rattle.sn_client.proofs.AdoptSound.{adopts_sound, asks_sound, forgets_sound}
 use Rattle.sn_client.proofs.Frames.{device_after, one_of_device, sound_after, sound_stands}
 use Rattle.sn_client.proofs.StepStands.{apply_parts, apply_stands, delete_parts, delete_stands, edit_parts, edit_stands, new_stands, post_parts, post_stands, put_parts, renew_parts}
@@ -74,7 +74,7 @@ posted_sound cs drafted_is h = record {
 
 -- ---- the first rows
 
-module _ (rows : Rows) (fresh : IsFresh rows) (set : KeySet) (account token : Bytes) (changes : List Change) (b : Begins set account token changes) where
+module _ (rows : Rows) (fresh : IsFresh rows) (set : KeySet) (account token : Bytes) (changes : List Change) (b : BeginsDevice set account token changes) where
   abbrev begun : Rows
   begun = rows_after rows (b.owner ∷ b.present ∷ [])
 

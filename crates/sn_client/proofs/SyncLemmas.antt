@@ -28,7 +28,7 @@ use Rattle.sn_client.specs.declared.error.ClientError.{ClientError}
 use Rattle.sn_client.specs.declared.error.ClientError.TheVariants as refusal
 use Rattle.sn_client.specs.declared.syncing.Exchanged.{Exchanged}
 use Rattle.sn_client.specs.declared.syncing.Exchanged.TheVariants as exchanged
-use Rattle.sn_client.specs.declared.went.Went.TheVariants.{Over}
+use Rattle.sn_client.specs.declared.piece_end.PieceEnd.TheVariants.{Over}
 use Rattle.sn_client.proofs.CallLemmas.{stops_refused}
 
 -- ---- acts behind acts

@@ -15,9 +15,9 @@ use Rattle.sn_client.specs.Syncing.{IsAnsweredPast, WentBy, gives_nothing}
 use Rattle.sn_client.specs.declared.called.Called.{Called}
 use Rattle.sn_client.specs.declared.error.ClientError.{ClientError}
 use Rattle.sn_client.specs.declared.error.ClientError.TheVariants as refusal
-use Rattle.sn_client.specs.declared.went.Went.{Went}
+use Rattle.sn_client.specs.declared.piece_end.PieceEnd.{PieceEnd}
 use Rattle.sn_client.proofs.LookLemmas.{without_account}
-use Rattle.sn_client.proofs.WentLemmas.{answers_over}
+use Rattle.sn_client.proofs.PieceLemmas.{answers_over}
 
 -- ---- before the first act
 
@@ -43,7 +43,7 @@ taken_cost least cost taken = let some : cost ≢ 0 = λ is. taken (inl is) in o
 -- ---- with an account's sets
 
 module _ {S D T : Type 0} (is_open : S → Kept → Type 0) (may_have : D → Kept → List Change → Type 0) (least : ℕ) (kept : Kept) (words : ChaCha) (host : Bytes)
-    (asks : List Exchange → Type 0) (left : ChaCha) (owner : OwnerRow) (sets : Sets) (has : HasSets kept.rows owner sets) (went : Went S D T)
+    (asks : List Exchange → Type 0) (left : ChaCha) (owner : OwnerRow) (sets : Sets) (has : HasSets kept.rows owner sets) (went : PieceEnd S D T)
     (result : Called S D T) (is : IsAnsweredPast went result) where
   pub syncs_goes : WentBy is_open may_have (SyncsUnder owner sets) (begun kept.rows words) kept host asks left went
       → CallsOver is_open may_have gives_nothing least sync asks host kept words left result

@@ -15,7 +15,7 @@ use Rattle.sn_client.specs.Asked.{AsksOnce, IsAsked}
 use Rattle.sn_client.specs.Asking.{said}
 use Rattle.sn_client.specs.Runs.{IsBadCost, IsOtherOlder}
 use Rattle.sn_client.specs.States.{Bytes, HasNoAccount, HasSets}
-use Rattle.sn_client.specs.Steps.{Adopts, Begins, Renews}
+use Rattle.sn_client.specs.Steps.{Adopts, BeginsDevice, Renews}
 use Rattle.sn_client.specs.declared.error.ClientError.{ClientError}
 use Rattle.sn_client.specs.declared.error.ClientError.TheVariants as refusal
 use Rattle.sn_client.specs.declared.error.Place.TheVariants as place
@@ -56,7 +56,7 @@ abbrev pub MadeBySignIn : Rows → ChaCha → Bytes → Bytes → List Change �
 MadeBySignIn rows words identifier password changes left = (uuid : Bytes) × (token : Bytes)
     × (Renews rows token changes
     ⊎ ((set : KeySet) × (set.params.identifier ≡ identifier) × AreKeysOf password set.params set
-    × (Begins set uuid token changes ⊎ Adopts rows words set token changes left)))
+    × (BeginsDevice set uuid token changes ⊎ Adopts rows words set token changes left)))
 
 -- what a device that holds these sets does with the keys of a password: the present set's session token is renewed, and a set that isn't held is adopted
 abbrev pub JoinsAgain : Sets → KeySet → Joining → Type 0

@@ -91,7 +91,7 @@ first_owner set account token = record {
   next = first_number;
 }
 
-pub record Begins (set : KeySet) (account token : Bytes) (changes : List Change) : Type 0 where
+pub record BeginsDevice (set : KeySet) (account token : Bytes) (changes : List Change) : Type 0 where
   pub owner : Change
   pub owner_is : PutsOwner owner (first_owner set account token)
   pub keys : SetRow
@@ -272,7 +272,7 @@ pub record Forgets (rows : Rows) (changes : List Change) : Type 0 where
 
 -- the rows before, the words before, what is done, what is changed, and the words after; the rows after are those after the changes
 abbrev pub Step : Rows → ChaCha → What → List Change → ChaCha → Type 0
-Step rows words (begins set account token) changes left = IsFresh rows × Begins set account token changes × (left ≡ words)
+Step rows words (begins set account token) changes left = IsFresh rows × BeginsDevice set account token changes × (left ≡ words)
 Step rows words (renews token) changes left = Renews rows token changes × (left ≡ words)
 Step rows words (puts uuid kind text) changes left = PutsNew rows words uuid kind text changes left
 Step rows words (edits uuid text) changes left = Edits rows words uuid text changes left

@@ -32,8 +32,8 @@ use Rattle.sn_client.specs.declared.error.ClientError.{ClientError}
 use Rattle.sn_client.specs.declared.error.ClientError.TheVariants as refusal
 use Rattle.sn_client.specs.declared.syncing.Exchanged.{Exchanged}
 use Rattle.sn_client.specs.declared.syncing.Exchanged.TheVariants as exchanged
-use Rattle.sn_client.specs.declared.went.Went.{Went}
-use Rattle.sn_client.specs.declared.went.Went.TheVariants as went
+use Rattle.sn_client.specs.declared.piece_end.PieceEnd.{PieceEnd}
+use Rattle.sn_client.specs.declared.piece_end.PieceEnd.TheVariants as went
 
 abbrev pub gives_nothing : {T : Type 0} → T → Given
 gives_nothing given = nothing
@@ -168,22 +168,22 @@ module _ {S D T : Type 0} (is_open : S → Kept → Type 0) (may_have : D → Ke
 -- ---- a piece of a call
 
 -- what became of it as a call: one that goes on is taken as one that is refused
-abbrev pub called_past : {S D T : Type 0} → Went S D T → Called S D T
+abbrev pub called_past : {S D T : Type 0} → PieceEnd S D T → Called S D T
 called_past (went.On device made) = called.Refused device refusal.RoundsUsed
 called_past (went.Over result) = result
 
 -- as a call of which nothing is left
-abbrev pub IsAnsweredPast : {S D T : Type 0} → Went S D T → Called S D T → Type 0
+abbrev pub IsAnsweredPast : {S D T : Type 0} → PieceEnd S D T → Called S D T → Type 0
 IsAnsweredPast {T = T} (went.On device made) result = (given : T) × (result ≡ called.Done device given)
 IsAnsweredPast (went.Over ended) result = result ≡ ended
 
 -- the device, where the call goes on
-abbrev pub IfOn : {S D T : Type 0} → Went S D T → (S → Type 0) → Type 0
+abbrev pub IfOn : {S D T : Type 0} → PieceEnd S D T → (S → Type 0) → Type 0
 IfOn (went.On device made) P = P device
 IfOn (went.Over result) P = Unit {0}
 
 -- the exchanges that were made, where it goes on, are no more than a call makes
-abbrev pub MadeAtMost : {S D T : Type 0} → Went S D T → Type 0
+abbrev pub MadeAtMost : {S D T : Type 0} → PieceEnd S D T → Type 0
 MadeAtMost (went.On device made) = made ≤ most_exchanges
 MadeAtMost (went.Over result) = Unit {0}
 
@@ -219,6 +219,6 @@ module _ {S D T : Type 0} (is_open : S → Kept → Type 0) (may_have : D → Ke
     pub ends : Ends is_open may_have gives_nothing kept acts halt left result
 
   -- either, with the exchanges that the link tells
-  abbrev pub WentBy : Went S D T → Type 0
+  abbrev pub WentBy : PieceEnd S D T → Type 0
   WentBy (went.On device made) = GoesThere is_open piece p kept host asks left device made
   WentBy (went.Over result) = EndsThere result

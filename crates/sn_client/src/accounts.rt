@@ -4,7 +4,7 @@ ghost use Rattle.std.specs.Prelude.{◌≡◌, ◌≢◌, ◌≤◌, ◌∷◌, 
 ghost use Rattle.sn_client.specs.Asked.{IsAsked};
 ghost use Rattle.sn_client.specs.Going.{GivesAccount, IsForAccount, KeepsOrNot};
 ghost use Rattle.sn_client.specs.States.{HasOwner, owner_columns};
-ghost use Rattle.sn_client.specs.Steps.{Begins, Renews, first_number, with_token};
+ghost use Rattle.sn_client.specs.Steps.{BeginsDevice, Renews, first_number, with_token};
 ghost use Rattle.sn_io.specs.Causes.{Rose};
 ghost use Rattle.sn_journal.specs.declared.owner.Owner.TheVariants.{Device as DeviceOwner};
 ghost use Rattle.sn_row_map.specs.RowMaps.{row_in};
@@ -28,7 +28,7 @@ use sn_disk::Disk;
 use sn_items::Words;
 use sn_net::Link;
 use sn_rows::{Boxed, Change, Key, OwnerRow, Row, SetRow, Slot, Value};
-use sn_string::{KeySet, Params, Text, Twin};
+use sn_string::{KeySet, Params, Text, TryClone};
 use sn_sync::{Answer, Request};
 use sn_table::Table;
 use std::alloc::{AllocError, Global};
@@ -73,8 +73,8 @@ pub(crate) fn first_rows<L: Link>(
     set: KeySet,
 ) -> Result<Vec<Change>, ClientError>
     requires { IsForAccount request }
-    ensures ok { IfOk result (λ changes. KeepsOrNot (L.asks link.old link.new) (L.aimed link.old) request (Begins set) (Ok changes.items)) }
-    ensures err { IfErr result (λ why. KeepsOrNot (L.asks link.old link.new) (L.aimed link.old) request (Begins set) (Err why)) }
+    ensures ok { IfOk result (λ changes. KeepsOrNot (L.asks link.old link.new) (L.aimed link.old) request (BeginsDevice set) (Ok changes.items)) }
+    ensures err { IfErr result (λ why. KeepsOrNot (L.asks link.old link.new) (L.aimed link.old) request (BeginsDevice set) (Err why)) }
     ensures owned { IfOk result (λ changes. All (IsOf DeviceOwner) changes.items) }
     ensures aimed { L.aimed link.new ≡ L.aimed link.old }
     ensures link_fault { IsErrOf result ClientError.LinkFault → Rose (L.fault_count link.old) (L.fault_count link.new) }
@@ -90,7 +90,7 @@ pub(crate) fn first_rows<L: Link>(
 // The first rows of an account with its set.
 fn first_changes(alloc: Global, set: KeySet, account: Account) -> Result<Vec<Change>, AllocError>
     requires { IsSessionToken account.token }
-    ensures begins { IfOk result (λ changes. Begins set account.uuid account.token changes.items) }
+    ensures begins { IfOk result (λ changes. BeginsDevice set account.uuid account.token changes.items) }
     ensures owned { IfOk result (λ changes. All (IsOf DeviceOwner) changes.items) }
 {
     let KeySet { params, pw, mk, ak } = set;
@@ -185,9 +185,9 @@ pub(crate) fn renewed_owner(
     requires { IsSessionToken token }
     ensures { IfOk result (λ row. owner_columns row ≡ with_token token (owner_columns owner.now)) }
 {
-    let identifier = owner.identifier.twin(alloc)?;
-    let sync_token = owner.sync_token.twin(alloc)?;
-    let cursor_token = owner.cursor_token.twin(alloc)?;
+    let identifier = owner.identifier.try_clone(alloc)?;
+    let sync_token = owner.sync_token.try_clone(alloc)?;
+    let cursor_token = owner.cursor_token.try_clone(alloc)?;
     let Some(row) = OwnerRow::new(
         identifier,
         owner.account,
@@ -228,7 +228,7 @@ impl<D: Disk> Device<D> {
             (L.asks link.old link.new) (L.aimed link.old) kept words result }
         ensures any_moment { D.told → (kept : Kept) → IsOpen self kept →
             LeavesOnly D.moment D.left_since (device_disk self) (called_disk device_disk result)
-            (StandsOrHas kept.batches (λ changes. (uuid : List ℕ) × (token : List ℕ) × Begins set uuid token changes)) }
+            (StandsOrHas kept.batches (λ changes. (uuid : List ℕ) × (token : List ℕ) × BeginsDevice set uuid token changes)) }
         ensures sound { IfStands result (λ device. IsSound (device_rows device)) }
         ensures least { IfStands result (λ device. device.least_cost ≡ self.least_cost) }
         ensures fault { IfBroken result (λ disk. Rose (D.fault_count (device_disk self)) (D.fault_count disk)) }

@@ -24,7 +24,7 @@ use sn_items::Words;
 use sn_row_map::RowMap;
 use sn_rows::{Change, OwnerRow};
 use sn_sets::Sets;
-use sn_string::{Many, Text, Twin};
+use sn_string::{OwnedList, Text, TryClone};
 use sn_sync::{Conflict, Item};
 use std::alloc::{AllocError, Global};
 
@@ -86,7 +86,7 @@ fn and_tokens(
 }
 
 // Adds one change more, if there is one.
-fn push_some(changes: &mut Many<Change>, found: Option<Change>) -> Result<(), AllocError>
+fn push_some(changes: &mut OwnedList<Change>, found: Option<Change>) -> Result<(), AllocError>
     ensures { OnOk result (changes.new ≡ changes.old ++ option_list found) }
 {
     match found {
@@ -106,9 +106,9 @@ fn put_tokens(
     requires { FitsTokens token.now cursor.now }
     ensures { IfOk result (λ change. PutsOwner change (with_tokens next token.now cursor.now (owner_columns owner.now))) }
 {
-    let identifier = owner.identifier.twin(alloc)?;
-    let session = owner.token.twin(alloc)?;
-    let token = token.twin(alloc)?;
+    let identifier = owner.identifier.try_clone(alloc)?;
+    let session = owner.token.try_clone(alloc)?;
+    let token = token.try_clone(alloc)?;
     let cursor = token_text(alloc, cursor)?;
     match OwnerRow::new(identifier, owner.account, session, token, cursor, next) {
         Some(row) => put_owner(alloc, row),
@@ -121,7 +121,7 @@ fn token_text(alloc: Global, token: &Option<Text>) -> Result<Text, AllocError>
     ensures { IfOk result (λ text. text ≡ text_of_token token.now) }
 {
     match token {
-        Some(text) => text.twin(alloc),
+        Some(text) => text.try_clone(alloc),
         None => Ok(Text::fixed("")),
     }
 }

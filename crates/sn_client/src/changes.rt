@@ -13,7 +13,7 @@ ghost use Rattle.sn_client.specs.Taking.{new_columns};
 use sn_rows::{
     Boxed, Change, Key, LocalItem, OwnerRow, Row, RowBody, RowStrings, SetRow, Slot, Value,
 };
-use sn_string::{KeySet, Text, Twin};
+use sn_string::{KeySet, Text, TryClone};
 use std::alloc::{AllocError, Global};
 use uuid::Uuid;
 
@@ -32,7 +32,7 @@ pub(crate) fn put_owner(alloc: Global, owner: OwnerRow) -> Result<Change, AllocE
 pub(crate) fn put_set(alloc: Global, slot: Slot, set: &KeySet) -> Result<Change, AllocError>
     ensures { IfOk result (λ change. PutsSet change slot set.now.params.identifier set.now) }
 {
-    let nonce = set.params.pw_nonce.twin(alloc)?;
+    let nonce = set.params.pw_nonce.try_clone(alloc)?;
     let Some(keys) = SetRow::new(set.params.pw_cost, nonce, set.pw, set.mk, set.ak) else {
         unreachable!();
     };
@@ -58,7 +58,7 @@ pub(crate) fn put_local(alloc: Global, number: u64, item: LocalItem) -> Result<C
 pub(crate) fn put_next(alloc: Global, owner: &OwnerRow, next: u64) -> Result<Change, AllocError>
     ensures { IfOk result (λ change. PutsOwner change (with_next next (owner_columns owner.now))) }
 {
-    let mut counted = owner.twin(alloc)?;
+    let mut counted = owner.try_clone(alloc)?;
     counted.next = next;
     put_owner(alloc, counted)
 }
@@ -91,9 +91,9 @@ pub(crate) fn put_draft(
 ) -> Result<Change, AllocError>
     ensures { IfOk result (λ change. PutsColumns change number (drafted (Some draft) (columns item.now))) }
 {
-    let kind = item.kind.twin(alloc)?;
-    let body = item.body.twin(alloc)?;
-    let posted = item.posted.twin(alloc)?;
+    let kind = item.kind.try_clone(alloc)?;
+    let body = item.body.try_clone(alloc)?;
+    let posted = item.posted.try_clone(alloc)?;
     let again = LocalItem {
         uuid: item.uuid,
         kind,

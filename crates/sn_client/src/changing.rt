@@ -15,9 +15,9 @@ use crate::called::Called;
 use crate::device::Device;
 use crate::error::{ClientError, of_commit};
 use crate::looking::held_sets;
+use crate::piece_end::PieceEnd;
 use crate::registering::{is_bad_cost, new_set};
 use crate::rekeying::asking;
-use crate::went::Went;
 use sn_disk::Disk;
 use sn_items::Words;
 use sn_net::Link;
@@ -25,7 +25,7 @@ use sn_rekey::{RekeyError, Running, is_of_other};
 use sn_row_map::RowMap;
 use sn_rows::{RowKind, Value};
 use sn_sets::Sets;
-use sn_string::{KeySet, Text, Twin};
+use sn_string::{KeySet, Text, TryClone};
 use sn_sync::Answer;
 use sn_table::Committed;
 use std::alloc::{AllocError, Global};
@@ -86,8 +86,8 @@ impl<D: Disk> Device<D> {
             return Called::Refused(self, ClientError::Cost { cost });
         }
         match self.change_to(link, words, &sets, password, cost) {
-            Went::On(device, _) => Called::Done(device, ()),
-            Went::Over(called) => called,
+            PieceEnd::On(device, _) => Called::Done(device, ()),
+            PieceEnd::Over(called) => called,
         }
     }
 
@@ -99,7 +99,7 @@ impl<D: Disk> Device<D> {
         sets: &Sets,
         password: &str,
         cost: u32,
-    ) -> Went<Device<D>, D, ()>
+    ) -> PieceEnd<Device<D>, D, ()>
         requires sound { IsSound (device_rows self) }
         requires holds { (owner : OwnerRow) × HasSets (device_rows self) owner sets.now }
         requires cost { ¬ (IsBadCost self.least_cost cost) }
@@ -107,7 +107,7 @@ impl<D: Disk> Device<D> {
             WentBy (IsOpenSince self kept) (MayHaveSince self kept) (ChangesTo password.now cost owner sets.now) (begun kept.rows words.old) kept (L.aimed link.old) (L.asks link.old link.new) words.new result }
         ensures device { KeepsDevice self (called_past result) }
         ensures owned { IfOn result (λ device. (owner : OwnerRow) × HasOwner (device_rows device) owner) }
-        ensures settled { IfOn result (λ device. HasNoneAsked (device_rows device)) }
+        ensures none_asked { IfOn result (λ device. HasNoneAsked (device_rows device)) }
         ensures few { MadeAtMost result }
         ensures words { IsLater words.old words.new }
         ensures aimed { L.aimed link.new ≡ L.aimed link.old }
@@ -115,8 +115,8 @@ impl<D: Disk> Device<D> {
         ensures link_later { L.fault_count link.old ≤ L.fault_count link.new }
     {
         match self.bring_together(link, words, sets) {
-            Went::On(device, made) => device.change(link, words, password, cost, made),
-            Went::Over(called) => Went::Over(called),
+            PieceEnd::On(device, made) => device.change(link, words, password, cost, made),
+            PieceEnd::Over(called) => PieceEnd::Over(called),
         }
     }
 
@@ -128,17 +128,17 @@ impl<D: Disk> Device<D> {
         password: &str,
         cost: u32,
         made: u64,
-    ) -> Went<Device<D>, D, ()>
+    ) -> PieceEnd<Device<D>, D, ()>
         requires sound { IsSound (device_rows self) }
         requires few { made ≤ most_exchanges }
         requires owned { (owner : OwnerRow) × HasOwner (device_rows self) owner }
-        requires settled { HasNoneAsked (device_rows self) }
+        requires none_asked { HasNoneAsked (device_rows self) }
         requires cost { 1 ≤ cost }
         ensures went { (kept : Kept) → IsOpen self kept →
             WentBy (IsOpenSince self kept) (MayHaveSince self kept) (Then (AsksFor password.now cost) Exchanges) (record { made = made; rows = kept.rows; words = words.old }) kept (L.aimed link.old) (L.asks link.old link.new) words.new result }
         ensures device { KeepsDevice self (called_past result) }
         ensures owned { IfOn result (λ device. (owner : OwnerRow) × HasOwner (device_rows device) owner) }
-        ensures settled { IfOn result (λ device. HasNoneAsked (device_rows device)) }
+        ensures none_asked { IfOn result (λ device. HasNoneAsked (device_rows device)) }
         ensures few { MadeAtMost result }
         ensures words { IsLater words.old words.new }
         ensures aimed { L.aimed link.new ≡ L.aimed link.old }
@@ -146,8 +146,8 @@ impl<D: Disk> Device<D> {
         ensures link_later { L.fault_count link.old ≤ L.fault_count link.new }
     {
         match self.ask_for(link, words, password, cost, made) {
-            Went::On(device, made) => device.exchanges(link, words, made),
-            Went::Over(called) => Went::Over(called),
+            PieceEnd::On(device, made) => device.exchanges(link, words, made),
+            PieceEnd::Over(called) => PieceEnd::Over(called),
         }
     }
 
@@ -159,17 +159,17 @@ impl<D: Disk> Device<D> {
         password: &str,
         cost: u32,
         made: u64,
-    ) -> Went<Device<D>, D, ()>
+    ) -> PieceEnd<Device<D>, D, ()>
         requires sound { IsSound (device_rows self) }
         requires few { made ≤ most_exchanges }
         requires owned { (owner : OwnerRow) × HasOwner (device_rows self) owner }
-        requires settled { HasNoneAsked (device_rows self) }
+        requires none_asked { HasNoneAsked (device_rows self) }
         requires cost { 1 ≤ cost }
         ensures went { (kept : Kept) → IsOpen self kept →
             WentBy (IsOpenSince self kept) (MayHaveSince self kept) (AsksFor password.now cost) (record { made = made; rows = kept.rows; words = words.old }) kept (L.aimed link.old) (L.asks link.old link.new) words.new result }
         ensures device { KeepsDevice self (called_past result) }
         ensures owned { IfOn result (λ device. (owner : OwnerRow) × HasOwner (device_rows device) owner) }
-        ensures settled { IfOn result (λ device. HasNoneAsked (device_rows device)) }
+        ensures none_asked { IfOn result (λ device. HasNoneAsked (device_rows device)) }
         ensures few { MadeAtMost result }
         ensures words { IsLater words.old words.new }
         ensures aimed { L.aimed link.new ≡ L.aimed link.old }
@@ -178,18 +178,18 @@ impl<D: Disk> Device<D> {
     {
         let sets = match held_sets(self.alloc, &self.table) {
             Ok(sets) => sets,
-            Err(why) => return Went::Over(Called::Refused(self, why)),
+            Err(why) => return PieceEnd::Over(Called::Refused(self, why)),
         };
         if let Err(why) = may_begin(self.alloc, self.table.rows(), &sets) {
-            return Went::Over(Called::Refused(self, why));
+            return PieceEnd::Over(Called::Refused(self, why));
         }
         if made >= MOST_EXCHANGES {
-            return Went::Over(Called::Refused(self, ClientError::RoundsUsed));
+            return PieceEnd::Over(Called::Refused(self, ClientError::RoundsUsed));
         }
         let nonce = words.nonce();
         let identifier = sets.present.params.identifier.as_str();
         let Ok(set) = new_set(self.alloc, &nonce, identifier, password, cost) else {
-            return Went::Over(Called::Refused(self, ClientError::Memory));
+            return PieceEnd::Over(Called::Refused(self, ClientError::Memory));
         };
         self.ask_for_set(link, words, &sets.present, &set, made)
     }
@@ -202,7 +202,7 @@ impl<D: Disk> Device<D> {
         present: &KeySet,
         set: &KeySet,
         made: u64,
-    ) -> Went<Device<D>, D, ()>
+    ) -> PieceEnd<Device<D>, D, ()>
         requires sound { IsSound (device_rows self) }
         requires few { made < most_exchanges }
         requires may { (owner : OwnerRow) × (sets : Sets) × HasSets (device_rows self) owner sets × MayAsk (device_rows self) sets × (sets.present ≡ present.now) × (set.now.params.identifier ≡ owner.identifier) }
@@ -210,7 +210,7 @@ impl<D: Disk> Device<D> {
             WentBy (IsOpenSince self kept) (MayHaveSince self kept) (Then (CommitsStep (asks set.now)) (AsksHost (change_to owner present.now set.now) (AnswersChange owner present.now set.now))) (record { made = made; rows = kept.rows; words = words.old }) kept (L.aimed link.old) (L.asks link.old link.new) words.new result }
         ensures device { KeepsDevice self (called_past result) }
         ensures owned { IfOn result (λ device. (owner : OwnerRow) × HasOwner (device_rows device) owner) }
-        ensures settled { IfOn result (λ device. HasNoneAsked (device_rows device)) }
+        ensures none_asked { IfOn result (λ device. HasNoneAsked (device_rows device)) }
         ensures few { MadeAtMost result }
         ensures words { IsLater words.old words.new }
         ensures aimed { L.aimed link.new ≡ L.aimed link.old }
@@ -218,14 +218,14 @@ impl<D: Disk> Device<D> {
         ensures link_later { L.fault_count link.old ≤ L.fault_count link.new }
     {
         let Ok(changes) = asking(self.alloc, set) else {
-            return Went::Over(Called::Refused(self, ClientError::Memory));
+            return PieceEnd::Over(Called::Refused(self, ClientError::Memory));
         };
         match self.commit(changes) {
             Committed::Done(device) => device.send_change(link, words, present, set, made),
             Committed::Refused(device, error) => {
-                Went::Over(Called::Refused(device, of_commit(error)))
+                PieceEnd::Over(Called::Refused(device, of_commit(error)))
             }
-            Committed::Broken(disk) => Went::Over(Called::Broken(disk)),
+            Committed::Broken(disk) => PieceEnd::Over(Called::Broken(disk)),
         }
     }
 
@@ -237,7 +237,7 @@ impl<D: Disk> Device<D> {
         present: &KeySet,
         set: &KeySet,
         made: u64,
-    ) -> Went<Device<D>, D, ()>
+    ) -> PieceEnd<Device<D>, D, ()>
         requires sound { IsSound (device_rows self) }
         requires few { made ≤ most_exchanges }
         requires holds { (owner : OwnerRow) × HoldsAsked (device_rows self) owner present.now set.now }
@@ -245,7 +245,7 @@ impl<D: Disk> Device<D> {
             WentBy (IsOpenSince self kept) (MayHaveSince self kept) (AsksHost (change_to owner present.now set.now) (AnswersChange owner present.now set.now)) (record { made = made; rows = kept.rows; words = words.old }) kept (L.aimed link.old) (L.asks link.old link.new) words.new result }
         ensures device { KeepsDevice self (called_past result) }
         ensures owned { IfOn result (λ device. (owner : OwnerRow) × HasOwner (device_rows device) owner) }
-        ensures settled { IfOn result (λ device. HasNoneAsked (device_rows device)) }
+        ensures none_asked { IfOn result (λ device. HasNoneAsked (device_rows device)) }
         ensures few { MadeAtMost result }
         ensures words { IsLater words.old words.new }
         ensures aimed { L.aimed link.new ≡ L.aimed link.old }
@@ -253,11 +253,11 @@ impl<D: Disk> Device<D> {
         ensures link_later { L.fault_count link.old ≤ L.fault_count link.new }
     {
         let Ok(request) = self.change_request(present, set) else {
-            return Went::Over(Called::Refused(self, ClientError::Memory));
+            return PieceEnd::Over(Called::Refused(self, ClientError::Memory));
         };
         match hear_behind(self.alloc, link, made, &request) {
             Ok(answer) => self.take_change(link, words, present, set, made + 1, answer),
-            Err(why) => Went::Over(Called::Refused(self, why)),
+            Err(why) => PieceEnd::Over(Called::Refused(self, why)),
         }
     }
 
@@ -270,7 +270,7 @@ impl<D: Disk> Device<D> {
         set: &KeySet,
         made: u64,
         answer: Answer,
-    ) -> Went<Device<D>, D, ()>
+    ) -> PieceEnd<Device<D>, D, ()>
         requires sound { IsSound (device_rows self) }
         requires few { made ≤ most_exchanges }
         requires holds { (owner : OwnerRow) × HoldsAsked (device_rows self) owner present.now set.now }
@@ -279,7 +279,7 @@ impl<D: Disk> Device<D> {
             WentBy (IsOpenSince self kept) (MayHaveSince self kept) (AnswersChange owner present.now set.now answer) (record { made = made; rows = kept.rows; words = words.old }) kept (L.aimed link.old) (L.asks link.old link.new) words.new result }
         ensures device { KeepsDevice self (called_past result) }
         ensures owned { IfOn result (λ device. (owner : OwnerRow) × HasOwner (device_rows device) owner) }
-        ensures settled { IfOn result (λ device. HasNoneAsked (device_rows device)) }
+        ensures none_asked { IfOn result (λ device. HasNoneAsked (device_rows device)) }
         ensures few { MadeAtMost result }
         ensures words { IsLater words.old words.new }
         ensures aimed { L.aimed link.new ≡ L.aimed link.old }
@@ -305,7 +305,7 @@ impl<D: Disk> Device<D> {
         made: u64,
         status: u16,
         tag: Text,
-    ) -> Went<Device<D>, D, ()>
+    ) -> PieceEnd<Device<D>, D, ()>
         requires sound { IsSound (device_rows self) }
         requires few { made ≤ most_exchanges }
         requires holds { (owner : OwnerRow) × HoldsAsked (device_rows self) owner present.now set.now }
@@ -313,7 +313,7 @@ impl<D: Disk> Device<D> {
             WentBy (IsOpenSince self kept) (MayHaveSince self kept) (AnswersChange owner present.now set.now (RefusedAnswer status tag more)) (record { made = made; rows = kept.rows; words = words.old }) kept (L.aimed link.old) (L.asks link.old link.new) words.new result }
         ensures device { KeepsDevice self (called_past result) }
         ensures owned { IfOn result (λ device. (owner : OwnerRow) × HasOwner (device_rows device) owner) }
-        ensures settled { IfOn result (λ device. HasNoneAsked (device_rows device)) }
+        ensures none_asked { IfOn result (λ device. HasNoneAsked (device_rows device)) }
         ensures few { MadeAtMost result }
         ensures words { IsLater words.old words.new }
         ensures aimed { L.aimed link.new ≡ L.aimed link.old }
@@ -334,7 +334,7 @@ fn may_begin(alloc: Global, rows: &RowMap, sets: &Sets) -> Result<(), ClientErro
     ensures err { IfErr result (λ why. (why ≡ refusal.Memory) ⊎ RefusesChange (row_in rows.now) sets.now why) }
 {
     if let Some(older) = &sets.older {
-        let nonce = older.params.pw_nonce.twin(alloc)?;
+        let nonce = older.params.pw_nonce.try_clone(alloc)?;
         return Err(running(Running::Older { nonce }));
     }
     if let Some(uuid) = first_of_other(alloc, rows, &sets.present)? {

@@ -10,7 +10,7 @@ ghost use Rattle.sn_rows.specs.declared.device_rows.LocalItem.{LocalItem};
 
 use sn_row_map::RowMap;
 use sn_rows::{Change, Key, LocalItem, RowKind, Value};
-use sn_string::Many;
+use sn_string::OwnedList;
 use std::alloc::{AllocError, Global};
 use std::collections::BTreeMap;
 use std::ops::Bound;
@@ -23,7 +23,7 @@ use uuid::Uuid;
 #[derive(Drop)]
 pub(crate) struct Index {
     alloc: Global,
-    names: BTreeMap<Uuid, Many<u64>>,
+    names: BTreeMap<Uuid, OwnedList<u64>>,
     waiting: BTreeMap<u64, ()>,
 }
 
@@ -179,13 +179,13 @@ pub(crate) fn changed_numbers(alloc: Global, changes: &[Change]) -> Result<Vec<u
 }
 
 // The numbers, and one more.
-fn with_number(alloc: Global, numbers: &[u64], number: u64) -> Result<Many<u64>, AllocError>
+fn with_number(alloc: Global, numbers: &[u64], number: u64) -> Result<OwnedList<u64>, AllocError>
     ensures { IfOk result (λ more. more ≡ numbers.now ++ number ∷ []) }
 {
     let mut more = Vec::new(alloc);
     more.extend_from_slice(numbers)?;
     more.push(number)?;
-    Ok(Many::of_vec(more))
+    Ok(OwnedList::of_vec(more))
 }
 
 /// The item of this number, if it waits to be sent.

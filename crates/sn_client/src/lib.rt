@@ -18,6 +18,7 @@ mod listed;
 mod listing;
 mod loading;
 mod looking;
+mod piece_end;
 mod registering;
 mod rekeying;
 mod renaming;
@@ -31,7 +32,6 @@ mod syncing;
 mod taken;
 mod taking;
 mod versions;
-mod went;
 
 pub use called::Called;
 pub use device::Device;

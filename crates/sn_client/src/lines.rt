@@ -14,7 +14,7 @@ use crate::listed::{Listed, Mark};
 use sn_row_map::RowMap;
 use sn_rows::{LocalItem, RowBody, RowKind, RowStrings, Value};
 use sn_sets::{Sets, sealed_strings};
-use sn_string::{Many, Twin};
+use sn_string::{OwnedList, TryClone};
 use std::alloc::{AllocError, Global};
 use uuid::Uuid;
 
@@ -23,12 +23,12 @@ pub(crate) fn lines_of(
     alloc: Global,
     sets: &Sets,
     rows: &RowMap,
-) -> Result<Many<Listed>, AllocError>
+) -> Result<OwnedList<Listed>, AllocError>
     requires kinds { HasKinds rows.now }
     requires sound { AreSoundLocals (row_in rows.now) }
     ensures { IfOk result (AreListed (row_in rows.now) sets.now) }
 {
-    let mut lines = Many::new(alloc);
+    let mut lines = OwnedList::new(alloc);
     let mut found = rows.first(RowKind::Local);
     'items: while let Some((key, value)) = found {
         push_line(alloc, sets, &mut lines, value)?;
@@ -41,7 +41,7 @@ pub(crate) fn lines_of(
 fn push_line(
     alloc: Global,
     sets: &Sets,
-    lines: &mut Many<Listed>,
+    lines: &mut OwnedList<Listed>,
     value: &Value,
 ) -> Result<(), AllocError>
     requires { (local : LocalItem) × (value.now ≡ Local local) × IsSoundItem (columns local) }
@@ -59,7 +59,7 @@ fn line_of(alloc: Global, sets: &Sets, item: &LocalItem) -> Result<Listed, Alloc
     requires sound { IsSoundItem (columns item.now) }
     ensures { IfOk result (IsListed sets.now item.now) }
 {
-    let kind = item.kind.twin(alloc)?;
+    let kind = item.kind.try_clone(alloc)?;
     let (mark, length) = marked(alloc, sets, item)?;
     Ok(Listed {
         uuid: item.uuid,

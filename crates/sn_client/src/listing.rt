@@ -6,7 +6,7 @@ use crate::lines::lines_of;
 use crate::listed::Listed;
 use crate::looking::{held_sets, shown_text, standing_item};
 use sn_disk::Disk;
-use sn_string::Many;
+use sn_string::OwnedList;
 use uuid::Uuid;
 
 impl<D: Disk> Device<D> {
@@ -27,7 +27,7 @@ impl<D: Disk> Device<D> {
     }
 
     /// A line of each item, by rising local number.
-    pub fn list(&self) -> Result<Many<Listed>, ClientError>
+    pub fn list(&self) -> Result<OwnedList<Listed>, ClientError>
         requires { IsSound (device_rows self.now) }
         ensures { Tells self.now.least_cost list (device_rows self.now) (λ found. lines found) result }
     {

@@ -23,7 +23,7 @@ use sn_disk::Disk;
 use sn_items::is_object;
 use sn_rows::{LocalItem, RowBody, RowStrings};
 use sn_sets::{Sets, sealed_strings};
-use sn_string::{LONGEST_CONTENT, StringError, Text, Twin, read};
+use sn_string::{LONGEST_CONTENT, StringError, Text, TryClone, read};
 use sn_table::Table;
 use std::alloc::{AllocError, Global};
 use uuid::Uuid;
@@ -138,7 +138,7 @@ fn nonce_of(alloc: Global, strings: &RowStrings) -> Result<Text, AllocError>
     ensures { IfOk result (SaysNonce strings.now) }
 {
     match read(alloc, strings.enc.as_str()) {
-        Ok(parts) => parts.params.pw_nonce.twin(alloc),
+        Ok(parts) => parts.params.pw_nonce.try_clone(alloc),
         Err(error) => Err(memory_of(error)),
     }
 }

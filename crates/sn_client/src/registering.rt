@@ -21,7 +21,7 @@ use sn_disk::Disk;
 use sn_items::Words;
 use sn_keys::derive;
 use sn_net::Link;
-use sn_string::{KeySet, Params, Text, Twin, hex_text};
+use sn_string::{KeySet, Params, Text, TryClone, hex_text};
 use sn_sync::Request;
 use sn_table::Table;
 use std::alloc::{AllocError, Global};
@@ -38,7 +38,7 @@ impl<D: Disk> Device<D> {
     ghost use Rattle.sn_client.specs.Calls.{CallsOver, IfBroken, IfRefused, IfStands, IsOpen, MayHave, StandsOrHas, called_disk, device_disk, device_rows};
     ghost use Rattle.sn_client.specs.Runs.{nothing, register};
     ghost use Rattle.sn_client.specs.States.{IsSound};
-    ghost use Rattle.sn_client.specs.Steps.{Begins};
+    ghost use Rattle.sn_client.specs.Steps.{BeginsDevice};
 
     /// Registers an account at the link's host. Its identifier has 1 to 254 bytes. The time goes with the cost.
     pub fn register<L: Link>(
@@ -57,7 +57,7 @@ impl<D: Disk> Device<D> {
         ensures any_moment { D.told → (kept : Kept) → IsOpen self kept →
             LeavesOnly D.moment D.left_since (device_disk self) (called_disk device_disk result)
             (StandsOrHas kept.batches (λ changes. (set : KeySet) × (uuid : List ℕ) × (token : List ℕ)
-            × IsNewSet words.old identifier.now password.now cost set words.new × Begins set uuid token changes)) }
+            × IsNewSet words.old identifier.now password.now cost set words.new × BeginsDevice set uuid token changes)) }
         ensures words { IsLater words.old words.new }
         ensures sound { IfStands result (λ device. IsSound (device_rows device)) }
         ensures least { IfStands result (λ device. device.least_cost ≡ self.least_cost) }
@@ -87,7 +87,7 @@ fn refusal<D: Disk>(alloc: Global, table: &Table<D>, least: u32, cost: u32) -> O
     ensures none { IfNone result (HasNoAccount (row_in (table_rows table.now)) × ¬ (IsBadCost least cost)) }
 {
     if let Some(owner) = owner(table) {
-        return match owner.identifier.twin(alloc) {
+        return match owner.identifier.try_clone(alloc) {
             Ok(identifier) => Some(ClientError::HasAccount { identifier }),
             Err(_) => Some(ClientError::Memory),
         };
@@ -132,7 +132,7 @@ fn registration(
     ensures request { IfOk result (λ made. made.1 ≡ request.Register made.0.params made.0.pw) }
 {
     let set = new_set(alloc, nonce, identifier, password, cost)?;
-    let params = set.params.twin(alloc)?;
+    let params = set.params.try_clone(alloc)?;
     let pw = set.pw;
     Ok((set, Request::Register { params, pw }))
 }

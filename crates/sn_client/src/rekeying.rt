@@ -27,7 +27,7 @@ use sn_rekey::rekey_item;
 use sn_row_map::RowMap;
 use sn_rows::{Change, Key, LocalItem, OwnerRow, RowKind, Slot, Value};
 use sn_sets::Sets;
-use sn_string::{KeySet, Many, Text};
+use sn_string::{KeySet, OwnedList, Text};
 use std::alloc::{AllocError, Global};
 
 /// The changes that keep a set as asked for.
@@ -79,7 +79,7 @@ pub(crate) fn adopting(
 }
 
 // Adds the change that drops the set that is asked for, where there is one.
-fn drop_asked(sets: &Sets, changes: &mut Many<Change>) -> Result<(), AllocError>
+fn drop_asked(sets: &Sets, changes: &mut OwnedList<Change>) -> Result<(), AllocError>
     ensures { OnOk result ((more : List Change) × DropsAsked sets.now.asked more × (changes.new ≡ changes.old ++ more)) }
 {
     match &sets.asked {
@@ -95,14 +95,14 @@ fn rekeyed(
     sets: &Sets,
     words: &mut Words,
     set: &KeySet,
-) -> Result<Many<Change>, AllocError>
+) -> Result<OwnedList<Change>, AllocError>
     requires kinds { HasKinds rows.now }
     ensures rekeys { IfOk result (λ changes. (items : List Numbered) × AreItems (row_in rows.now) items
         × RekeysAll sets.now set.now words.old items changes words.new) }
     ensures owned { IfOk result (λ changes. All (IsOf DeviceOwner) changes) }
     ensures words { IsLater words.old words.new }
 {
-    let mut changes = Many::new(alloc);
+    let mut changes = OwnedList::new(alloc);
     let mut found = rows.first(RowKind::Local);
     'items: while let Some((key, value)) = found {
         rekey_row(alloc, sets, words, set, key, value, &mut changes)?;
@@ -119,7 +119,7 @@ fn rekey_row(
     set: &KeySet,
     key: &Key,
     value: &Value,
-    changes: &mut Many<Change>,
+    changes: &mut OwnedList<Change>,
 ) -> Result<(), AllocError>
     ensures added { OnOk result (RekeysRow sets.now set.now words.old key.now value.now changes.old changes.new words.new) }
     ensures words { IsLater words.old words.new }
@@ -140,7 +140,7 @@ fn rekey_local(
     set: &KeySet,
     number: u64,
     item: &LocalItem,
-    changes: &mut Many<Change>,
+    changes: &mut OwnedList<Change>,
 ) -> Result<(), AllocError>
     ensures added { OnOk result (RekeysOne sets.now set.now words.old number item.now changes.old changes.new words.new) }
     ensures words { IsLater words.old words.new }
@@ -157,7 +157,7 @@ fn push_local(
     alloc: Global,
     number: u64,
     item: LocalItem,
-    changes: &mut Many<Change>,
+    changes: &mut OwnedList<Change>,
 ) -> Result<(), AllocError>
     ensures { OnOk result ((change : Change) × Puts change (Key.Local number) (Value.Local item) × (changes.new ≡ changes.old ++ change ∷ [])) }
 {

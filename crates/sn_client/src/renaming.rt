@@ -25,7 +25,7 @@ use sn_notes::conflict_copy;
 use sn_row_map::RowMap;
 use sn_rows::{Change, Key, LocalItem, RowBody, RowStrings};
 use sn_sets::{Sets, seal_strings, sealed_strings};
-use sn_string::{KeySet, Text, Twin};
+use sn_string::{KeySet, Text, TryClone};
 use std::alloc::{AllocError, Global};
 use uuid::Uuid;
 
@@ -111,9 +111,9 @@ pub(crate) fn rename(
 pub(crate) fn unpost(alloc: Global, number: u64, local: &LocalItem) -> Result<Change, AllocError>
     ensures { IfOk result (λ change. PutsColumns change number (unposted (columns local.now))) }
 {
-    let kind = local.kind.twin(alloc)?;
-    let body = local.body.twin(alloc)?;
-    let latest = local.latest.twin(alloc)?;
+    let kind = local.kind.try_clone(alloc)?;
+    let body = local.body.try_clone(alloc)?;
+    let latest = local.latest.try_clone(alloc)?;
     let answered = LocalItem {
         uuid: local.uuid,
         kind,

@@ -8,15 +8,15 @@ use crate::asking::hear_behind;
 use crate::called::Called;
 use crate::device::Device;
 use crate::error::{ClientError, of_commit};
+use crate::piece_end::PieceEnd;
 use crate::rekeying::{adopting, forgetting};
 use crate::signing::{bad_auth, sign_in_request};
 use crate::state::{owner, sets_of};
-use crate::went::Went;
 use sn_disk::Disk;
 use sn_items::Words;
 use sn_net::Link;
 use sn_rows::{Change, OwnerRow};
-use sn_string::{KeySet, Params, Text, Twin};
+use sn_string::{KeySet, Params, Text, TryClone};
 use sn_sync::{Answer, Request};
 use sn_table::Committed;
 use std::alloc::{AllocError, Global};
@@ -53,7 +53,7 @@ impl<D: Disk> Device<D> {
         present: &KeySet,
         set: &KeySet,
         made: u64,
-    ) -> Went<Device<D>, D, ()>
+    ) -> PieceEnd<Device<D>, D, ()>
         requires sound { IsSound (device_rows self) }
         requires few { made ≤ most_exchanges }
         requires holds { (owner : OwnerRow) × HoldsAsked (device_rows self) owner present.now set.now }
@@ -61,7 +61,7 @@ impl<D: Disk> Device<D> {
             WentBy (IsOpenSince self kept) (MayHaveSince self kept) (Resolves owner present.now set.now) (record { made = made; rows = kept.rows; words = words.old }) kept (L.aimed link.old) (L.asks link.old link.new) words.new result }
         ensures device { KeepsDevice self (called_past result) }
         ensures owned { IfOn result (λ device. (owner : OwnerRow) × HasOwner (device_rows device) owner) }
-        ensures settled { IfOn result (λ device. HasNoneAsked (device_rows device)) }
+        ensures none_asked { IfOn result (λ device. HasNoneAsked (device_rows device)) }
         ensures few { MadeAtMost result }
         ensures words { IsLater words.old words.new }
         ensures aimed { L.aimed link.new ≡ L.aimed link.old }
@@ -69,11 +69,11 @@ impl<D: Disk> Device<D> {
         ensures link_later { L.fault_count link.old ≤ L.fault_count link.new }
     {
         let Ok(request) = self.params_request() else {
-            return Went::Over(Called::Refused(self, ClientError::Memory));
+            return PieceEnd::Over(Called::Refused(self, ClientError::Memory));
         };
         match hear_behind(self.alloc, link, made, &request) {
             Ok(answer) => self.find(link, words, present, set, made + 1, answer),
-            Err(why) => Went::Over(Called::Refused(self, why)),
+            Err(why) => PieceEnd::Over(Called::Refused(self, why)),
         }
     }
 
@@ -86,7 +86,7 @@ impl<D: Disk> Device<D> {
         set: &KeySet,
         made: u64,
         answer: Answer,
-    ) -> Went<Device<D>, D, ()>
+    ) -> PieceEnd<Device<D>, D, ()>
         requires sound { IsSound (device_rows self) }
         requires few { made ≤ most_exchanges }
         requires holds { (owner : OwnerRow) × HoldsAsked (device_rows self) owner present.now set.now }
@@ -95,7 +95,7 @@ impl<D: Disk> Device<D> {
             WentBy (IsOpenSince self kept) (MayHaveSince self kept) (Finds owner present.now set.now answer) (record { made = made; rows = kept.rows; words = words.old }) kept (L.aimed link.old) (L.asks link.old link.new) words.new result }
         ensures device { KeepsDevice self (called_past result) }
         ensures owned { IfOn result (λ device. (owner : OwnerRow) × HasOwner (device_rows device) owner) }
-        ensures settled { IfOn result (λ device. HasNoneAsked (device_rows device)) }
+        ensures none_asked { IfOn result (λ device. HasNoneAsked (device_rows device)) }
         ensures few { MadeAtMost result }
         ensures words { IsLater words.old words.new }
         ensures aimed { L.aimed link.new ≡ L.aimed link.old }
@@ -118,7 +118,7 @@ impl<D: Disk> Device<D> {
         set: &KeySet,
         made: u64,
         params: &Params,
-    ) -> Went<Device<D>, D, ()>
+    ) -> PieceEnd<Device<D>, D, ()>
         requires sound { IsSound (device_rows self) }
         requires few { made ≤ most_exchanges }
         requires holds { (owner : OwnerRow) × HoldsAsked (device_rows self) owner present.now set.now }
@@ -126,7 +126,7 @@ impl<D: Disk> Device<D> {
             WentBy (IsOpenSince self kept) (MayHaveSince self kept) (FindsParams owner present.now set.now params.now) (record { made = made; rows = kept.rows; words = words.old }) kept (L.aimed link.old) (L.asks link.old link.new) words.new result }
         ensures device { KeepsDevice self (called_past result) }
         ensures owned { IfOn result (λ device. (owner : OwnerRow) × HasOwner (device_rows device) owner) }
-        ensures settled { IfOn result (λ device. HasNoneAsked (device_rows device)) }
+        ensures none_asked { IfOn result (λ device. HasNoneAsked (device_rows device)) }
         ensures few { MadeAtMost result }
         ensures words { IsLater words.old words.new }
         ensures aimed { L.aimed link.new ≡ L.aimed link.old }
@@ -150,7 +150,7 @@ impl<D: Disk> Device<D> {
         present: &KeySet,
         set: &KeySet,
         made: u64,
-    ) -> Went<Device<D>, D, ()>
+    ) -> PieceEnd<Device<D>, D, ()>
         requires sound { IsSound (device_rows self) }
         requires few { made ≤ most_exchanges }
         requires holds { (owner : OwnerRow) × HoldsAsked (device_rows self) owner present.now set.now }
@@ -158,7 +158,7 @@ impl<D: Disk> Device<D> {
             WentBy (IsOpenSince self kept) (MayHaveSince self kept) (AsksHost (change_to owner present.now set.now) (AdoptsOrDrops set.now)) (record { made = made; rows = kept.rows; words = words.old }) kept (L.aimed link.old) (L.asks link.old link.new) words.new result }
         ensures device { KeepsDevice self (called_past result) }
         ensures owned { IfOn result (λ device. (owner : OwnerRow) × HasOwner (device_rows device) owner) }
-        ensures settled { IfOn result (λ device. HasNoneAsked (device_rows device)) }
+        ensures none_asked { IfOn result (λ device. HasNoneAsked (device_rows device)) }
         ensures few { MadeAtMost result }
         ensures words { IsLater words.old words.new }
         ensures aimed { L.aimed link.new ≡ L.aimed link.old }
@@ -166,7 +166,7 @@ impl<D: Disk> Device<D> {
         ensures link_later { L.fault_count link.old ≤ L.fault_count link.new }
     {
         let Ok(request) = self.change_request(present, set) else {
-            return Went::Over(Called::Refused(self, ClientError::Memory));
+            return PieceEnd::Over(Called::Refused(self, ClientError::Memory));
         };
         match hear_behind(self.alloc, link, made, &request) {
             Ok(Answer::Account { token, .. }) => self.adopt(words, set, token, made + 1),
@@ -174,7 +174,7 @@ impl<D: Disk> Device<D> {
                 self.drop_asked(ClientError::Refused { status, tag })
             }
             Ok(_) => unreachable!(),
-            Err(why) => Went::Over(Called::Refused(self, why)),
+            Err(why) => PieceEnd::Over(Called::Refused(self, why)),
         }
     }
 
@@ -185,7 +185,7 @@ impl<D: Disk> Device<D> {
         words: &mut Words,
         set: &KeySet,
         made: u64,
-    ) -> Went<Device<D>, D, ()>
+    ) -> PieceEnd<Device<D>, D, ()>
         requires sound { IsSound (device_rows self) }
         requires few { made ≤ most_exchanges }
         requires asked { (owner : OwnerRow) × HasOwner (device_rows self) owner × IsInSlot (device_rows self) owner.identifier Asked (Some set.now) }
@@ -193,7 +193,7 @@ impl<D: Disk> Device<D> {
             WentBy (IsOpenSince self kept) (MayHaveSince self kept) (AsksHost (request.SignIn owner.identifier set.now.pw) (AdoptsOrKeeps set.now)) (record { made = made; rows = kept.rows; words = words.old }) kept (L.aimed link.old) (L.asks link.old link.new) words.new result }
         ensures device { KeepsDevice self (called_past result) }
         ensures owned { IfOn result (λ device. (owner : OwnerRow) × HasOwner (device_rows device) owner) }
-        ensures settled { IfOn result (λ device. HasNoneAsked (device_rows device)) }
+        ensures none_asked { IfOn result (λ device. HasNoneAsked (device_rows device)) }
         ensures few { MadeAtMost result }
         ensures words { IsLater words.old words.new }
         ensures aimed { L.aimed link.new ≡ L.aimed link.old }
@@ -201,18 +201,18 @@ impl<D: Disk> Device<D> {
         ensures link_later { L.fault_count link.old ≤ L.fault_count link.new }
     {
         let Ok(request) = sign_in_request(self.alloc, set) else {
-            return Went::Over(Called::Refused(self, ClientError::Memory));
+            return PieceEnd::Over(Called::Refused(self, ClientError::Memory));
         };
         match hear_behind(self.alloc, link, made, &request) {
             Ok(Answer::Account { token, .. }) => self.adopt(words, set, token, made + 1),
             Ok(Answer::Refused { status, tag, .. }) => self.drop_or_keep(status, tag),
             Ok(_) => unreachable!(),
-            Err(why) => Went::Over(Called::Refused(self, why)),
+            Err(why) => PieceEnd::Over(Called::Refused(self, why)),
         }
     }
 
     // Drops the set that is asked for where the status is 401, and refuses the call.
-    fn drop_or_keep(self, status: u16, tag: Text) -> Went<Device<D>, D, ()>
+    fn drop_or_keep(self, status: u16, tag: Text) -> PieceEnd<Device<D>, D, ()>
         requires sound { IsSound (device_rows self) }
         requires asked { (asked : SetRow) × HasSet (device_rows self) Asked asked }
         ensures went { (kept : Kept) (host : List ℕ) (words : ChaCha) (made : ℕ) → IsOpen self kept →
@@ -225,11 +225,11 @@ impl<D: Disk> Device<D> {
         if status == 401 {
             return self.drop_asked(why);
         }
-        Went::Over(Called::Refused(self, why))
+        PieceEnd::Over(Called::Refused(self, why))
     }
 
     /// Drops the set that is asked for, in one commit, and refuses the call.
-    pub(crate) fn drop_asked(self, why: ClientError) -> Went<Device<D>, D, ()>
+    pub(crate) fn drop_asked(self, why: ClientError) -> PieceEnd<Device<D>, D, ()>
         requires sound { IsSound (device_rows self) }
         requires asked { (asked : SetRow) × HasSet (device_rows self) Asked asked }
         requires no_link { why ≢ refusal.LinkFault }
@@ -240,14 +240,14 @@ impl<D: Disk> Device<D> {
         ensures no_link { IfRefused (called_past result) (λ why. why ≢ refusal.LinkFault) }
     {
         let Ok(changes) = forgetting(self.alloc) else {
-            return Went::Over(Called::Refused(self, ClientError::Memory));
+            return PieceEnd::Over(Called::Refused(self, ClientError::Memory));
         };
         match self.commit(changes) {
-            Committed::Done(device) => Went::Over(Called::Refused(device, why)),
+            Committed::Done(device) => PieceEnd::Over(Called::Refused(device, why)),
             Committed::Refused(device, error) => {
-                Went::Over(Called::Refused(device, of_commit(error)))
+                PieceEnd::Over(Called::Refused(device, of_commit(error)))
             }
-            Committed::Broken(disk) => Went::Over(Called::Broken(disk)),
+            Committed::Broken(disk) => PieceEnd::Over(Called::Broken(disk)),
         }
     }
 
@@ -258,7 +258,7 @@ impl<D: Disk> Device<D> {
         set: &KeySet,
         token: Text,
         made: u64,
-    ) -> Went<Device<D>, D, ()>
+    ) -> PieceEnd<Device<D>, D, ()>
         requires sound { IsSound (device_rows self) }
         requires owned { (owner : OwnerRow) × HasOwner (device_rows self) owner × (set.now.params.identifier ≡ owner.identifier) }
         requires token { IsSessionToken token }
@@ -266,20 +266,20 @@ impl<D: Disk> Device<D> {
             WentBy (IsOpenSince self kept) (MayHaveSince self kept) (CommitsStep (adopts set.now token)) (record { made = made; rows = kept.rows; words = words.old }) kept host none_asked words.new result }
         ensures device { KeepsDevice self (called_past result) }
         ensures owned { IfOn result (λ device. (owner : OwnerRow) × HasOwner (device_rows device) owner) }
-        ensures settled { IfOn result (λ device. HasNoneAsked (device_rows device)) }
+        ensures none_asked { IfOn result (λ device. HasNoneAsked (device_rows device)) }
         ensures few { made ≤ most_exchanges → MadeAtMost result }
         ensures words { IsLater words.old words.new }
         ensures no_link { IfRefused (called_past result) (λ why. why ≢ refusal.LinkFault) }
     {
         let Ok(changes) = self.adoption(words, set, token) else {
-            return Went::Over(Called::Refused(self, ClientError::Memory));
+            return PieceEnd::Over(Called::Refused(self, ClientError::Memory));
         };
         match self.commit(changes) {
-            Committed::Done(device) => Went::On(device, made),
+            Committed::Done(device) => PieceEnd::On(device, made),
             Committed::Refused(device, error) => {
-                Went::Over(Called::Refused(device, of_commit(error)))
+                PieceEnd::Over(Called::Refused(device, of_commit(error)))
             }
-            Committed::Broken(disk) => Went::Over(Called::Broken(disk)),
+            Committed::Broken(disk) => PieceEnd::Over(Called::Broken(disk)),
         }
     }
 
@@ -322,7 +322,7 @@ impl<D: Disk> Device<D> {
         let Some(account) = owner(&self.table) else {
             unreachable!();
         };
-        let identifier = account.identifier.twin(self.alloc)?;
+        let identifier = account.identifier.try_clone(self.alloc)?;
         Ok(Request::Params { identifier })
     }
 
@@ -351,8 +351,8 @@ fn change_of(
 ) -> Result<Request, AllocError>
     ensures { IfOk result (λ r. r ≡ change_to owner.now present.now set.now) }
 {
-    let token = owner.token.twin(alloc)?;
-    let nonce = set.params.pw_nonce.twin(alloc)?;
+    let token = owner.token.try_clone(alloc)?;
+    let nonce = set.params.pw_nonce.try_clone(alloc)?;
     Ok(Request::ChangePw {
         token,
         current: present.pw,

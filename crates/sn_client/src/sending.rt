@@ -19,7 +19,7 @@ use crate::index::Index;
 use crate::state::{first_waiting, next_waiting};
 use sn_disk::Disk;
 use sn_rows::{Change, LocalItem, OwnerRow, RowBody};
-use sn_string::{MOST_BYTES, Many, Text, Twin};
+use sn_string::{MOST_BYTES, OwnedList, Text, TryClone};
 use sn_sync::{Body, Item, Request, Stamp};
 use sn_table::Table;
 use std::alloc::{AllocError, Global};
@@ -81,12 +81,12 @@ pub(crate) fn is_left<D: Disk>(table: &Table<D>, index: &Index) -> bool
 fn sync_request(alloc: Global, account: &OwnerRow, items: Vec<Item>) -> Result<Request, AllocError>
     ensures { IfOk result (λ r. (chosen : List Numbered) → AreSentAs chosen items.items → IsSyncOf account.now chosen r) }
 {
-    let token = account.token.twin(alloc)?;
+    let token = account.token.try_clone(alloc)?;
     let sync_token = optional_token(alloc, &account.sync_token)?;
     let cursor_token = optional_token(alloc, &account.cursor_token)?;
     Ok(Request::Sync {
         token,
-        items: Many::of_vec(items),
+        items: OwnedList::of_vec(items),
         limit: MOST_RETRIEVED,
         sync_token,
         cursor_token,
@@ -100,7 +100,7 @@ fn optional_token(alloc: Global, token: &Text) -> Result<Option<Text>, AllocErro
     if token.is_empty() {
         return Ok(None);
     }
-    Ok(Some(token.twin(alloc)?))
+    Ok(Some(token.try_clone(alloc)?))
 }
 
 // ---- items that are chosen
@@ -231,10 +231,10 @@ fn weight(item: &LocalItem) -> usize
 fn posted(alloc: Global, number: u64, item: &LocalItem) -> Result<Change, AllocError>
     ensures { IfOk result (λ change. PutsColumns change number (as_posted (columns item.now))) }
 {
-    let kind = item.kind.twin(alloc)?;
-    let body = item.body.twin(alloc)?;
-    let latest = item.latest.twin(alloc)?;
-    let posted = item.latest.twin(alloc)?;
+    let kind = item.kind.try_clone(alloc)?;
+    let body = item.body.try_clone(alloc)?;
+    let latest = item.latest.try_clone(alloc)?;
+    let posted = item.latest.try_clone(alloc)?;
     let row = LocalItem {
         uuid: item.uuid,
         kind,
@@ -252,7 +252,7 @@ fn item_of(alloc: Global, item: &LocalItem, version: &RowBody) -> Result<Item, A
     requires { sent_of item.now ≡ Some version.now }
     ensures { IfOk result (IsSentAs item.now) }
 {
-    let kind = item.kind.twin(alloc)?;
+    let kind = item.kind.try_clone(alloc)?;
     let updated_at = base_text(alloc, item.base)?;
     let body = message_body(alloc, version)?;
     Ok(Item {
@@ -281,8 +281,8 @@ fn message_body(alloc: Global, version: &RowBody) -> Result<Body, AllocError>
     match version {
         RowBody::Deleted => Ok(Body::Deleted),
         RowBody::Sealed(strings) => {
-            let content = strings.content.twin(alloc)?;
-            let enc = strings.enc.twin(alloc)?;
+            let content = strings.content.try_clone(alloc)?;
+            let enc = strings.enc.try_clone(alloc)?;
             Ok(Body::Strings { content, enc })
         }
     }

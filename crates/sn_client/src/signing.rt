@@ -24,7 +24,7 @@ use sn_items::Words;
 use sn_keys::derive;
 use sn_net::Link;
 use sn_sets::Sets;
-use sn_string::{KeySet, Params, Text, Twin};
+use sn_string::{KeySet, Params, Text, TryClone};
 use sn_sync::{Answer, Request};
 use sn_table::Table;
 use std::alloc::{AllocError, Global};
@@ -49,7 +49,7 @@ impl<D: Disk> Device<D> {
     ghost use Rattle.sn_client.specs.Signing.{MadeBySignIn};
     ghost use Rattle.sn_client.specs.States.{IsSound};
     ghost use Rattle.sn_sets.specs.Seals.{IsLater};
-    ghost use Rattle.sn_client.specs.Steps.{Adopts, Begins, Renews};
+    ghost use Rattle.sn_client.specs.Steps.{Adopts, BeginsDevice, Renews};
 
     /// Signs in to an account at the link's host. Its identifier has 1 to 254 bytes. The time goes with the account's cost.
     pub fn sign_in<L: Link>(
@@ -100,7 +100,7 @@ impl<D: Disk> Device<D> {
         ensures any_moment { D.told → (kept : Kept) → IsOpen self kept →
             LeavesOnly D.moment D.left_since (device_disk self) (called_disk device_disk result)
             (StandsOrHas kept.batches (λ changes. (uuid : List ℕ) × (token : List ℕ)
-            × (Begins set uuid token changes ⊎ (Renews kept.rows token changes ⊎ Adopts kept.rows words.old set token changes words.new)))) }
+            × (BeginsDevice set uuid token changes ⊎ (Renews kept.rows token changes ⊎ Adopts kept.rows words.old set token changes words.new)))) }
         ensures words { IsLater words.old words.new }
         ensures sound { IfStands result (λ device. IsSound (device_rows device)) }
         ensures least { IfStands result (λ device. device.least_cost ≡ self.least_cost) }
@@ -165,7 +165,7 @@ fn other_account<D: Disk>(alloc: Global, table: &Table<D>, identifier: &str) -> 
     if owner.identifier.as_str() == identifier {
         return None;
     }
-    match owner.identifier.twin(alloc) {
+    match owner.identifier.try_clone(alloc) {
         Ok(identifier) => Some(ClientError::OtherAccount { identifier }),
         Err(_) => Some(ClientError::Memory),
     }
@@ -254,7 +254,7 @@ fn is_other_older(sets: &Sets, set: &KeySet) -> bool
 pub(crate) fn sign_in_request(alloc: Global, set: &KeySet) -> Result<Request, AllocError>
     ensures { IfOk result (λ r. r ≡ request.SignIn set.now.params.identifier set.now.pw) }
 {
-    let identifier = set.params.identifier.twin(alloc)?;
+    let identifier = set.params.identifier.try_clone(alloc)?;
     Ok(Request::SignIn {
         identifier,
         pw: set.pw,

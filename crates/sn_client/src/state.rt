@@ -16,7 +16,7 @@ use sn_disk::Disk;
 use sn_row_map::RowMap;
 use sn_rows::{Key, LocalItem, OwnerRow, SetRow, Slot, Value};
 use sn_sets::Sets;
-use sn_string::{KeySet, Params, Twin};
+use sn_string::{KeySet, Params, TryClone};
 use sn_table::Table;
 use std::alloc::{AllocError, Global};
 use uuid::Uuid;
@@ -246,8 +246,8 @@ fn key_set_in(
 fn key_set(alloc: Global, owner: &OwnerRow, keys: &SetRow) -> Result<KeySet, AllocError>
     ensures { IfOk result (IsSetOf owner.now.identifier keys.now) }
 {
-    let identifier = owner.identifier.twin(alloc)?;
-    let nonce = keys.pw_nonce.twin(alloc)?;
+    let identifier = owner.identifier.try_clone(alloc)?;
+    let nonce = keys.pw_nonce.try_clone(alloc)?;
     match Params::new(identifier, keys.pw_cost, nonce) {
         Some(params) => Ok(KeySet {
             params,

@@ -12,9 +12,9 @@ use crate::asking::{MOST_EXCHANGES, ask};
 use crate::called::Called;
 use crate::device::Device;
 use crate::error::{ClientError, Place, of_commit};
+use crate::piece_end::PieceEnd;
 use crate::sending::{Sending, is_left, next_sending};
 use crate::state::{owner, sets_of};
-use crate::went::Went;
 use sn_conflict::{CheckError, check};
 use sn_disk::Disk;
 use sn_items::Words;
@@ -81,8 +81,8 @@ impl<D: Disk> Device<D> {
     {
         match sets_of(self.alloc, &self.table) {
             Ok(Some(sets)) => match self.bring_together(link, words, &sets) {
-                Went::On(device, _) => Called::Done(device, ()),
-                Went::Over(called) => called,
+                PieceEnd::On(device, _) => Called::Done(device, ()),
+                PieceEnd::Over(called) => called,
             },
             Ok(None) => Called::Refused(self, ClientError::NoAccount),
             Err(_) => Called::Refused(self, ClientError::Memory),
@@ -96,14 +96,14 @@ impl<D: Disk> Device<D> {
         link: &mut L,
         words: &mut Words,
         sets: &Sets,
-    ) -> Went<Device<D>, D, ()>
+    ) -> PieceEnd<Device<D>, D, ()>
         requires sound { IsSound (device_rows self) }
         requires holds { (owner : OwnerRow) × HasSets (device_rows self) owner sets.now }
         ensures went { (kept : Kept) (owner : OwnerRow) → IsOpen self kept → HasSets kept.rows owner sets.now →
             WentBy (IsOpenSince self kept) (MayHaveSince self kept) (SyncsUnder owner sets.now) (begun kept.rows words.old) kept (L.aimed link.old) (L.asks link.old link.new) words.new result }
         ensures device { KeepsDevice self (called_past result) }
         ensures owned { IfOn result (λ device. (owner : OwnerRow) × HasOwner (device_rows device) owner) }
-        ensures settled { IfOn result (λ device. HasNoneAsked (device_rows device)) }
+        ensures none_asked { IfOn result (λ device. HasNoneAsked (device_rows device)) }
         ensures few { MadeAtMost result }
         ensures words { IsLater words.old words.new }
         ensures aimed { L.aimed link.new ≡ L.aimed link.old }
@@ -114,8 +114,8 @@ impl<D: Disk> Device<D> {
             return self.exchanges(link, words, 0);
         };
         match self.resolve(link, words, &sets.present, set, 0) {
-            Went::On(device, made) => device.exchanges(link, words, made),
-            Went::Over(called) => Went::Over(called),
+            PieceEnd::On(device, made) => device.exchanges(link, words, made),
+            PieceEnd::Over(called) => PieceEnd::Over(called),
         }
     }
 
@@ -125,16 +125,16 @@ impl<D: Disk> Device<D> {
         link: &mut L,
         words: &mut Words,
         made: u64,
-    ) -> Went<Device<D>, D, ()>
+    ) -> PieceEnd<Device<D>, D, ()>
         requires sound { IsSound (device_rows self) }
         requires owned { (owner : OwnerRow) × HasOwner (device_rows self) owner }
-        requires settled { HasNoneAsked (device_rows self) }
+        requires none_asked { HasNoneAsked (device_rows self) }
         requires few { made ≤ most_exchanges }
         ensures went { (kept : Kept) → IsOpen self kept →
             WentBy (IsOpenSince self kept) (MayHaveSince self kept) Exchanges (record { made = made; rows = kept.rows; words = words.old }) kept (L.aimed link.old) (L.asks link.old link.new) words.new result }
         ensures device { KeepsDevice self (called_past result) }
         ensures owned { IfOn result (λ device. (owner : OwnerRow) × HasOwner (device_rows device) owner) }
-        ensures settled { IfOn result (λ device. HasNoneAsked (device_rows device)) }
+        ensures none_asked { IfOn result (λ device. HasNoneAsked (device_rows device)) }
         ensures few { MadeAtMost result }
         ensures words { IsLater words.old words.new }
         ensures aimed { L.aimed link.new ≡ L.aimed link.old }
@@ -149,11 +149,11 @@ impl<D: Disk> Device<D> {
                     device = next;
                     count += 1;
                 }
-                Exchanged::Applied(next, false) => return Went::On(next, count + 1),
-                Exchanged::Ended(called) => return Went::Over(called),
+                Exchanged::Applied(next, false) => return PieceEnd::On(next, count + 1),
+                Exchanged::Ended(called) => return PieceEnd::Over(called),
             }
         }
-        Went::Over(Called::Refused(device, ClientError::RoundsUsed))
+        PieceEnd::Over(Called::Refused(device, ClientError::RoundsUsed))
     }
 
     // One exchange: posts the drafts that weren't sent before, asks, and applies the answer.
@@ -164,7 +164,7 @@ impl<D: Disk> Device<D> {
             IsExchanged (IsOpenSince self kept) (MayHaveSince self kept) kept (record { rows = kept.rows; words = words.old; last = last }) (L.aimed link.old) (L.asks link.old link.new) words.new result }
         ensures device { KeepsDevice self (called_of result) }
         ensures owned { IfStands (called_of result) (λ device. (owner : OwnerRow) × HasOwner (device_rows device) owner) }
-        ensures settled { HasNoneAsked (device_rows self) → IfStands (called_of result) (λ device. HasNoneAsked (device_rows device)) }
+        ensures none_asked { HasNoneAsked (device_rows self) → IfStands (called_of result) (λ device. HasNoneAsked (device_rows device)) }
         ensures words { IsLater words.old words.new }
         ensures aimed { L.aimed link.new ≡ L.aimed link.old }
         ensures link_fault { IfRefused (called_of result) (λ why. why ≡ refusal.LinkFault → Rose (L.fault_count link.old) (L.fault_count link.new)) }
@@ -216,7 +216,7 @@ impl<D: Disk> Device<D> {
         ensures asked { (kept : Kept) → IsOpen self kept → IsAskedAndApplied (IsOpenSince self kept) (MayHaveSince self kept) kept words.old request.now (L.aimed link.old) (L.asks link.old link.new) words.new result }
         ensures device { KeepsDevice self (called_of result) }
         ensures owned { IfStands (called_of result) (λ device. (owner : OwnerRow) × HasOwner (device_rows device) owner) }
-        ensures settled { HasNoneAsked (device_rows self) → IfStands (called_of result) (λ device. HasNoneAsked (device_rows device)) }
+        ensures none_asked { HasNoneAsked (device_rows self) → IfStands (called_of result) (λ device. HasNoneAsked (device_rows device)) }
         ensures words { IsLater words.old words.new }
         ensures aimed { L.aimed link.new ≡ L.aimed link.old }
         ensures link_fault { IfRefused (called_of result) (λ why. why ≡ refusal.LinkFault → Rose (L.fault_count link.old) (L.fault_count link.new)) }
@@ -242,7 +242,7 @@ impl<D: Disk> Device<D> {
         ensures applied { (kept : Kept) → IsOpen self kept → IsApplied (IsOpenSince self kept) (MayHaveSince self kept) kept words.old request.now answer.now words.new result }
         ensures device { KeepsDevice self (called_of result) }
         ensures owned { IfStands (called_of result) (λ device. (owner : OwnerRow) × HasOwner (device_rows device) owner) }
-        ensures settled { HasNoneAsked (device_rows self) → IfStands (called_of result) (λ device. HasNoneAsked (device_rows device)) }
+        ensures none_asked { HasNoneAsked (device_rows self) → IfStands (called_of result) (λ device. HasNoneAsked (device_rows device)) }
         ensures no_link { IfRefused (called_of result) (λ why. why ≢ refusal.LinkFault) }
         ensures words { IsLater words.old words.new }
     {

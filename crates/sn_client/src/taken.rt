@@ -16,14 +16,14 @@ use crate::index::Index;
 use crate::state::find_in;
 use sn_row_map::RowMap;
 use sn_rows::{Change, Key, LocalItem, Value};
-use sn_string::Many;
+use sn_string::OwnedList;
 use std::alloc::{AllocError, Global};
 use uuid::Uuid;
 
 /// What an answer makes of a device's items: the changes in order, and the next local number.
 #[derive(Drop)]
 pub(crate) struct Taken {
-    pub(crate) changes: Many<Change>,
+    pub(crate) changes: OwnedList<Change>,
     pub(crate) next: u64,
 }
 
@@ -78,7 +78,7 @@ impl Taken {
         ensures { (rows : Rows) (words : ChaCha) → so_far rows result words ≡ record { rows = rows; changes = []; next = next; words = words } }
     {
         Taken {
-            changes: Many::new(alloc),
+            changes: OwnedList::new(alloc),
             next,
         }
     }

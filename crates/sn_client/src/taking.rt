@@ -24,7 +24,7 @@ use sn_items::Words;
 use sn_row_map::RowMap;
 use sn_rows::{LocalItem, RowBody};
 use sn_sets::Sets;
-use sn_string::Twin;
+use sn_string::TryClone;
 use sn_sync::{Conflict, Item};
 use std::alloc::{AllocError, Global};
 use uuid::Uuid;
@@ -286,7 +286,7 @@ fn left_by(
     ensures { IfOk result (λ latest. latest ≡ left_by local.now meeting) }
 {
     match meeting {
-        Meeting::Own { ends: false } => local.latest.twin(alloc),
+        Meeting::Own { ends: false } => local.latest.try_clone(alloc),
         _ => Ok(None),
     }
 }

@@ -19,7 +19,7 @@ use sn_items::Words;
 use sn_rekey::rewrap_older;
 use sn_rows::{Change, Key, LocalItem, RowBody, RowStrings};
 use sn_sets::Sets;
-use sn_string::{Text, Twin};
+use sn_string::{Text, TryClone};
 use sn_sync::{Body, Item, Stamp};
 use std::alloc::{AllocError, Global};
 use uuid::Uuid;
@@ -90,7 +90,7 @@ fn row_of(
 {
     let stamp = stamp_of(item);
     let given = row_strings(alloc, content, enc)?;
-    let kind = item.kind.twin(alloc)?;
+    let kind = item.kind.try_clone(alloc)?;
     let (strings, stale) = kept_strings(alloc, sets, item.uuid, given, words)?;
     let body = Some(RowBody::Sealed(strings));
     match LocalItem::new(item.uuid, kind, Some(stamp), stale, body, latest, None) {
@@ -122,8 +122,8 @@ fn row_strings(alloc: Global, content: &Text, enc: &Text) -> Result<RowStrings, 
     requires { HasDeviceLengths content.now × HasDeviceLengths enc.now }
     ensures { IfOk result (λ strings. (strings.content ≡ content.now) × (strings.enc ≡ enc.now)) }
 {
-    let content = content.twin(alloc)?;
-    let enc = enc.twin(alloc)?;
+    let content = content.try_clone(alloc)?;
+    let enc = enc.try_clone(alloc)?;
     match RowStrings::new(content, enc) {
         Some(strings) => Ok(strings),
         None => unreachable!(),

@@ -10,7 +10,7 @@ use crate::checking::stamp_of;
 use sn_items::Sealed;
 use sn_rows::{LocalItem, RowBody, RowStrings};
 use sn_sets::{Sets, sealed_strings};
-use sn_string::{Text, Twin};
+use sn_string::{Text, TryClone};
 use sn_sync::{Body, Item};
 use std::alloc::{AllocError, Global};
 use uuid::Uuid;
@@ -154,8 +154,8 @@ fn sealed_has_content(
 fn strings_twin(alloc: Global, content: &Text, enc: &Text) -> Result<Sealed, AllocError>
     ensures { IfOk result (λ sealed. (sealed.content ≡ content.now) × (sealed.enc ≡ enc.now)) }
 {
-    let content = content.twin(alloc)?;
-    let enc = enc.twin(alloc)?;
+    let content = content.try_clone(alloc)?;
+    let enc = enc.try_clone(alloc)?;
     Ok(Sealed { content, enc })
 }
 

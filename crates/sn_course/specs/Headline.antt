@@ -166,7 +166,7 @@ pub record Carried (script : Script) (slots : Slots) (secret : Bytes) (first : S
 
 -- The headline, of one report: for the secret that the server draws, under which no account has one session token for two generations, and where no two
 -- passwords of the script have one check value.
-pub record Carries (script : Script) (slots : Slots) (report : Report) : Type 0 where
+pub record CarriesHeadline (script : Script) (slots : Slots) (report : Report) : Type 0 where
   pub first : Settings
   pub first_is : AreFirst first
   pub secret : Bytes

@@ -4,7 +4,7 @@ use Rattle.std.specs.List.{list_any}
 use Rattle.sn_io.specs.Causes.{Rose}
 use Rattle.sn_io.specs.FaultPlan.{Plan, is_listed, began, failed, wanted}
 use Rattle.sn_disk.specs.Steps.{Told, Step}
-use Rattle.sn_disk.specs.Courses.{Course, Does, StopsIn, Runs}
+use Rattle.sn_disk.specs.Courses.{DiskState, Does, StopsIn, Runs}
 use Rattle.sn_disk.specs.declared.images.Stop.{Stop}
 use Rattle.sn_disk.specs.declared.memory.MemDisk.{MemDisk}
 
@@ -24,8 +24,8 @@ disk_stop disk = disk.stop
 abbrev pub disk_stopped : MemDisk → Bool
 disk_stopped disk = disk.stopped
 
-abbrev pub disk_course : MemDisk → Course
-disk_course disk = record { told = disk.history; stop = disk.stop; stopped = disk.stopped }
+abbrev pub disk_state : MemDisk → DiskState
+disk_state disk = record { told = disk.history; stop = disk.stop; stopped = disk.stopped }
 
 -- it is to stop then, and goes on with what it tells
 pub record HasStopSet (stop : Stop) (old new : MemDisk) : Type 0 where
@@ -35,46 +35,46 @@ pub record HasStopSet (stop : Stop) (old new : MemDisk) : Type 0 where
   pub plan : disk_plan new ≡ disk_plan old
 
 -- A call that isn't listed, on a disk that hasn't stopped.
-pub record Begins (old new : MemDisk) : Type 0 where
+pub record BeginsCall (old new : MemDisk) : Type 0 where
   pub not_listed : is_listed (disk_plan old) ≡ false
   pub awake : disk_stopped old ≡ false
   pub plan : disk_plan new ≡ began (disk_plan old)
 
 -- A call that left all as it was, and counted its fault: it is listed, or the disk has stopped before.
-pub record Refuses (old new : MemDisk) : Type 0 where
-  pub course : disk_course new ≡ disk_course old
+pub record RefusesCall (old new : MemDisk) : Type 0 where
+  pub state : disk_state new ≡ disk_state old
   pub cause : (IsTrue (is_listed (disk_plan old)) × (disk_plan new ≡ began (disk_plan old)))
       ⊎ (IsTrue (disk_stopped old) × (disk_plan new ≡ failed (began (disk_plan old))))
 
 -- A changing call that left all as it was, for want of memory.
 pub record Wants (old new : MemDisk) : Type 0 where
-  pub course : disk_course new ≡ disk_course old
+  pub state : disk_state new ≡ disk_state old
   pub plan : disk_plan new ≡ wanted (began (disk_plan old))
 
 -- A changing call in which the disk stopped.
 pub record Stops (call : Step) (old new : MemDisk) : Type 0 where
-  pub stops : StopsIn (disk_course old) call (disk_course new)
+  pub stops : StopsIn (disk_state old) call (disk_state new)
   pub plan : disk_plan new ≡ failed (began (disk_plan old))
 
 -- the part of a changing call after it was counted: memory was wanting
 pub record IsWanting (old new : MemDisk) : Type 0 where
-  pub course : disk_course new ≡ disk_course old
+  pub state : disk_state new ≡ disk_state old
   pub plan : disk_plan new ≡ wanted (disk_plan old)
 
 -- .. or the disk stopped in it
 pub record IsStopping (call : Step) (old new : MemDisk) : Type 0 where
-  pub stops : StopsIn (disk_course old) call (disk_course new)
+  pub stops : StopsIn (disk_state old) call (disk_state new)
   pub plan : disk_plan new ≡ failed (disk_plan old)
 
 -- how a call that changes nothing ends
 abbrev pub ReadEnds : {T E : Type 0} → MemDisk → MemDisk → Result T E → Type 0
-ReadEnds old new (Ok value) = Begins old new × (disk_course new ≡ disk_course old)
-ReadEnds old new (Err e) = Refuses old new
+ReadEnds old new (Ok value) = BeginsCall old new × (disk_state new ≡ disk_state old)
+ReadEnds old new (Err e) = RefusesCall old new
 
 -- how a changing call ends
 abbrev pub ChangeEnds : {T E : Type 0} → Step → MemDisk → MemDisk → Result T E → Type 0
-ChangeEnds call old new (Ok value) = Begins old new × Does (disk_course old) call (disk_course new)
-ChangeEnds call old new (Err e) = Refuses old new ⊎ (Wants old new ⊎ Stops call old new)
+ChangeEnds call old new (Ok value) = BeginsCall old new × Does (disk_state old) call (disk_state new)
+ChangeEnds call old new (Err e) = RefusesCall old new ⊎ (Wants old new ⊎ Stops call old new)
 
 -- the call of this number is to fail
 abbrev pub lists : List ℕ → ℕ → Bool
@@ -99,5 +99,5 @@ pub record Counted (old new : MemDisk) : Type 0 where
 -- the same disk after a run of calls, of which these changed it
 pub record Grows (old new : MemDisk) : Type 0 where
   pub calls : List Step
-  pub runs : Runs (disk_course old) calls (disk_course new)
+  pub runs : Runs (disk_state old) calls (disk_state new)
   pub counted : Counted old new

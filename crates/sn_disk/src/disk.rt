@@ -1,7 +1,7 @@
 // What is asked of a disk.
 ghost use Rattle.std.specs.Prelude.{◌≡◌, ◌+◌, ◌≤◌, ◌<◌, ◌^◌, List, ℕ, length, take, drop, IfOk, OnOk};
 ghost use Rattle.sn_disk.specs.Disk.{overwritten, Only, Follows, Torn, Cut, Elapses, Counts, Growing};
-ghost use Rattle.sn_io.specs.Causes.{HasCause};
+ghost use Rattle.sn_io.specs.Causes.{CountsFailure};
 
 use sn_io::Failed;
 
@@ -38,7 +38,7 @@ pub trait Disk {
         ensures time { told → Elapses (moment self.old) (moment self.new) (left_since self.old) (left_since self.new) (may_leave self.new) }
         ensures still { told → moment self.new ≡ moment self.old }
         ensures grows { grows self.old self.new }
-        ensures cause { HasCause (fault_count self.old) (fault_count self.new) result }
+        ensures cause { CountsFailure (fault_count self.old) (fault_count self.new) result }
         ensures quiet { OnOk result (fault_count self.new ≡ fault_count self.old) };
 
     fn read(&mut self, at: u64, into: &mut [u8]) -> Result<(), Failed>
@@ -49,7 +49,7 @@ pub trait Disk {
         ensures time { told → Elapses (moment self.old) (moment self.new) (left_since self.old) (left_since self.new) (may_leave self.new) }
         ensures still { told → moment self.new ≡ moment self.old }
         ensures grows { grows self.old self.new }
-        ensures cause { HasCause (fault_count self.old) (fault_count self.new) result }
+        ensures cause { CountsFailure (fault_count self.old) (fault_count self.new) result }
         ensures quiet { OnOk result (fault_count self.new ≡ fault_count self.old) };
 
     /// Writes over what is there, and past the end. Until a sync, a crash may leave any bytes in the range.
@@ -60,7 +60,7 @@ pub trait Disk {
         ensures time { told → Elapses (moment self.old) (moment self.new) (left_since self.old) (left_since self.new) (may_leave self.new) }
         ensures one { told → Counts 1 (moment self.old) (moment self.new) result }
         ensures grows { grows self.old self.new }
-        ensures cause { HasCause (fault_count self.old) (fault_count self.new) result }
+        ensures cause { CountsFailure (fault_count self.old) (fault_count self.new) result }
         ensures quiet { OnOk result (fault_count self.new ≡ fault_count self.old) };
 
     fn cut(&mut self, len: u64) -> Result<(), Failed>
@@ -70,7 +70,7 @@ pub trait Disk {
         ensures time { told → Elapses (moment self.old) (moment self.new) (left_since self.old) (left_since self.new) (may_leave self.new) }
         ensures one { told → Counts 1 (moment self.old) (moment self.new) result }
         ensures grows { grows self.old self.new }
-        ensures cause { HasCause (fault_count self.old) (fault_count self.new) result }
+        ensures cause { CountsFailure (fault_count self.old) (fault_count self.new) result }
         ensures quiet { OnOk result (fault_count self.new ≡ fault_count self.old) };
 
     /// After it, a crash leaves what reads give.
@@ -81,7 +81,7 @@ pub trait Disk {
         ensures time { told → Elapses (moment self.old) (moment self.new) (left_since self.old) (left_since self.new) (may_leave self.new) }
         ensures one { told → Counts 1 (moment self.old) (moment self.new) result }
         ensures grows { grows self.old self.new }
-        ensures cause { HasCause (fault_count self.old) (fault_count self.new) result }
+        ensures cause { CountsFailure (fault_count self.old) (fault_count self.new) result }
         ensures quiet { OnOk result (fault_count self.new ≡ fault_count self.old) };
 
     /// A run of calls goes on as another one.

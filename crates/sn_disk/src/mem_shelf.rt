@@ -1,6 +1,6 @@
 // A shelf of disks in memory.
 ghost use Rattle.std.specs.Prelude.{◌≡◌, ◌≢◌, List, ℕ, map, string_bytes, IfSome, OnSome, IfNone, IfOk, OnOk, OnErr};
-ghost use Rattle.sn_io.specs.Causes.{HasCause};
+ghost use Rattle.sn_io.specs.Causes.{CountsFailure};
 ghost use Rattle.sn_io.specs.FaultPlan.{fresh};
 ghost use Rattle.sn_disk.specs.Shelf.{unknown, out, holds, HoldsNone};
 
@@ -97,7 +97,7 @@ impl Shelf for MemShelf {
         ensures out { Unit {0} → OnOk result (shelf_slot self.new name.now ≡ out) }
         ensures others { Unit {0} → (other : List ℕ) → other ≢ name.now → shelf_slot self.new other ≡ shelf_slot self.old other }
         ensures stays { Unit {0} → OnErr result (shelf_slot self.new name.now ≡ shelf_slot self.old name.now) }
-        ensures cause { HasCause self.old.plan.faults self.new.plan.faults result }
+        ensures cause { CountsFailure self.old.plan.faults self.new.plan.faults result }
         ensures ends { TakeEnds name.now self.old self.new result }
     {
         self.plan.begin()?;

@@ -1,6 +1,6 @@
 // A disk in memory.
 ghost use Rattle.std.specs.Prelude.{◌≡◌, ◌⊎◌, ◌↔◌, ◌+◌, ◌<◌, ◌≤◌, ◌^◌, [], List, ℕ, length, map, reverse, take, drop, IfOk, OnOk, OnErr, IsTrue, Some, false};
-ghost use Rattle.sn_io.specs.Causes.{HasCause, IsRise};
+ghost use Rattle.sn_io.specs.Causes.{CountsFailure, IsRise};
 ghost use Rattle.sn_io.specs.FaultPlan.{fresh, began, failed, wanted};
 ghost use Rattle.sn_disk.specs.Disk.{overwritten, Torn, Cut, Follows, Elapses, Counts, Only};
 ghost use Rattle.sn_disk.specs.Steps.{step_of, write_step, cut_step, sync_step, StepLeaves, Leaves, LeftSince, IsKept, IsCall, ends_in_stop};
@@ -30,11 +30,11 @@ pub struct MemDisk {
 }
 
 impl MemDisk {
-    ghost use Rattle.sn_disk.specs.MemDisk.{disk_told, disk_plan, disk_stop, disk_stopped, disk_course, HasStopSet, Begins, Refuses, IsWanting, IsStopping, Grows};
+    ghost use Rattle.sn_disk.specs.MemDisk.{disk_told, disk_plan, disk_stop, disk_stopped, disk_state, HasStopSet, BeginsCall, RefusesCall, IsWanting, IsStopping, Grows};
 
     /// A disk of these bytes. The calls of the numbers in `failing`, from 0, fail.
     pub fn new(alloc: Global, bytes: Vec<u8>, failing: Vec<u64>) -> Result<MemDisk, AllocError>
-        ensures course { IfOk result (λ disk. disk_course disk ≡ record { told = record { start = bytes.items; bytes = bytes.items; steps = [] }; stop = Stop.Never; stopped = false }) }
+        ensures state { IfOk result (λ disk. disk_state disk ≡ record { told = record { start = bytes.items; bytes = bytes.items; steps = [] }; stop = Stop.Never; stopped = false }) }
         ensures plan { IfOk result (λ disk. disk_plan disk ≡ fresh failing.items) }
     {
         Ok(MemDisk {
@@ -48,7 +48,7 @@ impl MemDisk {
 
     /// A disk that goes on as this one does.
     pub fn copy(&self, alloc: Global) -> Result<MemDisk, AllocError>
-        ensures course { IfOk result (λ disk. disk_course disk ≡ disk_course self.now) }
+        ensures state { IfOk result (λ disk. disk_state disk ≡ disk_state self.now) }
         ensures plan { IfOk result (λ disk. disk_plan disk ≡ disk_plan self.now) }
     {
         Ok(MemDisk {
@@ -114,12 +114,12 @@ impl MemDisk {
 
     // Counts a call, which fails if it is listed or the disk has stopped.
     fn begin(&mut self) -> Result<(), Failed>
-        ensures cause { HasCause self.old.plan.faults self.new.plan.faults result }
-        ensures course { disk_course self.new ≡ disk_course self.old }
+        ensures cause { CountsFailure self.old.plan.faults self.new.plan.faults result }
+        ensures state { disk_state self.new ≡ disk_state self.old }
         ensures grows { Grows self.old self.new }
-        ensures begins { OnOk result (Begins self.old self.new) }
+        ensures begins { OnOk result (BeginsCall self.old self.new) }
         ensures quiet { OnOk result (self.new.plan.faults ≡ self.old.plan.faults) }
-        ensures refuses { OnErr result (Refuses self.old self.new) }
+        ensures refuses { OnErr result (RefusesCall self.old self.new) }
     {
         self.plan.begin()?;
         if self.stopped {
@@ -136,8 +136,8 @@ impl MemDisk {
         ensures time { Elapses (length self.old.history.steps) (length self.new.history.steps) (LeftSince self.old.history) (LeftSince self.new.history) (Leaves self.new.history) }
         ensures one { Counts 1 (length self.old.history.steps) (length self.new.history.steps) result }
         ensures grows { Grows self.old self.new }
-        ensures cause { HasCause self.old.plan.faults self.new.plan.faults result }
-        ensures done { OnOk result (Does (disk_course self.old) (step_of call) (disk_course self.new) × (disk_plan self.new ≡ disk_plan self.old)) }
+        ensures cause { CountsFailure self.old.plan.faults self.new.plan.faults result }
+        ensures done { OnOk result (Does (disk_state self.old) (step_of call) (disk_state self.new) × (disk_plan self.new ≡ disk_plan self.old)) }
         ensures fails { OnErr result (IsWanting self.old self.new ⊎ IsStopping (step_of call) self.old self.new) }
     {
         if let Some(image) = image_due(self.stop) {
@@ -218,7 +218,7 @@ impl Disk for MemDisk {
         ensures time { Unit {0} → Elapses (length self.old.history.steps) (length self.new.history.steps) (LeftSince self.old.history) (LeftSince self.new.history) (Leaves self.new.history) }
         ensures still { Unit {0} → length self.new.history.steps ≡ length self.old.history.steps }
         ensures grows { Grows self.old self.new }
-        ensures cause { HasCause self.old.plan.faults self.new.plan.faults result }
+        ensures cause { CountsFailure self.old.plan.faults self.new.plan.faults result }
         ensures quiet { OnOk result (self.new.plan.faults ≡ self.old.plan.faults) }
         ensures ends { ReadEnds self.old self.new result }
     {
@@ -234,7 +234,7 @@ impl Disk for MemDisk {
         ensures time { Unit {0} → Elapses (length self.old.history.steps) (length self.new.history.steps) (LeftSince self.old.history) (LeftSince self.new.history) (Leaves self.new.history) }
         ensures still { Unit {0} → length self.new.history.steps ≡ length self.old.history.steps }
         ensures grows { Grows self.old self.new }
-        ensures cause { HasCause self.old.plan.faults self.new.plan.faults result }
+        ensures cause { CountsFailure self.old.plan.faults self.new.plan.faults result }
         ensures quiet { OnOk result (self.new.plan.faults ≡ self.old.plan.faults) }
         ensures ends { ReadEnds self.old self.new result }
     {
@@ -251,7 +251,7 @@ impl Disk for MemDisk {
         ensures time { Unit {0} → Elapses (length self.old.history.steps) (length self.new.history.steps) (LeftSince self.old.history) (LeftSince self.new.history) (Leaves self.new.history) }
         ensures one { Unit {0} → Counts 1 (length self.old.history.steps) (length self.new.history.steps) result }
         ensures grows { Grows self.old self.new }
-        ensures cause { HasCause self.old.plan.faults self.new.plan.faults result }
+        ensures cause { CountsFailure self.old.plan.faults self.new.plan.faults result }
         ensures quiet { OnOk result (self.new.plan.faults ≡ self.old.plan.faults) }
         ensures ends { ChangeEnds (write_step at bytes.now) self.old self.new result }
     {
@@ -269,7 +269,7 @@ impl Disk for MemDisk {
         ensures time { Unit {0} → Elapses (length self.old.history.steps) (length self.new.history.steps) (LeftSince self.old.history) (LeftSince self.new.history) (Leaves self.new.history) }
         ensures one { Unit {0} → Counts 1 (length self.old.history.steps) (length self.new.history.steps) result }
         ensures grows { Grows self.old self.new }
-        ensures cause { HasCause self.old.plan.faults self.new.plan.faults result }
+        ensures cause { CountsFailure self.old.plan.faults self.new.plan.faults result }
         ensures quiet { OnOk result (self.new.plan.faults ≡ self.old.plan.faults) }
         ensures ends { ChangeEnds (cut_step len) self.old self.new result }
     {
@@ -284,7 +284,7 @@ impl Disk for MemDisk {
         ensures time { Unit {0} → Elapses (length self.old.history.steps) (length self.new.history.steps) (LeftSince self.old.history) (LeftSince self.new.history) (Leaves self.new.history) }
         ensures one { Unit {0} → Counts 1 (length self.old.history.steps) (length self.new.history.steps) result }
         ensures grows { Grows self.old self.new }
-        ensures cause { HasCause self.old.plan.faults self.new.plan.faults result }
+        ensures cause { CountsFailure self.old.plan.faults self.new.plan.faults result }
         ensures quiet { OnOk result (self.new.plan.faults ≡ self.old.plan.faults) }
         ensures ends { ChangeEnds sync_step self.old self.new result }
     {

@@ -1,6 +1,6 @@
 // Where disks are kept by name.
 ghost use Rattle.std.specs.Prelude.{◌≡◌, ◌≢◌, ◌≤◌, List, ℕ, IfOk, OnOk, OnErr};
-ghost use Rattle.sn_io.specs.Causes.{HasCause};
+ghost use Rattle.sn_io.specs.Causes.{CountsFailure};
 ghost use Rattle.sn_disk.specs.Shelf.{Slot, out, holds};
 
 use crate::Disk;
@@ -30,7 +30,7 @@ pub trait Shelf {
         ensures out { told → OnOk result (slot self.new name.now ≡ out) }
         ensures others { told → (other : List ℕ) → other ≢ name.now → slot self.new other ≡ slot self.old other }
         ensures stays { told → OnErr result (slot self.new name.now ≡ slot self.old name.now) }
-        ensures cause { HasCause (fault_count self.old) (fault_count self.new) result };
+        ensures cause { CountsFailure (fault_count self.old) (fault_count self.new) result };
 
     /// Gives back the disk that was taken under this name.
     fn give(&mut self, name: &str, disk: Self::D)

@@ -2,9 +2,9 @@
 use Rattle.std.proofs.Common.{◌≡◌, [], Bool, true, false, None, Some, refl, sym, ap, ◌∙◌, subst}
 use Rattle.std.specs.Str.{bytes_eq}
 use Rattle.std.specs.declared.option.Option.{Option}
-use Rattle.sn_disk.specs.Courses.{Course}
+use Rattle.sn_disk.specs.Courses.{DiskState}
 use Rattle.sn_disk.specs.Growth.{Longer, grows_on, grows_same, runs_longer}
-use Rattle.sn_disk.specs.MemDisk.{Grows, disk_course, disk_told}
+use Rattle.sn_disk.specs.MemDisk.{Grows, disk_state, disk_told}
 use Rattle.sn_disk.specs.declared.memory.MemDisk.{MemDisk}
 use Rattle.sn_events.specs.Devices.{device_of}
 use Rattle.sn_events.specs.Growing.{ComesFrom, EndsGoOn, IsFreshDisk, held_disk}
@@ -21,10 +21,10 @@ use Rattle.sn_disk.specs.Shelf.{holds}
 use Rattle.sn_tail.specs.Shelves.{SlotGrows}
 
 pub fresh_on : (old new : MemDisk) → Grows old new → IsFreshDisk old → IsFreshDisk new
-fresh_on old new grows fresh = (runs_longer (disk_course old) grows.calls (disk_course new) grows.runs).start ∙ fresh
+fresh_on old new grows fresh = (runs_longer (disk_state old) grows.calls (disk_state new) grows.runs).start ∙ fresh
 
-pub fresh_made : (disk : MemDisk) (course : Course) → disk_course disk ≡ course → course.told.start ≡ [] → IsFreshDisk disk
-fresh_made disk course is start = ap (λ (x : Course). x.told.start) is ∙ start
+pub fresh_made : (disk : MemDisk) (course : DiskState) → disk_state disk ≡ course → course.told.start ≡ [] → IsFreshDisk disk
+fresh_made disk course is start = ap (λ (x : DiskState). x.told.start) is ∙ start
 
 -- one that is taken out is the one that was there
 pub taken_from : (found : Option Holding) (held : Holding) → found ≡ Some held → ComesFrom found held
@@ -41,7 +41,7 @@ from_on (Some before) held after from grows = grows_on (held_disk before) (held_
 -- ---- slots
 
 longer_of : (old new : MemDisk) → Grows old new → Longer (disk_told old) (disk_told new)
-longer_of old new grows = runs_longer (disk_course old) grows.calls (disk_course new) grows.runs
+longer_of old new grows = runs_longer (disk_state old) grows.calls (disk_state new) grows.runs
 
 pub server_grows : (old new : Option Held) (was : Standing) → HoldsIn old was → GoesOn old new → SlotGrows (slot_of_held old) (slot_of_held new)
 server_grows None new was there goes = absurd there

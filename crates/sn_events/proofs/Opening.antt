@@ -5,8 +5,8 @@ use Rattle.std.proofs.lemmas.List.Elements.{All-nil}
 use Rattle.rand_chacha.specs.ChaCha.{ChaCha}
 use Rattle.sn_account.specs.Lookups.{HasStore}
 use Rattle.sn_account.specs.Sound.{IsSound}
-use Rattle.sn_disk.specs.Courses.{Course}
-use Rattle.sn_disk.specs.MemDisk.{disk_course, disk_told}
+use Rattle.sn_disk.specs.Courses.{DiskState}
+use Rattle.sn_disk.specs.MemDisk.{disk_state, disk_told}
 use Rattle.sn_disk.specs.Steps.{Leaves, Reaches, Step}
 use Rattle.sn_disk.specs.declared.memory.MemDisk.{MemDisk}
 use Rattle.sn_events.proofs.Batches.{whole_after}
@@ -42,10 +42,10 @@ empty_store : (owner : Owner) (file : Bytes) → file ≡ [] → IsStore owner f
 empty_store owner file is = record { image = inr (inl (omega (arith, ap length is)), refl); each = All-nil (IsBatch owner) }
 
 -- a crash leaves no batches of a fresh disk
-pub fresh_each : (owner : Owner) (disk : MemDisk) (course : Course) → disk_course disk ≡ course → course.told.start ≡ [] → course.told.steps ≡ [] → (c : Bytes)
+pub fresh_each : (owner : Owner) (disk : MemDisk) (course : DiskState) → disk_state disk ≡ course → course.told.start ≡ [] → course.told.steps ≡ [] → (c : Bytes)
     → Leaves (disk_told disk) c → IsStore owner c []
 fresh_each owner disk course is start steps c left =
-    let there : Leaves course.told c = subst (λ (x : Course). Leaves x.told c) is left in
+    let there : Leaves course.told c = subst (λ (x : DiskState). Leaves x.told c) is left in
     let same : c ≡ course.told.start = subst (λ (l : List Step). Reaches course.told.start (reverse l) c) steps there in
     empty_store owner c (same ∙ start)
 

@@ -13,7 +13,7 @@ use sn_disk::MemDisk;
 use sn_items::Words;
 use sn_rows::Change;
 use sn_server::Server;
-use sn_string::Many;
+use sn_string::OwnedList;
 use sn_tail::Tail;
 use std::alloc::{AllocError, Global};
 
@@ -33,7 +33,7 @@ pub(crate) fn fresh_server(alloc: Global, words: &mut Words) -> Result<Server<Me
 pub(crate) fn first_commit(
     alloc: Global,
     server: &Server<MemDisk>,
-) -> Result<(Many<Change>, u64), AllocError>
+) -> Result<(OwnedList<Change>, u64), AllocError>
     ensures { (kept : Kept) (changes : List Change) → IsOpen server.now kept → kept.batches ≡ changes ∷ []
         → IfOk result (λ first. (first.0 ≡ changes) × (first.1 ≡ place_behind ServerOwner kept.batches)) }
 {

@@ -19,7 +19,7 @@ use sn_disk::MemDisk;
 use sn_link::{Held, Losses, ServingLink};
 use sn_net::Link;
 use sn_recorder::{Exchanged, Recorded, RecordingLink};
-use sn_string::Many;
+use sn_string::OwnedList;
 use sn_tail::Tail;
 use std::alloc::{AllocError, Global};
 
@@ -108,7 +108,9 @@ pub(crate) fn put_back<T: Drop>(
 }
 
 // The link to its server again, which is open, the place behind the batches, and what was recorded.
-pub(crate) fn served(link: RecordingLink) -> Result<(ServingLink, u64, Many<Exchanged>), AllocError>
+pub(crate) fn served(
+    link: RecordingLink,
+) -> Result<(ServingLink, u64, OwnedList<Exchanged>), AllocError>
     ensures { IfOk result (λ parts. IsServerBack link parts.0 parts.1 × (parts.2 ≡ link.exchanged)) }
 {
     let Some(

@@ -9,7 +9,7 @@ use sn_http::read_answer;
 use sn_link::ServingLink;
 use sn_recorder::{Delivered, RecordingLink};
 use sn_rows::Change;
-use sn_string::Many;
+use sn_string::OwnedList;
 use std::alloc::{AllocError, Global};
 
 /// What came of a request that was delivered once more: the link to its server again, the place behind the batches of its store,
@@ -18,7 +18,7 @@ use std::alloc::{AllocError, Global};
 pub(crate) struct Redelivered {
     pub(crate) link: ServingLink,
     pub(crate) place: u64,
-    pub(crate) batches: Many<Many<Change>>,
+    pub(crate) batches: OwnedList<OwnedList<Change>>,
     pub(crate) status: u16,
 }
 

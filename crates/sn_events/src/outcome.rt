@@ -4,13 +4,13 @@ use crate::ends::Ends;
 use sn_client::ClientError;
 use sn_recorder::Exchanged;
 use sn_rows::Change;
-use sn_string::Many;
+use sn_string::OwnedList;
 
 /// The ends before the first event, and the changes of the server's first commit.
 #[derive(Drop)]
 pub struct Begun {
     pub ends: Ends,
-    pub changes: Many<Change>,
+    pub changes: OwnedList<Change>,
 }
 
 /// The ends behind a call, what it gave or why it was refused, and what is to be told of it: the batches that the device's store
@@ -19,8 +19,8 @@ pub struct Begun {
 pub struct Outcome<T> {
     pub ends: Ends,
     pub answer: Result<T, ClientError>,
-    pub batches: Many<Many<Change>>,
-    pub exchanged: Many<Exchanged>,
+    pub batches: OwnedList<OwnedList<Change>>,
+    pub exchanged: OwnedList<Exchanged>,
 }
 
 /// The ends behind a request that came late or again, the batches that the server's store gained, and the status of the answer,
@@ -29,5 +29,5 @@ pub struct Outcome<T> {
 pub struct Again {
     pub ends: Ends,
     pub status: u16,
-    pub batches: Many<Many<Change>>,
+    pub batches: OwnedList<OwnedList<Change>>,
 }

@@ -9,7 +9,7 @@ ghost use Rattle.sn_script.specs.declared.script.Ordinal.TheVariants as ordinal;
 
 use crate::puts::{Act, Puts, is_of_a};
 use sn_script::{Fate, Line, Ordinal};
-use sn_string::{Many, Text};
+use sn_string::{OwnedList, Text};
 use std::alloc::{AllocError, Global};
 
 // The device whose event draws this number.
@@ -31,10 +31,10 @@ fn content(alloc: Global, event: u32) -> Result<Text, AllocError>
     Ok(Text::of_string(text))
 }
 
-fn losing_fates(alloc: Global) -> Result<Many<Fate>, AllocError>
+fn losing_fates(alloc: Global) -> Result<OwnedList<Fate>, AllocError>
     ensures { IfOk result (λ fates. fates ≡ fate.DropReply (ordinal.Nth 1) ∷ []) }
 {
-    let mut fates = Many::new(alloc);
+    let mut fates = OwnedList::new(alloc);
     fates.push(Fate::DropReply(Ordinal::Nth(1)))?;
     Ok(fates)
 }
@@ -45,22 +45,22 @@ fn line(alloc: Global, act: Act, drawn: u32, event: u32) -> Result<Line, AllocEr
     match act {
         Act::Put => Ok(Line::Put {
             device: device(drawn),
-            fates: Many::new(alloc),
+            fates: OwnedList::new(alloc),
             text: content(alloc, event)?,
         }),
         Act::Edit(label) => Ok(Line::Edit {
             device: device(drawn),
             label: Ordinal::Nth(label),
-            fates: Many::new(alloc),
+            fates: OwnedList::new(alloc),
             text: content(alloc, event)?,
         }),
-        Act::Sync => Ok(sync_line(device(drawn), Many::new(alloc))),
+        Act::Sync => Ok(sync_line(device(drawn), OwnedList::new(alloc))),
         Act::LosingSync => Ok(sync_line(device(drawn), losing_fates(alloc)?)),
     }
 }
 
 /// A sync of a device.
-pub(crate) fn sync_line(device: Text, fates: Many<Fate>) -> Line
+pub(crate) fn sync_line(device: Text, fates: OwnedList<Fate>) -> Line
     ensures { result ≡ line.Sync device fates }
 {
     Line::Sync { device, fates }

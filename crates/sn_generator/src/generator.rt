@@ -8,7 +8,7 @@ ghost use Rattle.sn_script.specs.declared.script.Line.{Line};
 use crate::events::{event_line, sync_line};
 use crate::puts::Puts;
 use sn_script::{Line, Script};
-use sn_string::{Many, Text};
+use sn_string::{OwnedList, Text};
 use std::alloc::{AllocError, Global};
 
 // The number that is drawn after this one.
@@ -19,23 +19,23 @@ fn next(drawn: u32) -> u32
 }
 
 // The settings, and an account that both devices have.
-fn opening(alloc: Global) -> Result<Many<Line>, AllocError>
+fn opening(alloc: Global) -> Result<OwnedList<Line>, AllocError>
     ensures { IfOk result (λ lines. lines ≡ opening) }
 {
-    let mut lines = Many::new(alloc);
+    let mut lines = OwnedList::new(alloc);
     lines.push(Line::Cost(1))?;
     lines.push(Line::Clock(1))?;
     lines.push(Line::Register {
         device: Text::fixed("A"),
         identifier: Text::fixed("gen"),
         password: Text::fixed("p"),
-        fates: Many::new(alloc),
+        fates: OwnedList::new(alloc),
     })?;
     lines.push(Line::SignIn {
         device: Text::fixed("B"),
         identifier: Text::fixed("gen"),
         password: Text::fixed("p"),
-        fates: Many::new(alloc),
+        fates: OwnedList::new(alloc),
     })?;
     Ok(lines)
 }
@@ -43,7 +43,7 @@ fn opening(alloc: Global) -> Result<Many<Line>, AllocError>
 // Adds a line for each event.
 fn push_events(
     alloc: Global,
-    lines: &mut Many<Line>,
+    lines: &mut OwnedList<Line>,
     number: u32,
     count: u32,
 ) -> Result<(), AllocError>
@@ -60,12 +60,12 @@ fn push_events(
 }
 
 // Adds the last syncs.
-fn push_closing(alloc: Global, lines: &mut Many<Line>) -> Result<(), AllocError>
+fn push_closing(alloc: Global, lines: &mut OwnedList<Line>) -> Result<(), AllocError>
     ensures { OnOk result (lines.new ≡ lines.old ++ closing) }
 {
-    lines.push(sync_line(Text::fixed("A"), Many::new(alloc)))?;
-    lines.push(sync_line(Text::fixed("B"), Many::new(alloc)))?;
-    lines.push(sync_line(Text::fixed("A"), Many::new(alloc)))
+    lines.push(sync_line(Text::fixed("A"), OwnedList::new(alloc)))?;
+    lines.push(sync_line(Text::fixed("B"), OwnedList::new(alloc)))?;
+    lines.push(sync_line(Text::fixed("A"), OwnedList::new(alloc)))
 }
 
 /// The script of a number, with so many events of two devices between its opening and its closing

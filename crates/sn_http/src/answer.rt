@@ -2,7 +2,7 @@
 ghost use Rattle.std.specs.Prelude.{◌≡◌, ◌≤◌, ◌++◌, ℕ, List, length, codes, IfOk, OnOk, OnErr};
 ghost use Rattle.std.specs.Io.KnownBytes.{Appends};
 ghost use Rattle.std.specs.List.{flat_map};
-ghost use Rattle.sn_io.specs.Causes.{HasCause};
+ghost use Rattle.sn_io.specs.Causes.{CountsFailure};
 ghost use Rattle.sn_io.specs.Streams.{TakesPart};
 ghost use Rattle.sn_http.specs.Lines.{line, content_type, content_length, close, only_if};
 ghost use Rattle.sn_http.specs.Answers.{phrase, allowed, challenge, status_line, answer, Passes, IsAnswer};
@@ -40,7 +40,7 @@ pub fn write_answer<K: Sink>(
 ) -> Result<(), WriteFault>
     ensures ok { OnOk result (Appends (K.held sink.old) (K.held sink.new) (answer status allow.now closing body.now)) }
     ensures err { OnErr result (TakesPart (K.held sink.old) (K.held sink.new) (answer status allow.now closing body.now)) }
-    ensures cause { HasCause (K.fault_count sink.old) (K.fault_count sink.new) result }
+    ensures cause { CountsFailure (K.fault_count sink.old) (K.fault_count sink.new) result }
 {
     let mut block = start_of(status, body.len());
     let end = end_of(status, closing);
@@ -130,7 +130,7 @@ fn close(closing: bool) -> &'static [u8]
 fn put_allow<K: Sink>(sink: &mut K, block: &mut Block, allow: &[u8]) -> Result<(), Failed>
     ensures ok { OnOk result (Passes (K.held sink.old) (K.held sink.new) block.old block.new (flat_map line (allowed allow.now))) }
     ensures err { OnErr result (TakesPart (K.held sink.old) (K.held sink.new) (block.old ++ flat_map line (allowed allow.now))) }
-    ensures cause { HasCause (K.fault_count sink.old) (K.fault_count sink.new) result }
+    ensures cause { CountsFailure (K.fault_count sink.old) (K.fault_count sink.new) result }
 {
     if allow.is_empty() {
         return Ok(());

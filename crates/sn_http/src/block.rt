@@ -1,7 +1,7 @@
 //! Bytes on their way to a sink, held back in a block on the stack.
 ghost use Rattle.std.specs.Prelude.{◌≡◌, ◌≤◌, ◌+◌, ◌++◌, [], length, nat_le, OnOk, OnErr};
 ghost use Rattle.std.specs.Io.KnownBytes.{Appends};
-ghost use Rattle.sn_io.specs.Causes.{HasCause};
+ghost use Rattle.sn_io.specs.Causes.{CountsFailure};
 ghost use Rattle.sn_io.specs.Streams.{TakesPart};
 ghost use Rattle.sn_http.specs.Lines.{line};
 ghost use Rattle.sn_http.specs.Answers.{Passes};
@@ -83,7 +83,7 @@ impl Block {
 pub(crate) fn put<K: Sink>(sink: &mut K, block: &mut Block, piece: &[u8]) -> Result<(), Failed>
     ensures ok { OnOk result (Passes (K.held sink.old) (K.held sink.new) block.old block.new piece.now) }
     ensures err { OnErr result (TakesPart (K.held sink.old) (K.held sink.new) (block.old ++ piece.now)) }
-    ensures cause { HasCause (K.fault_count sink.old) (K.fault_count sink.new) result }
+    ensures cause { CountsFailure (K.fault_count sink.old) (K.fault_count sink.new) result }
 {
     if block.has_room(piece.len()) {
         block.push(piece);
@@ -98,7 +98,7 @@ pub(crate) fn put<K: Sink>(sink: &mut K, block: &mut Block, piece: &[u8]) -> Res
 pub(crate) fn send<K: Sink>(sink: &mut K, mut block: Block, piece: &[u8]) -> Result<(), Failed>
     ensures ok { OnOk result (Appends (K.held sink.old) (K.held sink.new) (block ++ piece.now)) }
     ensures err { OnErr result (TakesPart (K.held sink.old) (K.held sink.new) (block ++ piece.now)) }
-    ensures cause { HasCause (K.fault_count sink.old) (K.fault_count sink.new) result }
+    ensures cause { CountsFailure (K.fault_count sink.old) (K.fault_count sink.new) result }
 {
     if block.has_room(piece.len()) {
         block.push(piece);
@@ -110,7 +110,7 @@ pub(crate) fn send<K: Sink>(sink: &mut K, mut block: Block, piece: &[u8]) -> Res
 fn write_both<K: Sink>(sink: &mut K, first: &[u8], second: &[u8]) -> Result<(), Failed>
     ensures ok { OnOk result (Appends (K.held sink.old) (K.held sink.new) (first.now ++ second.now)) }
     ensures err { OnErr result (TakesPart (K.held sink.old) (K.held sink.new) (first.now ++ second.now)) }
-    ensures cause { HasCause (K.fault_count sink.old) (K.fault_count sink.new) result }
+    ensures cause { CountsFailure (K.fault_count sink.old) (K.fault_count sink.new) result }
 {
     write_all(sink, first)?;
     write_all(sink, second)?;

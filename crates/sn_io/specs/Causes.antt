@@ -15,6 +15,6 @@ pub record IsRise (before now : ℕ) : Type 0 where
   pub rose : Rose before now
 
 -- a count never falls, and has risen where a call failed
-pub record HasCause {T E : Type 0} (before now : ℕ) (result : Result T E) : Type 0 where
+pub record CountsFailure {T E : Type 0} (before now : ℕ) (result : Result T E) : Type 0 where
   pub later : before ≤ now
   pub failed : OnErr result (Rose before now)

@@ -1,6 +1,6 @@
 // A failed call, and the plan by which an object in memory fails.
 ghost use Rattle.std.specs.Prelude.{◌≡◌, ◌↔◌, IsTrue, IsErr, IfOk};
-ghost use Rattle.sn_io.specs.Causes.{HasCause, IsRise};
+ghost use Rattle.sn_io.specs.Causes.{CountsFailure, IsRise};
 ghost use Rattle.sn_io.specs.FaultPlan.{fresh, is_listed, began, failed, wanted};
 
 use std::alloc::{AllocError, Global};
@@ -75,7 +75,7 @@ impl FaultPlan {
     pub fn begin(&mut self) -> Result<(), Failed>
         ensures listed { IsErr result ↔ IsTrue (is_listed self.old) }
         ensures counts { self.new ≡ began self.old }
-        ensures cause { HasCause self.old.faults self.new.faults result }
+        ensures cause { CountsFailure self.old.faults self.new.faults result }
     {
         let fails = self.listed.contains(&self.calls);
         self.calls = self.calls.saturating_add(1);

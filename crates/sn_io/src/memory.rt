@@ -2,7 +2,7 @@
 ghost use Rattle.std.specs.Prelude.{◌≡◌, ◌≤◌, ◌<◌, ◌↔◌, [], length, min, IsTrue, IsErr, IfOk, OnOk, OnErr, Some};
 ghost use Rattle.std.specs.Io.{ReadsAtMost};
 ghost use Rattle.std.specs.Io.KnownBytes.{ReadConsumes, WriteAppends};
-ghost use Rattle.sn_io.specs.Causes.{HasCause};
+ghost use Rattle.sn_io.specs.Causes.{CountsFailure};
 ghost use Rattle.sn_io.specs.FaultPlan.{fresh, is_listed, began, wanted, after_fault};
 ghost use Rattle.sn_io.specs.Seeds.{seed_at};
 ghost use Rattle.sn_io.specs.Streams.{TakesSome};
@@ -61,7 +61,7 @@ impl Source for MemSource {
     fn read(&mut self, into: &mut [u8]) -> Result<usize, Failed>
         ensures bound { ReadsAtMost result into.new }
         ensures bytes { ReadConsumes (Some (source_left self.old)) (Some (source_left self.new)) result into.new }
-        ensures cause { HasCause (source_plan self.old).faults (source_plan self.new).faults result }
+        ensures cause { CountsFailure (source_plan self.old).faults (source_plan self.new).faults result }
 
         ensures listed { IsErr result ↔ IsTrue (is_listed (source_plan self.old)) }
         ensures size { IfOk result (λ n. n ≡ min (min (length (source_left self.old)) (length into.old)) (source_piece self.old)) }
@@ -132,7 +132,7 @@ impl Sink for MemSink {
     fn write(&mut self, bytes: &[u8]) -> Result<usize, Failed>
         ensures some { TakesSome result bytes.now }
         ensures bytes { WriteAppends (Some (sink_held self.old)) (Some (sink_held self.new)) result bytes.now }
-        ensures cause { HasCause (sink_plan self.old).faults (sink_plan self.new).faults result }
+        ensures cause { CountsFailure (sink_plan self.old).faults (sink_plan self.new).faults result }
 
         ensures listed { IsTrue (is_listed (sink_plan self.old)) → IsErr result }
         ensures size { IfOk result (λ n. n ≡ min (length bytes.now) (sink_piece self.old)) }

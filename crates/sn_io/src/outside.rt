@@ -3,7 +3,7 @@ ghost use Rattle.std.specs.Prelude.{◌≡◌, ℕ, List};
 ghost use Rattle.std.specs.declared.option.Option.{Option};
 ghost use Rattle.std.specs.Io.{ReadsAtMost};
 ghost use Rattle.std.specs.Io.KnownBytes.{ReadConsumes, WriteAppends};
-ghost use Rattle.sn_io.specs.Causes.{HasCause};
+ghost use Rattle.sn_io.specs.Causes.{CountsFailure};
 ghost use Rattle.sn_io.specs.Streams.{TakesSome, Gains};
 
 use crate::Failed;
@@ -24,7 +24,7 @@ pub trait Source {
     fn read(&mut self, into: &mut [u8]) -> Result<usize, Failed>
         ensures bound { ReadsAtMost result into.new }
         ensures bytes { ReadConsumes (left self.old) (left self.new) result into.new }
-        ensures cause { HasCause (fault_count self.old) (fault_count self.new) result };
+        ensures cause { CountsFailure (fault_count self.old) (fault_count self.new) result };
 }
 
 /// Where bytes go.
@@ -43,7 +43,7 @@ pub trait Sink {
     fn write(&mut self, bytes: &[u8]) -> Result<usize, Failed>
         ensures some { TakesSome result bytes.now }
         ensures bytes { WriteAppends (held self.old) (held self.new) result bytes.now }
-        ensures cause { HasCause (fault_count self.old) (fault_count self.new) result };
+        ensures cause { CountsFailure (fault_count self.old) (fault_count self.new) result };
 }
 
 /// Where random words come from.

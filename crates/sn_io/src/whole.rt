@@ -1,7 +1,7 @@
 // Whole inputs and whole texts.
 ghost use Rattle.std.specs.Prelude.{◌≡◌, ◌+◌, ◌<◌, ◌≤◌, ◌^◌, ℕ, List, length, take, IfOk, OnOk, OnErr, IsErrOf};
 ghost use Rattle.std.specs.Io.KnownBytes.{Appends};
-ghost use Rattle.sn_io.specs.Causes.{Rose, HasCause};
+ghost use Rattle.sn_io.specs.Causes.{Rose, CountsFailure};
 ghost use Rattle.sn_io.specs.Streams.{TakesPart, GivesPart, GivesAtMost, HasGiven};
 ghost use Rattle.sn_io.specs.declared.whole.ReadError.TheVariants.{Failed as ReadFailed, Memory};
 
@@ -65,7 +65,7 @@ pub fn read_all<I: Source>(alloc: Global, source: &mut I, most: usize) -> Result
 pub fn write_all<O: Sink>(sink: &mut O, bytes: &[u8]) -> Result<(), Failed>
     ensures ok { OnOk result (Appends (O.held sink.old) (O.held sink.new) bytes.now) }
     ensures err { OnErr result (TakesPart (O.held sink.old) (O.held sink.new) bytes.now) }
-    ensures cause { HasCause (O.fault_count sink.old) (O.fault_count sink.new) result }
+    ensures cause { CountsFailure (O.fault_count sink.old) (O.fault_count sink.new) result }
 {
     let mut at = 0;
     'rest: while at < bytes.len() {

@@ -257,8 +257,8 @@ fn spells_bytes(rt: HostRuntime) {
     assert!(rt; matches!(base64_bytes(rt.alloc(), "Zm9vYmFyIR=="), Ok(None)));
 }
 
-fn twice<T: Twin>(alloc: Global, value: &T) -> Result<T, AllocError> {
-    value.twin(alloc)
+fn twice<T: TryClone>(alloc: Global, value: &T) -> Result<T, AllocError> {
+    value.try_clone(alloc)
 }
 
 fn copies_a_set(alloc: Global) -> Option<bool> {
@@ -312,10 +312,10 @@ fn copies_bytes(rt: HostRuntime) {
 }
 
 fn copies_a_list(alloc: Global) -> Option<bool> {
-    let mut many = Many::new(alloc);
+    let mut many = OwnedList::new(alloc);
     many.push(Some(7u32)).ok()?;
     many.push(None).ok()?;
-    let many = Many::of_vec(twice(alloc, &many).ok()?.into_vec());
+    let many = OwnedList::of_vec(twice(alloc, &many).ok()?.into_vec());
     Some(many.as_slice() == [Some(7u32), None].as_slice() && many.len() == 2 && !many.is_empty())
 }
 

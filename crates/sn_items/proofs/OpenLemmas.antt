@@ -12,7 +12,7 @@ use Rattle.sn_items.specs.declared.error.ItemError.TheVariants.{Form, OtherUuid,
 use Rattle.sn_string.specs.Base64.{IsBase64}
 use Rattle.sn_string.specs.Grammar.{Reading, Is003, IsCiphertext, parts_of}
 use Rattle.sn_string.specs.Hex.{IsLowerHex}
-use Rattle.sn_string.specs.Refusals.{Refuses}
+use Rattle.sn_string.specs.Refusals.{RefusedFor}
 use Rattle.sn_string.specs.Uuids.{IsUuidText}
 use Rattle.sn_string.specs.declared.reader.StringError.{StringError}
 use Rattle.sn_string.specs.declared.reader.StringError.TheVariants as string
@@ -113,7 +113,7 @@ unfolding IsOther
 is_memory error e = subst IsOther (sym e) tt
 
 -- a 003 string has no refusal of its form
-pub no_form_refusal : (text : List ℕ) (reading : Reading) (error : StringError) → Is003 text reading → ¬ (Refuses (parts_of text) error)
+pub no_form_refusal : (text : List ℕ) (reading : Reading) (error : StringError) → Is003 text reading → ¬ (RefusedFor (parts_of text) error)
 unfolding IsOther
 no_form_refusal text reading (string.Parts n) reads refusal =
     is_memory (string.Parts n) (read_back text reading reads (Err (string.Parts n)) refusal)
@@ -129,7 +129,7 @@ no_form_refusal text reading (string.Ciphertext n) reads refusal =
     is_memory (string.Ciphertext n) (read_back text reading reads (Err (string.Ciphertext n)) refusal)
 no_form_refusal text reading (string.Params n) reads refusal =
     is_memory (string.Params n) (read_back text reading reads (Err (string.Params n)) refusal)
-no_form_refusal text reading string.Memory reads refusal = subst (λ parts. Refuses parts string.Memory) reads.parts refusal
+no_form_refusal text reading string.Memory reads refusal = subst (λ parts. RefusedFor parts string.Memory) reads.parts refusal
 
 -- a text that opens has no refusal but want of memory
 pub no_refusal : (text uuid encryption_key authentication_key plain : List ℕ) (error : ItemError) → AreBytes plain

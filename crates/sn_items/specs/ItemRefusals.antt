@@ -11,7 +11,7 @@ use Rattle.sn_items.specs.declared.sealed.Which.{Which}
 use Rattle.sn_items.specs.declared.sealed.Which.TheVariants.{Enc, Content}
 use Rattle.sn_string.specs.Grammar.{Reading, Is003, parts_of}
 use Rattle.sn_string.specs.Hex.{IsLowerHex}
-use Rattle.sn_string.specs.Refusals.{Refuses}
+use Rattle.sn_string.specs.Refusals.{RefusedFor}
 use Rattle.sn_string.specs.declared.params.KeySet.{KeySet}
 use Rattle.sn_string.specs.declared.params.Params.{Params}
 use Rattle.sn_string.specs.declared.reader.StringError.{StringError}
@@ -21,7 +21,7 @@ use Rattle.sn_string.specs.declared.reader.StringError.TheVariants as string
 pub record IsContentForm (sealed : Sealed) (error : StringError) : Type 0 where
   pub enc : Reading
   pub enc_reads : Is003 sealed.enc enc
-  pub refused : Refuses (parts_of sealed.content) error
+  pub refused : RefusedFor (parts_of sealed.content) error
 
 -- both are 003 strings
 pub record BothRead (sealed : Sealed) (enc content : Reading) : Type 0 where
@@ -81,7 +81,7 @@ pub record ContentIsRefused (sealed : Sealed) (uuid : List ℕ) (set : KeySet) (
 
 -- the error's cause stands at the key string, and none before it
 abbrev pub EncHasCause : Sealed → List ℕ → KeySet → ItemError → Type 0
-EncHasCause sealed uuid set (Form error) = Refuses (parts_of sealed.enc) error
+EncHasCause sealed uuid set (Form error) = RefusedFor (parts_of sealed.enc) error
 EncHasCause sealed uuid set (OtherSet nonce) = EncIsOther sealed set.params nonce
 EncHasCause sealed uuid set NotObject = ⊥
 EncHasCause sealed uuid set Memory = ⊤

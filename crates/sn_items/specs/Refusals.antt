@@ -7,7 +7,7 @@ use Rattle.sn_items.specs.declared.error.ItemError.{ItemError}
 use Rattle.sn_items.specs.declared.error.ItemError.TheVariants.{Form, OtherUuid, HashMismatch, Padding, NotUtf8, NotItemKey, NotObject, OtherSet, Memory}
 use Rattle.sn_string.specs.Grammar.{Reading, parts_of}
 use Rattle.sn_string.specs.Hex.{IsLowerHex}
-use Rattle.sn_string.specs.Refusals.{Refuses}
+use Rattle.sn_string.specs.Refusals.{RefusedFor}
 
 -- the string names another uuid
 pub record IsOtherUuid (text uuid written : List ℕ) : Type 0 where
@@ -39,7 +39,7 @@ pub record IsNotUtf8 (text uuid encryption_key authentication_key : List ℕ) (p
 
 -- the error's cause stands, and none before it; want of memory alone is free, and what only an item refuses never comes
 abbrev pub HasCause : List ℕ → List ℕ → List ℕ → List ℕ → ItemError → Type 0
-HasCause text uuid encryption_key authentication_key (Form error) = Refuses (parts_of text) error
+HasCause text uuid encryption_key authentication_key (Form error) = RefusedFor (parts_of text) error
 HasCause text uuid encryption_key authentication_key (OtherUuid written) = IsOtherUuid text uuid written
 HasCause text uuid encryption_key authentication_key (HashMismatch written computed) = IsHashMismatch text uuid authentication_key written computed
 HasCause text uuid encryption_key authentication_key Padding = IsPaddingFault text uuid encryption_key authentication_key

@@ -11,7 +11,7 @@ use crate::opening::open_text;
 use crate::sealed::{Sealed, Which};
 use crate::sealing::sealed_text;
 use crate::words::Words;
-use sn_string::{KeySet, Params, StringError, Text, Twin, hex_text, key_bytes, read};
+use sn_string::{KeySet, Params, StringError, Text, TryClone, hex_text, key_bytes, read};
 use std::alloc::{AllocError, Global};
 use uuid::Uuid;
 
@@ -128,7 +128,7 @@ fn form_error(error: StringError) -> ItemError
 fn other_set(alloc: Global, params: &Params) -> ItemError
     ensures { SaysNonce params.now.pw_nonce result }
 {
-    match params.pw_nonce.twin(alloc) {
+    match params.pw_nonce.try_clone(alloc) {
         Ok(nonce) => ItemError::OtherSet { nonce },
         Err(_) => ItemError::Memory,
     }

@@ -1,7 +1,7 @@
 // An item's two strings.
 ghost use Rattle.std.specs.Prelude.{◌≡◌, IfOk};
 
-use sn_string::{Text, Twin};
+use sn_string::{Text, TryClone};
 use std::alloc::{AllocError, Global};
 
 /// An item as it is kept: its content sealed under a key of its own, and that key sealed under a key
@@ -20,10 +20,10 @@ pub enum Which {
     Content,
 }
 
-impl Twin for Sealed {
-    fn twin(&self, alloc: Global) -> Result<Sealed, AllocError> {
-        let content = self.content.twin(alloc)?;
-        let enc = self.enc.twin(alloc)?;
+impl TryClone for Sealed {
+    fn try_clone(&self, alloc: Global) -> Result<Sealed, AllocError> {
+        let content = self.content.try_clone(alloc)?;
+        let enc = self.enc.try_clone(alloc)?;
         Ok(Sealed { content, enc })
     }
 }

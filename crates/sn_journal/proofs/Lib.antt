@@ -2,6 +2,6 @@ pub mod Facts
 pub mod Gates
 pub mod Loads
 pub mod Passing
-pub mod Settling
+pub mod Resting
 pub mod Starts
 pub mod Wholes

@@ -6,5 +6,5 @@ pub mod Laws
 pub mod Loading
 pub mod Opening
 pub mod Reading
-pub mod Settled
+pub mod AtRest
 pub mod Unique

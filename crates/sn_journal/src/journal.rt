@@ -32,7 +32,7 @@ pub enum AppendError<D: Disk> {
 impl<D: Disk> Journal<D> {
     ghost use Rattle.sn_disk.specs.Disk.{LeavesOnly, Counts};
     ghost use Rattle.sn_journal.specs.Image.{IsBeforeOrAfter};
-    ghost use Rattle.sn_journal.specs.Settled.{IsSettled, disk_of, owner_of, disk_after};
+    ghost use Rattle.sn_journal.specs.AtRest.{HasDurably, disk_of, owner_of, disk_after};
     ghost use Rattle.sn_journal.specs.Append.{IsRefusal};
 
     /// Its disk.
@@ -51,7 +51,7 @@ impl<D: Disk> Journal<D> {
 
     /// How many batches it has.
     pub fn count(&self) -> u64
-        ensures { (payloads : List (List ℕ)) → IsSettled self.now payloads → result ≡ length payloads }
+        ensures { (payloads : List (List ℕ)) → HasDurably self.now payloads → result ≡ length payloads }
     {
         self.count
     }
@@ -75,12 +75,12 @@ impl<D: Disk> Journal<D> {
     /// Adds a batch behind the last one.
     pub fn append(self, payload: &[u8]) -> Result<Journal<D>, AppendError<D>>
         // At `Ok` each crash leaves the batches with the new one.
-        ensures done { D.told → (payloads : List (List ℕ)) → IsSettled self payloads →
-            IfOk result (λ journal. IsSettled journal (payloads ++ payload.now ∷ [])) }
+        ensures done { D.told → (payloads : List (List ℕ)) → HasDurably self payloads →
+            IfOk result (λ journal. HasDurably journal (payloads ++ payload.now ∷ [])) }
         ensures owner { IfOk result (λ journal. owner_of journal ≡ owner_of self) }
 
         // A crash at any moment leaves the batches from before, or those with the new one.
-        ensures any_moment { D.told → (payloads : List (List ℕ)) → IsSettled self payloads →
+        ensures any_moment { D.told → (payloads : List (List ℕ)) → HasDurably self payloads →
             LeavesOnly D.moment D.left_since (disk_of self) (disk_after result) (IsBeforeOrAfter (owner_of self) payloads payload.now) }
 
         ensures refused { IfErr result (IsRefusal self (length payload.now)) }
@@ -124,13 +124,13 @@ impl<D: Disk> Journal<D> {
 
 impl Journal<MemDisk> {
     ghost use Rattle.sn_disk.specs.MemDisk.{HasStopSet};
-    ghost use Rattle.sn_journal.specs.Settled.{IsSettled, disk_of, owner_of};
+    ghost use Rattle.sn_journal.specs.AtRest.{HasDurably, disk_of, owner_of};
 
     /// Sets whether and when its disk is to stop. Bytes, record and batches stay as they are.
     pub fn set_stop(&mut self, stop: Stop)
         ensures set { HasStopSet stop (disk_of self.old) (disk_of self.new) }
         ensures owner { owner_of self.new ≡ owner_of self.old }
-        ensures settled { (payloads : List (List ℕ)) → IsSettled self.old payloads → IsSettled self.new payloads }
+        ensures durably { (payloads : List (List ℕ)) → HasDurably self.old payloads → HasDurably self.new payloads }
     {
         self.disk.set_stop(stop);
     }

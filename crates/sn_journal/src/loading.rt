@@ -5,7 +5,7 @@ ghost use Rattle.sn_disk.specs.Disk.{Only, LeavesOnly, Counts};
 ghost use Rattle.sn_journal.specs.Image.{IsImage, IsBeforeOrAfter, SameBatches, missing_writes};
 ghost use Rattle.sn_journal.specs.Loading.{IsLoadError};
 ghost use Rattle.sn_journal.specs.Opening.{IsOpened};
-ghost use Rattle.sn_journal.specs.Settled.{IsRead, IsLoaded, owner_of, loaded_disk};
+ghost use Rattle.sn_journal.specs.AtRest.{IsRead, IsLoaded, owner_of, loaded_disk};
 
 use crate::finding::{Found, found_in};
 use crate::making::make_from;

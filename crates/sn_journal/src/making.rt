@@ -1,7 +1,7 @@
 // The three writes of a start, from the one that is missing on.
 ghost use Rattle.std.specs.Prelude.{◌≡◌, ◌≤◌, ◌<◌, ◌⊎◌, ◌++◌, ◌∷◌, ◌*◌, [], List, ℕ, length, drop, slice_index, OnOk};
 ghost use Rattle.sn_disk.specs.Disk.{Only, LeavesOnly, Counts};
-ghost use Rattle.sn_io.specs.Causes.{HasCause};
+ghost use Rattle.sn_io.specs.Causes.{CountsFailure};
 ghost use Rattle.sn_journal.specs.Loading.{IsStartAt, writes_of};
 ghost use Rattle.sn_journal.specs.Image.{header_of, IsImage};
 
@@ -19,7 +19,7 @@ pub(crate) fn make_from<D: Disk>(disk: &mut D, owner: Owner, start: Start) -> Re
         LeavesOnly D.moment D.left_since disk.old disk.new (λ c. IsImage owner c []) }
     ensures calls { D.told → Counts (2 * writes_of start) (D.moment disk.old) (D.moment disk.new) result }
     ensures grows { D.grows disk.old disk.new }
-    ensures cause { HasCause (D.fault_count disk.old) (D.fault_count disk.new) result }
+    ensures cause { CountsFailure (D.fault_count disk.old) (D.fault_count disk.new) result }
     ensures quiet { OnOk result (D.fault_count disk.new ≡ D.fault_count disk.old) }
 {
     match start {
@@ -38,7 +38,7 @@ fn make<D: Disk>(disk: &mut D, owner: Owner) -> Result<(), Failed>
         LeavesOnly D.moment D.left_since disk.old disk.new (λ c. IsImage owner c []) }
     ensures calls { D.told → Counts 6 (D.moment disk.old) (D.moment disk.new) result }
     ensures grows { D.grows disk.old disk.new }
-    ensures cause { HasCause (D.fault_count disk.old) (D.fault_count disk.new) result }
+    ensures cause { CountsFailure (D.fault_count disk.old) (D.fault_count disk.new) result }
     ensures quiet { OnOk result (D.fault_count disk.new ≡ D.fault_count disk.old) }
 {
     write_durably(disk, 0, &[0])?;
@@ -54,7 +54,7 @@ fn make_header<D: Disk>(disk: &mut D, owner: Owner) -> Result<(), Failed>
         LeavesOnly D.moment D.left_since disk.old disk.new (λ c. IsImage owner c []) }
     ensures calls { D.told → Counts 4 (D.moment disk.old) (D.moment disk.new) result }
     ensures grows { D.grows disk.old disk.new }
-    ensures cause { HasCause (D.fault_count disk.old) (D.fault_count disk.new) result }
+    ensures cause { CountsFailure (D.fault_count disk.old) (D.fault_count disk.new) result }
     ensures quiet { OnOk result (D.fault_count disk.new ≡ D.fault_count disk.old) }
 {
     write_durably(disk, 1, &after_first_byte(owner))?;
@@ -71,7 +71,7 @@ fn make_first_byte<D: Disk>(disk: &mut D, _owner: Owner) -> Result<(), Failed>
         LeavesOnly D.moment D.left_since disk.old disk.new (λ c. IsImage _owner c []) }
     ensures calls { D.told → Counts 2 (D.moment disk.old) (D.moment disk.new) result }
     ensures grows { D.grows disk.old disk.new }
-    ensures cause { HasCause (D.fault_count disk.old) (D.fault_count disk.new) result }
+    ensures cause { CountsFailure (D.fault_count disk.old) (D.fault_count disk.new) result }
     ensures quiet { OnOk result (D.fault_count disk.new ≡ D.fault_count disk.old) }
 {
     write_durably(disk, 0, b"S")

@@ -5,7 +5,7 @@ ghost use Rattle.sn_keys.specs.Keys.{AreKeysOf, third};
 
 use crate::salt::salt_of;
 use sn_pbkdf::derive96;
-use sn_string::{KeySet, Params, Twin};
+use sn_string::{KeySet, Params, TryClone};
 use std::alloc::{AllocError, Global};
 
 /// The keys that a password gives under auth parameters: the server's password, the master key and the
@@ -15,7 +15,7 @@ use std::alloc::{AllocError, Global};
 pub fn derive(alloc: Global, password: &str, params: &Params) -> Result<KeySet, AllocError>
     ensures { IfOk result (λ set. AreKeysOf password.now params.now set) }
 {
-    let params = params.twin(alloc)?;
+    let params = params.try_clone(alloc)?;
     let salt = salt_of(&params);
     let bytes = derive96(password.as_bytes(), &salt, params.pw_cost);
     Ok(KeySet {

@@ -19,7 +19,7 @@ use Rattle.sn_laws.specs.Each.{Each}
 use Rattle.sn_laws.specs.Lookups.{Bytes, account_named, account_of, device_named, draft_at, has_item, is_account, is_of, last_of}
 use Rattle.sn_laws.specs.Moves.{after, allows, is_as, is_last, is_live, is_live_at, is_new_stamp, is_on_last, is_plain, is_said, is_sent_under, is_unsent, is_writable, may_accept, may_delete, may_edit, may_join, may_post, may_settle, may_stand, may_write, same_base, sent_content}
 use Rattle.sn_string.specs.Bounds.{longest_content}
-use Rattle.sn_laws.specs.Relation.{HasLive, HeldBefore, IsAllowed, IsLiveAt, IsOnLast, IsPlain, IsSaid, MayAccept, MayDelete, MayEdit, MayJoin, MayPost, MayRegister, MaySettle, MayWrite, Moves}
+use Rattle.sn_laws.specs.Relation.{HasLive, HeldBefore, IsAllowed, IsLiveAt, IsOnLast, IsPlain, NamesSet, MayAccept, MayDelete, MayEdit, MayJoin, MayPost, MayRegister, MaySettle, MayWrite, Moves}
 use Rattle.sn_laws.specs.Runs.{step_of}
 use Rattle.sn_laws.proofs.EachLemmas.{and_both, at_most, below, each_from, each_to, is_at_most, is_below, none_from, none_to, not_false, not_true, number_same, one_from, one_to, or_cases, or_left, or_right, same_number, same_text, text_same}
 pub use Rattle.sn_laws.proofs.RelatedParts.{one_there}
@@ -258,11 +258,11 @@ sent_from : (n : ℕ) (posted : Option Posted) → is_sent_under n posted ≡ tr
 sent_from n None h = absurd (cc)
 sent_from n (Some p) h = (p, refl, number_from n p.set h)
 
-said_from : (n : ℕ) (c : Content) (under : Option ℕ) → is_said n c under ≡ true → IsSaid n c under
+said_from : (n : ℕ) (c : Content) (under : Option ℕ) → is_said n c under ≡ true → NamesSet n c under
 said_from n (Plain text) under h = number_from n under h
 said_from n Deleted under h = none_is under h
 
-said_to : (n : ℕ) (c : Content) (under : Option ℕ) → IsSaid n c under → is_said n c under ≡ true
+said_to : (n : ℕ) (c : Content) (under : Option ℕ) → NamesSet n c under → is_said n c under ≡ true
 said_to n (Plain text) under h = number_to n under h
 said_to n Deleted under h = is_nothing under h
 

@@ -98,9 +98,9 @@ pub record MayPost (s : Ideal) (device uuid : Bytes) : Type 0 where
   pub unsent : (p : Posted) → draft.posted ≡ Some p → p.set ≡ None
 
 -- the number that is said is the set's; a deletion has none
-abbrev pub IsSaid : ℕ → Content → Option ℕ → Type 0
-IsSaid number (Plain text) under = under ≡ Some number
-IsSaid number Deleted under = under ≡ None
+abbrev pub NamesSet : ℕ → Content → Option ℕ → Type 0
+NamesSet number (Plain text) under = under ≡ Some number
+NamesSet number Deleted under = under ≡ None
 
 -- the base is the last version's stamp; or there is none, and no account has the item
 abbrev pub IsOnLast : Ideal → Account → Bytes → Option ℕ → Type 0
@@ -120,7 +120,7 @@ pub record MayAccept (s : Ideal) (device uuid : Bytes) (stamp : ℕ) (under : Op
   pub posted : Posted
   pub sent : draft.posted ≡ Some posted
   pub last_set : posted.set ≡ Some (length account.sets)
-  pub said : IsSaid (length account.sets) posted.content under
+  pub said : NamesSet (length account.sets) posted.content under
   pub on_last : IsOnLast s account uuid draft.base
   pub new : IsNewStamp s stamp
 

@@ -5,6 +5,7 @@ ghost use Rattle.std.specs.Option.{option_copied};
 ghost use Rattle.sn_laws.specs.Lookups.{account_for, greatest, held_by, is_account, is_device, is_draft};
 ghost use Rattle.sn_laws.specs.Moves.{accepted, after, changed_where, edited, joined, posted_under, registered, sent_content, version_of, without};
 
+use crate::clones::copies;
 use crate::ideal::{Account, Body, Content, Device, Draft, Ideal, Posted, Version};
 use crate::lookups::{
     account_of, account_with, device_named, draft_at, greatest_held, is_at, is_called,
@@ -13,8 +14,7 @@ use crate::lookups::{
 use crate::moves::Move;
 use crate::redrafted::{with_fork, with_renamed, with_settled};
 use crate::rekeyed::{rewrapped, with_another_set, with_retired, with_unposted};
-use crate::twins::copies;
-use sn_string::{KeySet, Many, Text, Twin};
+use sn_string::{KeySet, OwnedList, Text, TryClone};
 use std::alloc::{AllocError, Global};
 use uuid::Uuid;
 
@@ -23,16 +23,16 @@ fn registered(
     accounts: &[Account],
     identifier: &Text,
     set: &KeySet,
-) -> Result<Many<Account>, AllocError>
+) -> Result<OwnedList<Account>, AllocError>
     ensures { IfOk result (λ next. next ≡ registered accounts.now identifier.now set.now) }
 {
-    let mut sets = Many::new(alloc);
-    sets.push(set.twin(alloc)?)?;
+    let mut sets = OwnedList::new(alloc);
+    sets.push(set.try_clone(alloc)?)?;
     let mut next = copies(alloc, accounts)?;
     next.push(Account {
-        identifier: identifier.twin(alloc)?,
+        identifier: identifier.try_clone(alloc)?,
         sets,
-        versions: Many::new(alloc),
+        versions: OwnedList::new(alloc),
     })?;
     Ok(next)
 }
@@ -42,13 +42,13 @@ fn with_set(
     devices: &[Device],
     name: &Text,
     number: u64,
-) -> Result<Many<Device>, AllocError>
+) -> Result<OwnedList<Device>, AllocError>
     ensures { IfOk result (λ next. next
         ≡ changed_where (is_device name.now) (λ e. record e { held = e.held ++ number ∷ [] }) devices.now) }
 {
-    let mut next = Many::new(alloc);
+    let mut next = OwnedList::new(alloc);
     for device in devices {
-        let mut changed = device.twin(alloc)?;
+        let mut changed = device.try_clone(alloc)?;
         if is_called(device, name) {
             changed.held.push(number)?;
         }
@@ -63,7 +63,7 @@ fn joined(
     name: &Text,
     identifier: &Text,
     number: u64,
-) -> Result<Many<Device>, AllocError>
+) -> Result<OwnedList<Device>, AllocError>
     ensures { IfOk result (λ next. next
         ≡ joined devices.now name.now identifier.now number (find (is_device name.now) devices.now)) }
 {
@@ -71,11 +71,11 @@ fn joined(
         return with_set(alloc, devices, name, number);
     }
     let mut next = copies(alloc, devices)?;
-    let mut held = Many::new(alloc);
+    let mut held = OwnedList::new(alloc);
     held.push(number)?;
     next.push(Device {
-        name: name.twin(alloc)?,
-        account: identifier.twin(alloc)?,
+        name: name.try_clone(alloc)?,
+        account: identifier.try_clone(alloc)?,
         held,
     })?;
     Ok(next)
@@ -87,15 +87,15 @@ fn with_latest(
     device: &Text,
     uuid: &Uuid,
     latest: &Content,
-) -> Result<Many<Draft>, AllocError>
+) -> Result<OwnedList<Draft>, AllocError>
     ensures { IfOk result (λ next. next
         ≡ changed_where (is_draft device.now uuid.now) (λ e. record e { latest = latest.now }) drafts.now) }
 {
-    let mut next = Many::new(alloc);
+    let mut next = OwnedList::new(alloc);
     for draft in drafts {
-        let mut changed = draft.twin(alloc)?;
+        let mut changed = draft.try_clone(alloc)?;
         if is_at(draft, device, uuid) {
-            changed.latest = latest.twin(alloc)?;
+            changed.latest = latest.try_clone(alloc)?;
         }
         next.push(changed)?;
     }
@@ -110,7 +110,7 @@ fn edited(
     kind: &Text,
     base: Option<u64>,
     latest: &Content,
-) -> Result<Many<Draft>, AllocError>
+) -> Result<OwnedList<Draft>, AllocError>
     ensures { IfOk result (λ next. next ≡ edited drafts.now device.now uuid.now kind.now base latest.now
         (find (is_draft device.now uuid.now) drafts.now)) }
 {
@@ -119,11 +119,11 @@ fn edited(
     }
     let mut next = copies(alloc, drafts)?;
     next.push(Draft {
-        device: device.twin(alloc)?,
+        device: device.try_clone(alloc)?,
         uuid: *uuid,
-        kind: kind.twin(alloc)?,
+        kind: kind.try_clone(alloc)?,
         base,
-        latest: latest.twin(alloc)?,
+        latest: latest.try_clone(alloc)?,
         posted: None,
     })?;
     Ok(next)
@@ -133,8 +133,8 @@ fn sent(alloc: Global, draft: &Draft) -> Result<Content, AllocError>
     ensures { IfOk result (λ content. content ≡ sent_content draft.now.latest draft.now.posted) }
 {
     match &draft.posted {
-        None => draft.latest.twin(alloc),
-        Some(posted) => posted.content.twin(alloc),
+        None => draft.latest.try_clone(alloc),
+        Some(posted) => posted.content.try_clone(alloc),
     }
 }
 
@@ -142,7 +142,7 @@ fn posted(alloc: Global, draft: &Draft, number: u64) -> Result<Draft, AllocError
     ensures { IfOk result (λ next. next ≡ posted_under number draft.now) }
 {
     let content = sent(alloc, draft)?;
-    let mut next = draft.twin(alloc)?;
+    let mut next = draft.try_clone(alloc)?;
     next.posted = Some(Posted {
         content,
         set: Some(number),
@@ -156,16 +156,16 @@ fn with_posted(
     device: &Text,
     uuid: &Uuid,
     number: u64,
-) -> Result<Many<Draft>, AllocError>
+) -> Result<OwnedList<Draft>, AllocError>
     ensures { IfOk result (λ next. next
         ≡ changed_where (is_draft device.now uuid.now) (posted_under number) drafts.now) }
 {
-    let mut next = Many::new(alloc);
+    let mut next = OwnedList::new(alloc);
     for draft in drafts {
         if is_at(draft, device, uuid) {
             next.push(posted(alloc, draft, number)?)?;
         } else {
-            next.push(draft.twin(alloc)?)?;
+            next.push(draft.try_clone(alloc)?)?;
         }
     }
     Ok(next)
@@ -177,7 +177,7 @@ fn posted_drafts(
     drafts: &[Draft],
     device: &Text,
     uuid: &Uuid,
-) -> Result<Many<Draft>, AllocError>
+) -> Result<OwnedList<Draft>, AllocError>
     ensures { IfOk result (λ next. next ≡ changed_where (is_draft device.now uuid.now)
         (posted_under (greatest 0 (held_by (find (is_device device.now) devices.now)))) drafts.now) }
 {
@@ -195,7 +195,7 @@ fn version(alloc: Global, draft: &Draft, stamp: u64, number: u64) -> Result<Vers
     Ok(Version {
         uuid: draft.uuid,
         stamp,
-        kind: draft.kind.twin(alloc)?,
+        kind: draft.kind.try_clone(alloc)?,
         body,
     })
 }
@@ -206,13 +206,13 @@ fn with_version(
     account: &Account,
     draft: &Draft,
     stamp: u64,
-) -> Result<Many<Account>, AllocError>
+) -> Result<OwnedList<Account>, AllocError>
     ensures { IfOk result (λ next. next ≡ accepted accounts.now (Some account.now) (Some draft.now) stamp) }
 {
     let number = account.sets.as_slice().len() as u64;
-    let mut next = Many::new(alloc);
+    let mut next = OwnedList::new(alloc);
     for other in accounts {
-        let mut changed = other.twin(alloc)?;
+        let mut changed = other.try_clone(alloc)?;
         if is_same_account(other, account) {
             let version = version(alloc, draft, stamp, number)?;
             changed.versions.push(version)?;
@@ -228,7 +228,7 @@ fn accepted(
     account: Option<&Account>,
     draft: Option<&Draft>,
     stamp: u64,
-) -> Result<Many<Account>, AllocError>
+) -> Result<OwnedList<Account>, AllocError>
     ensures { IfOk result (λ next. next
         ≡ accepted accounts.now (option_copied account.entry) (option_copied draft.entry) stamp) }
 {
@@ -243,19 +243,23 @@ fn without_draft(
     drafts: &[Draft],
     device: &Text,
     uuid: &Uuid,
-) -> Result<Many<Draft>, AllocError>
+) -> Result<OwnedList<Draft>, AllocError>
     ensures { IfOk result (λ next. next ≡ without (is_draft device.now uuid.now) drafts.now) }
 {
-    let mut next = Many::new(alloc);
+    let mut next = OwnedList::new(alloc);
     for draft in drafts {
         if !is_at(draft, device, uuid) {
-            next.push(draft.twin(alloc)?)?;
+            next.push(draft.try_clone(alloc)?)?;
         }
     }
     Ok(next)
 }
 
-fn accounts_after(alloc: Global, state: &Ideal, next: &Move) -> Result<Many<Account>, AllocError>
+fn accounts_after(
+    alloc: Global,
+    state: &Ideal,
+    next: &Move,
+) -> Result<OwnedList<Account>, AllocError>
     ensures { IfOk result (λ changed. changed ≡ (after state.now next.now).accounts) }
 {
     let accounts = state.accounts.as_slice();
@@ -283,7 +287,7 @@ fn accounts_after(alloc: Global, state: &Ideal, next: &Move) -> Result<Many<Acco
     }
 }
 
-fn drafts_after(alloc: Global, state: &Ideal, next: &Move) -> Result<Many<Draft>, AllocError>
+fn drafts_after(alloc: Global, state: &Ideal, next: &Move) -> Result<OwnedList<Draft>, AllocError>
     ensures { IfOk result (λ changed. changed ≡ (after state.now next.now).drafts) }
 {
     let drafts = state.drafts.as_slice();
@@ -321,7 +325,7 @@ fn drafts_after(alloc: Global, state: &Ideal, next: &Move) -> Result<Many<Draft>
     }
 }
 
-fn devices_after(alloc: Global, state: &Ideal, next: &Move) -> Result<Many<Device>, AllocError>
+fn devices_after(alloc: Global, state: &Ideal, next: &Move) -> Result<OwnedList<Device>, AllocError>
     ensures { IfOk result (λ changed. changed ≡ (after state.now next.now).devices) }
 {
     let devices = state.devices.as_slice();

@@ -1,6 +1,6 @@
 //! The ideal state: accounts, drafts and devices, in plain text.
 
-use sn_string::{KeySet, Many, Text};
+use sn_string::{KeySet, OwnedList, Text};
 use uuid::Uuid;
 
 /// What a draft holds.
@@ -32,8 +32,8 @@ pub struct Version {
 #[derive(Drop)]
 pub struct Account {
     pub identifier: Text,
-    pub sets: Many<KeySet>,
-    pub versions: Many<Version>,
+    pub sets: OwnedList<KeySet>,
+    pub versions: OwnedList<Version>,
 }
 
 /// What a draft was sent as, and the number of the set under which it was sent; for a moment
@@ -63,13 +63,13 @@ pub struct Device {
     pub name: Text,
     /// The account's identifier.
     pub account: Text,
-    pub held: Many<u64>,
+    pub held: OwnedList<u64>,
 }
 
 /// The ideal state.
 #[derive(Drop)]
 pub struct Ideal {
-    pub accounts: Many<Account>,
-    pub drafts: Many<Draft>,
-    pub devices: Many<Device>,
+    pub accounts: OwnedList<Account>,
+    pub drafts: OwnedList<Draft>,
+    pub devices: OwnedList<Device>,
 }

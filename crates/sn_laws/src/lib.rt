@@ -3,6 +3,7 @@
 #![tactic(auto)]
 
 mod allowed;
+mod clones;
 mod effects;
 pub mod ideal;
 pub mod kept_laws;
@@ -15,7 +16,6 @@ mod rekeyed;
 mod rekeying;
 mod run;
 pub mod state_laws;
-mod twins;
 
 pub use ideal::{Account, Body, Content, Device, Draft, Ideal, Posted, Version};
 pub use moves::Move;

@@ -7,7 +7,7 @@ ghost use Rattle.sn_laws.specs.Moves.{changed_where, copied, forked, renamed, se
 use crate::ideal::{Content, Draft};
 use crate::lookups::is_at;
 use sn_notes::conflict_copy;
-use sn_string::{Many, Text, Twin};
+use sn_string::{OwnedList, Text, TryClone};
 use std::alloc::{AllocError, Global};
 use uuid::Uuid;
 
@@ -18,12 +18,12 @@ pub fn with_settled(
     device: &Text,
     uuid: &Uuid,
     stamp: u64,
-) -> Result<Many<Draft>, AllocError>
+) -> Result<OwnedList<Draft>, AllocError>
     ensures { IfOk result (λ next. next ≡ changed_where (is_draft device.now uuid.now) (settled_at stamp) drafts.now) }
 {
-    let mut next = Many::new(alloc);
+    let mut next = OwnedList::new(alloc);
     for draft in drafts {
-        let mut changed = draft.twin(alloc)?;
+        let mut changed = draft.try_clone(alloc)?;
         if is_at(draft, device, uuid) {
             changed.base = Some(stamp);
             changed.posted = None;
@@ -49,9 +49,9 @@ fn forked(alloc: Global, draft: &Draft, other: &Uuid) -> Result<Draft, AllocErro
     ensures { IfOk result (λ next. next ≡ forked other.now draft.now) }
 {
     Ok(Draft {
-        device: draft.device.twin(alloc)?,
+        device: draft.device.try_clone(alloc)?,
         uuid: *other,
-        kind: draft.kind.twin(alloc)?,
+        kind: draft.kind.try_clone(alloc)?,
         base: None,
         latest: copied(alloc, &draft.latest, draft.uuid)?,
         posted: None,
@@ -65,15 +65,15 @@ pub fn with_fork(
     device: &Text,
     uuid: &Uuid,
     other: &Uuid,
-) -> Result<Many<Draft>, AllocError>
+) -> Result<OwnedList<Draft>, AllocError>
     ensures { IfOk result (λ next. next ≡ changed_where (is_draft device.now uuid.now) (forked other.now) drafts.now) }
 {
-    let mut next = Many::new(alloc);
+    let mut next = OwnedList::new(alloc);
     for draft in drafts {
         if is_at(draft, device, uuid) {
             next.push(forked(alloc, draft, other)?)?;
         } else {
-            next.push(draft.twin(alloc)?)?;
+            next.push(draft.try_clone(alloc)?)?;
         }
     }
     Ok(next)
@@ -86,12 +86,12 @@ pub fn with_renamed(
     device: &Text,
     uuid: &Uuid,
     other: &Uuid,
-) -> Result<Many<Draft>, AllocError>
+) -> Result<OwnedList<Draft>, AllocError>
     ensures { IfOk result (λ next. next ≡ changed_where (is_draft device.now uuid.now) (renamed other.now) drafts.now) }
 {
-    let mut next = Many::new(alloc);
+    let mut next = OwnedList::new(alloc);
     for draft in drafts {
-        let mut changed = draft.twin(alloc)?;
+        let mut changed = draft.try_clone(alloc)?;
         if is_at(draft, device, uuid) {
             changed.uuid = *other;
             changed.posted = None;

@@ -5,10 +5,10 @@ ghost use Rattle.std.specs.Option.{option_copied};
 ghost use Rattle.sn_laws.specs.Lookups.{is_account, is_device, is_draft, last_of};
 ghost use Rattle.sn_laws.specs.Moves.{again, changed_where, resealed, rewrapped, unposted, without, without_number};
 
+use crate::clones::copies;
 use crate::ideal::{Account, Body, Device, Draft, Posted, Version};
 use crate::lookups::{is_at, is_called, is_named, is_same_account, last_version};
-use crate::twins::copies;
-use sn_string::{KeySet, Many, Text, Twin};
+use sn_string::{KeySet, OwnedList, Text, TryClone};
 use std::alloc::{AllocError, Global};
 use uuid::Uuid;
 
@@ -18,7 +18,7 @@ fn without_number(alloc: Global, posted: &Option<Posted>) -> Result<Option<Poste
     match posted {
         None => Ok(None),
         Some(posted) => Ok(Some(Posted {
-            content: posted.content.twin(alloc)?,
+            content: posted.content.try_clone(alloc)?,
             set: None,
         })),
     }
@@ -30,12 +30,12 @@ pub fn with_unposted(
     drafts: &[Draft],
     device: &Text,
     uuid: &Uuid,
-) -> Result<Many<Draft>, AllocError>
+) -> Result<OwnedList<Draft>, AllocError>
     ensures { IfOk result (λ next. next ≡ changed_where (is_draft device.now uuid.now) unposted drafts.now) }
 {
-    let mut next = Many::new(alloc);
+    let mut next = OwnedList::new(alloc);
     for draft in drafts {
-        let mut changed = draft.twin(alloc)?;
+        let mut changed = draft.try_clone(alloc)?;
         if is_at(draft, device, uuid) {
             changed.posted = without_number(alloc, &draft.posted)?;
         }
@@ -48,7 +48,7 @@ fn resealed(alloc: Global, body: &Body, number: u64) -> Result<Body, AllocError>
     ensures { IfOk result (λ next. next ≡ resealed number body.now) }
 {
     match body {
-        Body::Under(text, _) => Ok(Body::Under(text.twin(alloc)?, number)),
+        Body::Under(text, _) => Ok(Body::Under(text.try_clone(alloc)?, number)),
         Body::Gone => Ok(Body::Gone),
     }
 }
@@ -64,14 +64,14 @@ fn sealed_again(
     Ok(Version {
         uuid: last.uuid,
         stamp,
-        kind: last.kind.twin(alloc)?,
+        kind: last.kind.try_clone(alloc)?,
         body: resealed(alloc, &last.body, number)?,
     })
 }
 
 fn push_again(
     alloc: Global,
-    versions: &mut Many<Version>,
+    versions: &mut OwnedList<Version>,
     account: &Account,
     uuid: &Uuid,
     stamp: u64,
@@ -92,12 +92,12 @@ fn with_rewrap(
     account: &Account,
     uuid: &Uuid,
     stamp: u64,
-) -> Result<Many<Account>, AllocError>
+) -> Result<OwnedList<Account>, AllocError>
     ensures { IfOk result (λ next. next ≡ rewrapped accounts.now (Some account.now) uuid.now stamp) }
 {
-    let mut next = Many::new(alloc);
+    let mut next = OwnedList::new(alloc);
     for other in accounts {
-        let mut changed = other.twin(alloc)?;
+        let mut changed = other.try_clone(alloc)?;
         if is_same_account(other, account) {
             push_again(alloc, &mut changed.versions, account, uuid, stamp)?;
         }
@@ -113,7 +113,7 @@ pub fn rewrapped(
     account: Option<&Account>,
     uuid: &Uuid,
     stamp: u64,
-) -> Result<Many<Account>, AllocError>
+) -> Result<OwnedList<Account>, AllocError>
     ensures { IfOk result (λ next. next ≡ rewrapped accounts.now (option_copied account.entry) uuid.now stamp) }
 {
     match account {
@@ -128,25 +128,25 @@ pub fn with_another_set(
     accounts: &[Account],
     identifier: &Text,
     set: &KeySet,
-) -> Result<Many<Account>, AllocError>
+) -> Result<OwnedList<Account>, AllocError>
     ensures { IfOk result (λ next. next
         ≡ changed_where (is_account identifier.now) (λ a. record a { sets = a.sets ++ set.now ∷ [] }) accounts.now) }
 {
-    let mut next = Many::new(alloc);
+    let mut next = OwnedList::new(alloc);
     for account in accounts {
-        let mut changed = account.twin(alloc)?;
+        let mut changed = account.try_clone(alloc)?;
         if is_named(account, identifier) {
-            changed.sets.push(set.twin(alloc)?)?;
+            changed.sets.push(set.try_clone(alloc)?)?;
         }
         next.push(changed)?;
     }
     Ok(next)
 }
 
-fn without_set(alloc: Global, held: &[u64], number: u64) -> Result<Many<u64>, AllocError>
+fn without_set(alloc: Global, held: &[u64], number: u64) -> Result<OwnedList<u64>, AllocError>
     ensures { IfOk result (λ next. next ≡ without (λ m. m == number) held.now) }
 {
-    let mut next = Many::new(alloc);
+    let mut next = OwnedList::new(alloc);
     for &other in held {
         if other != number {
             next.push(other)?;
@@ -161,13 +161,13 @@ pub fn with_retired(
     devices: &[Device],
     name: &Text,
     number: u64,
-) -> Result<Many<Device>, AllocError>
+) -> Result<OwnedList<Device>, AllocError>
     ensures { IfOk result (λ next. next
         ≡ changed_where (is_device name.now) (λ d. record d { held = without (λ m. m == number) d.held }) devices.now) }
 {
-    let mut next = Many::new(alloc);
+    let mut next = OwnedList::new(alloc);
     for device in devices {
-        let mut changed = device.twin(alloc)?;
+        let mut changed = device.try_clone(alloc)?;
         if is_called(device, name) {
             changed.held = without_set(alloc, device.held.as_slice(), number)?;
         }

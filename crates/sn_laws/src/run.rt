@@ -8,7 +8,7 @@ use crate::allowed::is_allowed;
 use crate::effects::apply;
 use crate::ideal::Ideal;
 use crate::moves::Move;
-use sn_string::Many;
+use sn_string::OwnedList;
 use std::alloc::{AllocError, Global};
 
 impl Ideal {
@@ -17,9 +17,9 @@ impl Ideal {
         ensures { result ≡ empty }
     {
         Ideal {
-            accounts: Many::new(alloc),
-            drafts: Many::new(alloc),
-            devices: Many::new(alloc),
+            accounts: OwnedList::new(alloc),
+            drafts: OwnedList::new(alloc),
+            devices: OwnedList::new(alloc),
         }
     }
 }

@@ -12,7 +12,7 @@ use crate::drafts::{answered, item_at, push_said};
 use sn_laws::{Content, Move};
 use sn_row_map::RowMap;
 use sn_rows::{Change, LocalItem};
-use sn_string::{Many, Text, Twin};
+use sn_string::{OwnedList, Text, TryClone};
 use std::alloc::{AllocError, Global};
 use uuid::Uuid;
 
@@ -23,12 +23,12 @@ pub fn moves_of(
     name: &Text,
     done: &Done,
     changes: &[Change],
-) -> Result<Many<Move>, AllocError>
+) -> Result<OwnedList<Move>, AllocError>
     ensures { IfOk result (λ moves. moves ≡ moves_of (row_in rows.now) name.now done.now changes.now) }
 {
     match done {
         Done::Begins { identifier, number } => joined(alloc, name, identifier, *number),
-        Done::Renews => Ok(Many::new(alloc)),
+        Done::Renews => Ok(OwnedList::new(alloc)),
         Done::Puts { uuid, kind, text } => put(alloc, name, *uuid, kind, text),
         Done::Edits { .. } | Done::Deletes | Done::Posts => {
             items_moved(alloc, rows, name, done, changes)
@@ -43,13 +43,13 @@ fn joined(
     name: &Text,
     identifier: &Text,
     number: u64,
-) -> Result<Many<Move>, AllocError>
+) -> Result<OwnedList<Move>, AllocError>
     ensures { IfOk result (λ moves. moves ≡ Join name.now identifier.now number ∷ []) }
 {
-    let mut moves = Many::new(alloc);
+    let mut moves = OwnedList::new(alloc);
     moves.push(Move::Join {
-        device: name.twin(alloc)?,
-        identifier: identifier.twin(alloc)?,
+        device: name.try_clone(alloc)?,
+        identifier: identifier.try_clone(alloc)?,
         number,
     })?;
     Ok(moves)
@@ -62,16 +62,16 @@ fn put(
     uuid: Uuid,
     kind: &Text,
     text: &Text,
-) -> Result<Many<Move>, AllocError>
+) -> Result<OwnedList<Move>, AllocError>
     ensures { IfOk result (λ moves. moves ≡ Edit name.now uuid kind.now None (content.Plain text.now) ∷ []) }
 {
-    let mut moves = Many::new(alloc);
+    let mut moves = OwnedList::new(alloc);
     moves.push(Move::Edit {
-        device: name.twin(alloc)?,
+        device: name.try_clone(alloc)?,
         uuid,
-        kind: kind.twin(alloc)?,
+        kind: kind.try_clone(alloc)?,
         base: None,
-        latest: Content::Plain(text.twin(alloc)?),
+        latest: Content::Plain(text.try_clone(alloc)?),
     })?;
     Ok(moves)
 }
@@ -83,10 +83,10 @@ fn items_moved(
     name: &Text,
     done: &Done,
     changes: &[Change],
-) -> Result<Many<Move>, AllocError>
+) -> Result<OwnedList<Move>, AllocError>
     ensures { IfOk result (λ moves. moves ≡ flat_map (change_moved (row_in rows.now) name.now done.now) changes.now) }
 {
-    let mut moves = Many::new(alloc);
+    let mut moves = OwnedList::new(alloc);
     'changes: for change in changes {
         push_change(alloc, &mut moves, rows, name, done, change)?;
     }
@@ -96,7 +96,7 @@ fn items_moved(
 // Adds the move of a change, if it has one.
 fn push_change(
     alloc: Global,
-    moves: &mut Many<Move>,
+    moves: &mut OwnedList<Move>,
     rows: &RowMap,
     name: &Text,
     done: &Done,
@@ -123,12 +123,12 @@ fn item_moved(
 {
     match done {
         Done::Edits { text } => {
-            let latest = Content::Plain(text.twin(alloc)?);
+            let latest = Content::Plain(text.try_clone(alloc)?);
             Ok(Some(edit_of(alloc, name, latest, item)?))
         }
         Done::Deletes => Ok(Some(deletion_of(alloc, name, item)?)),
         Done::Posts => Ok(Some(Move::Post {
-            device: name.twin(alloc)?,
+            device: name.try_clone(alloc)?,
             uuid: item.uuid,
         })),
         _ => Ok(None),
@@ -144,9 +144,9 @@ fn edit_of(
     ensures { IfOk result (λ said. said ≡ edit_of name.now latest item.now) }
 {
     Ok(Move::Edit {
-        device: name.twin(alloc)?,
+        device: name.try_clone(alloc)?,
         uuid: item.uuid,
-        kind: item.kind.twin(alloc)?,
+        kind: item.kind.try_clone(alloc)?,
         base: item.base,
         latest,
     })
@@ -159,7 +159,7 @@ fn deletion_of(alloc: Global, name: &Text, item: &LocalItem) -> Result<Move, All
         return edit_of(alloc, name, Content::Deleted, item);
     }
     Ok(Move::Drop {
-        device: name.twin(alloc)?,
+        device: name.try_clone(alloc)?,
         uuid: item.uuid,
     })
 }

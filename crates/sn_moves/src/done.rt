@@ -1,6 +1,6 @@
 //! What a device did in a commit.
 
-use sn_string::{Many, Text};
+use sn_string::{OwnedList, Text};
 use uuid::Uuid;
 
 /// What a device did in a commit, as far as its rows and its changes don't tell it. A change of password isn't among
@@ -20,5 +20,5 @@ pub enum Done {
     /// It kept drafts as they are sent.
     Posts,
     /// It applied the answer to a sync, by which another account has these uuids.
-    Applies { foreign: Many<Uuid> },
+    Applies { foreign: OwnedList<Uuid> },
 }

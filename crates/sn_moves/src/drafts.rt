@@ -11,7 +11,7 @@ ghost use Rattle.sn_moves.specs.Drafts.{answered, copy_made, draft_move, ended, 
 use sn_laws::Move;
 use sn_row_map::RowMap;
 use sn_rows::{Change, Key, LocalItem, RowBody, Value};
-use sn_string::{Many, Text, Twin};
+use sn_string::{OwnedList, Text, TryClone};
 use std::alloc::{AllocError, Global};
 use uuid::Uuid;
 
@@ -64,10 +64,10 @@ pub(crate) fn answered<'a>(
     name: &Text,
     foreign: &[Uuid],
     changes: &'a [Change],
-) -> Result<Many<Move>, AllocError>
+) -> Result<OwnedList<Move>, AllocError>
     ensures { IfOk result (λ moves. moves ≡ answered name.now foreign.now None (row_in rows.now) changes.now) }
 {
-    let mut moves = Many::new(alloc);
+    let mut moves = OwnedList::new(alloc);
     let mut copy = None;
     'changes: for (place, change) in changes.iter().enumerate() {
         copy = push_change(
@@ -88,7 +88,7 @@ pub(crate) fn answered<'a>(
 // it makes itself.
 fn push_change<'a>(
     alloc: Global,
-    moves: &mut Many<Move>,
+    moves: &mut OwnedList<Move>,
     rows: &'a RowMap,
     name: &Text,
     foreign: &[Uuid],
@@ -110,7 +110,7 @@ fn push_change<'a>(
 }
 
 /// Adds a move, if there is one.
-pub(crate) fn push_said(moves: &mut Many<Move>, said: Option<Move>) -> Result<(), AllocError>
+pub(crate) fn push_said(moves: &mut OwnedList<Move>, said: Option<Move>) -> Result<(), AllocError>
     ensures { OnOk result (moves.new ≡ moves.old ++ option_to_list said) }
 {
     match said {
@@ -182,7 +182,7 @@ fn ended(
 ) -> Result<Move, AllocError>
     ensures { IfOk result (λ said. said ≡ ended name.now uuid copy latest.now) }
 {
-    let device = name.twin(alloc)?;
+    let device = name.try_clone(alloc)?;
     match (copy, latest) {
         (Some(other), _) => Ok(Move::Fork {
             device,
@@ -204,7 +204,7 @@ fn ended_with_row(
 ) -> Result<Move, AllocError>
     ensures { IfOk result (λ said. said ≡ ended_with_row name.now foreign.now uuid copy) }
 {
-    let device = name.twin(alloc)?;
+    let device = name.try_clone(alloc)?;
     if let Some(other) = copy {
         return Ok(Move::Fork {
             device,
@@ -233,7 +233,7 @@ fn stayed(
 ) -> Result<Option<Move>, AllocError>
     ensures { IfOk result (λ said. said ≡ stayed name.now was.now now.now) }
 {
-    let device = name.twin(alloc)?;
+    let device = name.try_clone(alloc)?;
     if was.uuid != now.uuid {
         return Ok(Some(Move::Rename {
             device,

@@ -11,7 +11,7 @@ ghost use Rattle.sn_world.specs.Serving.{generation_of, number_of, registers_in}
 use sn_laws::Move;
 use sn_row_map::RowMap;
 use sn_rows::{Change, ItemRow, Key, Value};
-use sn_string::{KeySet, Many, Text, Twin};
+use sn_string::{KeySet, OwnedList, Text, TryClone};
 use sn_sync::Request;
 use std::alloc::{AllocError, Global};
 use uuid::Uuid;
@@ -25,7 +25,7 @@ pub fn moves_for(
     begins: Option<&KeySet>,
     request: &Request,
     changes: &[Change],
-) -> Result<Many<Move>, AllocError>
+) -> Result<OwnedList<Move>, AllocError>
     ensures { IfOk result (λ moves. moves ≡ moves_for (row_in rows.now) name.now (option_copied begins.entry) request.now changes.now) }
 {
     match request {
@@ -34,7 +34,7 @@ pub fn moves_for(
         }
         Request::Sync { .. } => accepts_in(alloc, rows, name, changes),
         Request::Params { .. } | Request::SignIn { .. } | Request::ChangePw { .. } => {
-            Ok(Many::new(alloc))
+            Ok(OwnedList::new(alloc))
         }
     }
 }
@@ -45,10 +45,10 @@ pub fn registers_in(
     identifier: &Text,
     begins: Option<&KeySet>,
     changes: &[Change],
-) -> Result<Many<Move>, AllocError>
+) -> Result<OwnedList<Move>, AllocError>
     ensures { IfOk result (λ moves. moves ≡ registers_in identifier.now (option_copied begins.entry) changes.now) }
 {
-    let mut moves = Many::new(alloc);
+    let mut moves = OwnedList::new(alloc);
     let Some(set) = begins else {
         return Ok(moves);
     };
@@ -56,8 +56,8 @@ pub fn registers_in(
         return Ok(moves);
     }
     moves.push(Move::Register {
-        identifier: identifier.twin(alloc)?,
-        set: set.twin(alloc)?,
+        identifier: identifier.try_clone(alloc)?,
+        set: set.try_clone(alloc)?,
     })?;
     Ok(moves)
 }
@@ -68,10 +68,10 @@ pub fn accepts_in(
     rows: &RowMap,
     name: &Text,
     changes: &[Change],
-) -> Result<Many<Move>, AllocError>
+) -> Result<OwnedList<Move>, AllocError>
     ensures { IfOk result (λ moves. moves ≡ accepts_in (row_in rows.now) name.now changes.now) }
 {
-    let mut moves = Many::new(alloc);
+    let mut moves = OwnedList::new(alloc);
     'changes: for change in changes {
         push_accept(alloc, &mut moves, rows, name, change)?;
     }
@@ -81,7 +81,7 @@ pub fn accepts_in(
 // Adds the accept of the item that a change puts, if it puts one.
 fn push_accept(
     alloc: Global,
-    moves: &mut Many<Move>,
+    moves: &mut OwnedList<Move>,
     rows: &RowMap,
     name: &Text,
     change: &Change,
@@ -111,7 +111,7 @@ fn accept_of(
 {
     let generation = generation_of(rows.get(&Key::Account(item.account())));
     Ok(Move::Accept {
-        device: name.twin(alloc)?,
+        device: name.try_clone(alloc)?,
         uuid,
         stamp: item.updated(),
         under: number_of(item.is_deleted(), generation),

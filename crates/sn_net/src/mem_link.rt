@@ -5,7 +5,7 @@ ghost use Rattle.sn_io.specs.FaultPlan.{fresh, is_listed};
 
 use crate::{AskError, Link};
 use sn_io::FaultPlan;
-use sn_string::{Bytes, Text, Twin};
+use sn_string::{Bytes, Text, TryClone};
 use std::alloc::Global;
 
 /// A request that was answered, and the host that it went to.
@@ -64,7 +64,7 @@ impl MemLink {
             return Err(AskError::Failed);
         }
         let answer = self.answers[number].as_slice().to_vec(alloc)?;
-        let host = self.host.twin(alloc)?;
+        let host = self.host.try_clone(alloc)?;
         let request = Bytes::of(alloc, request)?;
         self.asked.reserve(1)?;
         self.asked.push_reserved(Asked { host, request });

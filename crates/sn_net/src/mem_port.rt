@@ -1,7 +1,7 @@
 // A port in memory.
 ghost use Rattle.std.specs.Prelude.{◌≡◌, ◌≢◌, ◌↔◌, ◌<◌, ◌∷◌, ◌++◌, [], IfOk, OnOk, OnErr, IsTrue, IsErr};
 ghost use Rattle.std.specs.Vec.{vec_len, vec_capacity};
-ghost use Rattle.sn_io.specs.Causes.{HasCause};
+ghost use Rattle.sn_io.specs.Causes.{CountsFailure};
 ghost use Rattle.sn_io.specs.FaultPlan.{fresh, is_listed, began};
 
 use crate::Port;
@@ -92,7 +92,7 @@ impl Port for MemPort {
     fn bind(&mut self, number: u16) -> Result<(), Failed>
         ensures bound { OnOk result (number ≢ 0 → self.new.bound ≡ number) }
         ensures goes { Goes self.old self.new [] }
-        ensures cause { HasCause self.old.plan.faults self.new.plan.faults result }
+        ensures cause { CountsFailure self.old.plan.faults self.new.plan.faults result }
         ensures listed { IsErr result ↔ IsTrue (is_listed (port_plan self.old)) }
         ensures chosen { OnOk result (number ≡ 0 → self.new.bound ≡ self.old.free) }
         ensures free { self.new.free ≡ self.old.free }
@@ -112,7 +112,7 @@ impl Port for MemPort {
         ensures none { OnErr result (Goes self.old self.new []) }
         ensures out { OnOk result (vec_len self.new.ended < vec_capacity self.new.ended) }
         ensures bound { self.new.bound ≡ self.old.bound }
-        ensures cause { HasCause self.old.plan.faults self.new.plan.faults result }
+        ensures cause { CountsFailure self.old.plan.faults self.new.plan.faults result }
         // The next connection comes.
         ensures next { IfOk result (λ ends. (port_waiting self.old ≡ ends ∷ port_waiting self.new)) }
         ensures plan { OnOk result (port_plan self.new ≡ began (port_plan self.old)) }

@@ -1,6 +1,6 @@
 // Where connections come.
 ghost use Rattle.std.specs.Prelude.{◌≡◌, ◌≢◌, ◌≤◌, ◌∷◌, [], List, ℕ, IfOk, OnOk, OnErr};
-ghost use Rattle.sn_io.specs.Causes.{HasCause};
+ghost use Rattle.sn_io.specs.Causes.{CountsFailure};
 ghost use Rattle.sn_net.specs.Connections.{Ends, Event, accepted, ended, Going};
 
 use sn_io::{Failed, Sink, Source};
@@ -34,7 +34,7 @@ pub trait Port {
     fn bind(&mut self, number: u16) -> Result<(), Failed>
         ensures bound { OnOk result (number ≢ 0 → bound self.new ≡ number) }
         ensures goes { goes self.old self.new [] }
-        ensures cause { HasCause (fault_count self.old) (fault_count self.new) result };
+        ensures cause { CountsFailure (fault_count self.old) (fault_count self.new) result };
 
     /// The number of the port.
     fn number(&self) -> u16
@@ -46,7 +46,7 @@ pub trait Port {
         ensures none { OnErr result (goes self.old self.new []) }
         ensures out { OnOk result (may_end self.new) }
         ensures bound { bound self.new ≡ bound self.old }
-        ensures cause { HasCause (fault_count self.old) (fault_count self.new) result };
+        ensures cause { CountsFailure (fault_count self.old) (fault_count self.new) result };
 
     /// Gives back the ends of a connection that was accepted, which closes it. Takes no memory.
     fn end(&mut self, source: Self::In, sink: Self::Out)

@@ -6,7 +6,7 @@ use Rattle.sn_client.proofs.Leading.{IsOfItems, Leads, lead_all}
 use Rattle.sn_client.specs.Changing.{RekeysAll}
 use Rattle.sn_client.specs.Sending.{Numbered, PostsAll, PutsColumns}
 use Rattle.sn_client.specs.States.{Bytes, Columns, columns}
-use Rattle.sn_client.specs.Steps.{Adopts, Applies, AppliesAnswer, AppliesTo, Asks, Begins, Deletes, DropsAsked, Edits, Forgets, IsUnknown, PutsNew, Renews, Retires, Step, What, adopts, applies, asks, begins, deletes, drafted, edits, forgets, posts, puts, renews, start}
+use Rattle.sn_client.specs.Steps.{Adopts, Applies, AppliesAnswer, AppliesTo, Asks, BeginsDevice, Deletes, DropsAsked, Edits, Forgets, IsUnknown, PutsNew, Renews, Retires, Step, What, adopts, applies, asks, begins, deletes, drafted, edits, forgets, posts, puts, renews, start}
 use Rattle.sn_client.specs.Taking.{told_by}
 use Rattle.sn_rows.specs.Table.{Removes, Rows}
 use Rattle.sn_rows.specs.declared.body.RowBody.TheVariants as row
@@ -28,7 +28,7 @@ use Rattle.sn_order.proofs.Tests.{Passes, passes_gone, passes_items, passes_kind
 
 -- ---- the first rows, and a session token
 
-begins_kind : (set : KeySet) (account token : Bytes) (changes : List Change) → Begins set account token changes → kind_of changes ≡ kind.Joins
+begins_kind : (set : KeySet) (account token : Bytes) (changes : List Change) → BeginsDevice set account token changes → kind_of changes ≡ kind.Joins
 begins_kind set account token changes x =
     ap kind_of x.changes_are ∙ passes_kind (x.owner ∷ x.present ∷ []) false true false true
     (passes_put x.owner key.Owner (value.Owner x.owner_is.owner) (x.present ∷ []) false true false false x.owner_is.puts_it

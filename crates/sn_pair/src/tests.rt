@@ -16,7 +16,7 @@ use crate::ServerLink;
 use sn_disk::MemDisk;
 use sn_journal::Owner;
 use sn_rows::{Key, RowKind, Value};
-use sn_string::Many;
+use sn_string::OwnedList;
 use std::alloc::Global;
 use std::collections::BTreeMap;
 use std::test::Fail;
@@ -57,7 +57,7 @@ fn stamps_text(alloc: Global, found: &BTreeMap<u64, bool>) -> Result<String, Fai
     Ok(text)
 }
 
-fn items_of(alloc: Global, link: ServerLink) -> Result<Many<(Key, Value)>, Fail> {
+fn items_of(alloc: Global, link: ServerLink) -> Result<OwnedList<(Key, Value)>, Fail> {
     let disk = link.into_disk().ok_or("no disk")?;
     match sn_table::load(alloc, disk, Owner::Server) {
         Ok(table) => Ok(table.range(RowKind::Item)?),

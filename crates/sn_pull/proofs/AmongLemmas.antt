@@ -115,7 +115,7 @@ module _ (first : Rows) (n : ℕ) (before : OwnerRow) (laws : Laws first before)
   abbrev behind_anew : (server : Rows) (at : Standing) → Among server at.rows → at.words ≡ words → Behind server first n before words (anew at)
   behind_anew server at a same = record { stands = a.stands; words_are = same; last = tt }
 
-  record Went (server : Rows) (at : Standing) (after : Standing) (whole acts : List Act) (count : ℕ) (end : Rows) : Type 0 where
+  record RoundsTo (server : Rows) (at : Standing) (after : Standing) (whole acts : List Act) (count : ℕ) (end : Rows) : Type 0 where
     now : Rows
     met : Met now after
     served : AreServedAmong before.token n now acts end
@@ -124,7 +124,7 @@ module _ (first : Rows) (n : ℕ) (before : OwnerRow) (laws : Laws first before)
 
   round_went : (server : Rows) (at : Standing) (round : Round) (after : Standing) (acts : List Act) (end : Rows) → Among server at.rows → at.words ≡ words
       → IsRound at round after → AreServedAmong before.token n server (acts_of round ++ acts) end
-      → Went server at after (acts_of round ++ acts) acts 1 end
+      → RoundsTo server at after (acts_of round ++ acts) acts 1 end
   round_went server at round after acts end a same is served =
       let tail : List Act = asked round.request (said round.given) ∷ commits (applies round.request round.given) round.applied ∷ acts in
       let numbers = asks_page at.rows a.stands.owner round.numbers round.posted round.request is.ready
@@ -138,7 +138,7 @@ module _ (first : Rows) (n : ℕ) (before : OwnerRow) (laws : Laws first before)
       met_went : (server : Rows) (at : Standing) (round : Round) (after : Standing) (acts : List Act) (end : Rows) → at.words ≡ words → IsRound at round after
           → acts_of round ++ acts ≡ asked round.request (said round.given) ∷ commits (applies round.request round.given) round.applied ∷ acts
           → (met between : Rows) → Among met at.rows → IsSession met before.token n → IsServed met round.request (said round.given) between
-          → AreServedAmong before.token n between acts end → Went server at after (acts_of round ++ acts) acts 1 end
+          → AreServedAmong before.token n between acts end → RoundsTo server at after (acts_of round ++ acts) acts 1 end
       met_went server at round after acts end same is plain met between a session served later =
           let st = a.stands in
           let k = known_by met a.sound session in
@@ -170,7 +170,7 @@ module _ (first : Rows) (n : ℕ) (before : OwnerRow) (laws : Laws first before)
 
   rounds_went : (server : Rows) (at : Standing) (rounds : List Round) (after : Standing) (acts : List Act) (end : Rows) → Met server at
       → AreRounds at rounds after → AreServedAmong before.token n server (flat_map acts_of rounds ++ acts) end
-      → Went server at after (flat_map acts_of rounds ++ acts) acts (length rounds) end
+      → RoundsTo server at after (flat_map acts_of rounds ++ acts) acts (length rounds) end
   rounds_went server at [] after acts end m e served = record {
     now = server;
     met = subst (λ (s : Standing). Met server s) (sym e) m;

@@ -97,7 +97,7 @@ module _ (server first : Rows) (n : ℕ) (before : OwnerRow) (k : Known server f
 
   -- ---- one exchange
 
-  pub record Went (at : Standing) (round : Round) (after : Standing) (acts : List Act) (end : Rows) : Type 0 where
+  pub record OneRound (at : Standing) (round : Round) (after : Standing) (acts : List Act) (end : Rows) : Type 0 where
     pub goes : Goes after
     pub served : AreServed server acts end
     pub plain : acts_of round ++ acts ≡ asked round.request (said round.given) ∷ commits (applies round.request round.given) round.applied ∷ acts
@@ -137,7 +137,7 @@ module _ (server first : Rows) (n : ℕ) (before : OwnerRow) (k : Known server f
       }
 
   pub round_went : (at : Standing) (round : Round) (after : Standing) (acts : List Act) (end : Rows) → Goes at → IsRound at round after
-      → AreServed server (acts_of round ++ acts) end → Went at round after acts end
+      → AreServed server (acts_of round ++ acts) end → OneRound at round after acts end
   round_went at round after acts end goes is served =
       let st = goes.stands in
       let ask : AsksPage at.rows st.owner round.numbers round.posted round.request is.ready =

@@ -15,7 +15,7 @@ use Rattle.sn_conflict.specs.Checks.{most_retrieved}
 use Rattle.sn_pull.specs.Laws.{MayPullAgain, PullGoesOn}
 use Rattle.sn_pull.specs.Pulls.{MayPull}
 use Rattle.sn_pull.specs.Serving.{AreServed}
-use Rattle.sn_pull.proofs.EndLemmas.{AllWent, Behind, Came, Goes, Went, all_went, behind_first, came_it, exchanges_of, known, own_row, page_went, round_went, stands_first}
+use Rattle.sn_pull.proofs.EndLemmas.{AllWent, Behind, Came, Goes, OneRound, all_went, behind_first, came_it, exchanges_of, known, own_row, page_went, round_went, stands_first}
 use Rattle.sn_pull.proofs.MayLemmas.{may_again}
 use Rattle.sn_pull.proofs.RoundLemmas.{AsksPage, Known, Stands, asks_page, none_waits, served_page}
 use Rattle.sn_rows.specs.Table.{Rows, rows_after}
@@ -73,7 +73,7 @@ module _ (server first : Rows) (n : ℕ) (before : OwnerRow) (k : Known server f
   all_fronts at (round ∷ rounds) after acts front later end goes (between, is, others) served still split =
       let parts : flat_map acts_of (round ∷ rounds) ++ acts ≡ acts_of round ++ (flat_map acts_of rounds ++ acts) =
       ap (λ (xs : List Act). xs ++ acts) (flat_map-cons acts_of round rounds) ∙ append_assoc (acts_of round) (flat_map acts_of rounds) acts in
-      let one : Went server first n before k words at round between (flat_map acts_of rounds ++ acts) end =
+      let one : OneRound server first n before k words at round between (flat_map acts_of rounds ++ acts) end =
       round_went server first n before k words at round between (flat_map acts_of rounds ++ acts) end goes is
       (subst (λ (xs : List Act). AreServed server xs end) parts served) in
       round_front at.rows between.rows round.request (said round.given) (applies round.request round.given) round.applied (flat_map acts_of rounds ++ acts) front

@@ -4,7 +4,7 @@ use Rattle.std.specs.Prelude.{IsSome}
 use Rattle.sn_account.specs.Sessions.{IsSession}
 use Rattle.sn_client.specs.Sending.{NoneWaits}
 use Rattle.sn_client.specs.States.{Bytes, HasLocal, HasSets, IsFresh, IsInSlot, IsSetOf, OwnerColumns, owner_columns}
-use Rattle.sn_client.specs.Steps.{Begins, first_owner}
+use Rattle.sn_client.specs.Steps.{BeginsDevice, first_owner}
 use Rattle.sn_pull.specs.Laws.{BegunMayPull, MayPullAgain}
 use Rattle.sn_pull.specs.Pulls.{IsTokenGiven, MayPull}
 use Rattle.sn_pull.proofs.CheckLemmas.{no_token}
@@ -76,7 +76,7 @@ may_again server first n before sets rows may st = (
 -- ---- a device that has begun may pull
 
 module _ (server rows : Rows) (n : ℕ) (set : KeySet) (account token : Bytes) (changes : List Change) (fresh : IsFresh rows)
-    (b : Begins set account token changes) (fits : length account ≡ 16) (session : IsSession server token n) where
+    (b : BeginsDevice set account token changes) (fits : length account ≡ 16) (session : IsSession server token n) where
   abbrev own_row : OwnerRow
   own_row = b.owner_is.owner
 

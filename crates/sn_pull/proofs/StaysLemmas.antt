@@ -3,7 +3,7 @@ use Rattle.std.proofs.Common.{◌≡◌, ◌⊎◌, ◌<◌, ◌≤◌, ℕ, suc
 use Rattle.sn_account.specs.Incoming.{IsNews, Progress, PutsVersion, Takes, TakesAll, stamp_of}
 use Rattle.sn_account.specs.Lookups.{HasItem as HasStored, HasStore}
 use Rattle.sn_account.specs.Rule.{Rule, RuleOf}
-use Rattle.sn_account.specs.Rules.{Begins, ChangesKeys, ChangesPassword, Registers, Replaces}
+use Rattle.sn_account.specs.Rules.{BeginsAccount, ChangesKeys, ChangesPassword, Registers, Replaces}
 use Rattle.sn_account.specs.Sound.{IsSound as IsSoundServer}
 use Rattle.sn_account.specs.Syncs.{AreChanges, Synced, Syncs, start}
 use Rattle.sn_client.specs.States.{Bytes}
@@ -151,7 +151,7 @@ module _ (server : Rows) (store : StoreRow) (has : HasStore server store) where
     rises = λ st stands. (let same = ap (λ (s : StoreRow). s.last) (one_store server store st has stands) in omega arith);
   })
 
-  begins_leave : (params : Params) (pw : Bytes) (changes : List Change) (given : Answer) → Begins store params pw changes given → Left changes
+  begins_leave : (params : Params) (pw : Bytes) (changes : List Change) (given : Answer) → BeginsAccount store params pw changes given → Left changes
   begins_leave params pw changes given b =
       let first : Rows = rows_after server (b.account ∷ []) in
       let second : Rows = rows_after first (b.generation ∷ []) in

@@ -18,7 +18,7 @@ use Rattle.sn_sync.specs.Laws.{HasOneStamp}
 use Rattle.sn_world.proofs.CallLemmas.{Stands}
 use Rattle.sn_world.proofs.Reaching.{requests_of}
 use Rattle.sn_world.proofs.RoundLemmas.{RoundLaws}
-use Rattle.sn_world.specs.Answering.{Arrives, Behind, requests_in}
+use Rattle.sn_world.specs.Answering.{Arrives, AfterRounds, requests_in}
 use Rattle.sn_world.specs.Calls.{AreServed, Fate}
 use Rattle.sn_world.specs.Fitting.{FitsUuids}
 use Rattle.sn_world.specs.Holds.{TokensDiffer}
@@ -46,7 +46,7 @@ module _ (laws : RoundLaws) (keeps : Keeps) (says : SaysSome) (rise : VersionsRi
   Ends halt = StopsRow p.made server p.rows p.words acts fates halt ⊎ Fails halt
 
   module _ (halt : Halt) (x : Exchanges p acts (is_over halt)) where
-    abbrev b : Behind p.rows p.words acts
+    abbrev b : AfterRounds p.rows p.words acts
     b = record { rounds = x.rounds; at = x.at; went = x.went; later = x.later; acts_are = x.acts_are }
 
     reached : Reaches laws keeps says secret differ name server b.at b.later fates

@@ -38,7 +38,7 @@ use Rattle.sn_ready.proofs.Heard.{heard_fits, heard_passes, heard_short, honest}
 use Rattle.sn_world.proofs.Reaching.{over_posting}
 use Rattle.sn_ready.proofs.Reaching.{Reaches, Ready, ready_at, sound_at}
 use Rattle.sn_world.proofs.RoundLemmas.{RoundLaws, sent_of}
-use Rattle.sn_world.specs.Answering.{Arrives, Behind, RanOut, StampsUsed}
+use Rattle.sn_world.specs.Answering.{Arrives, AfterRounds, RanOut, StampsUsed}
 use Rattle.sn_world.specs.Calls.{AreServed, Fate, crashed, rows_served, served, undelivered}
 use Rattle.sn_world.specs.Committing.{AreDifferent}
 use Rattle.sn_world.specs.Fitting.{FitsUuids}
@@ -113,7 +113,7 @@ module _ (laws : RoundLaws) (keeps : Keeps) (says : SaysSome) (rise : VersionsRi
   stops what changes halt fits (inr (inl (large, is))) = absurd (large fits)
   stops what changes halt fits (inr (inr is)) = wants halt is
 
-  module _ (b : Behind rows words acts) (x : Reaches laws keeps says secret differ name first b.at b.later fates) where
+  module _ (b : AfterRounds rows words acts) (x : Reaches laws keeps says secret differ name first b.at b.later fates) where
     abbrev server : Rows
     server = rows_served first x.met
 

@@ -19,7 +19,7 @@ use Rattle.sn_world.proofs.Reaching.{requests_of}
 use Rattle.sn_ready.proofs.Stopping.{unapplied_ends, wants}
 use Rattle.sn_ready.proofs.Reaching.{Reaches, rounds_reach}
 use Rattle.sn_world.proofs.RoundLemmas.{RoundLaws}
-use Rattle.sn_world.specs.Answering.{Arrives, Behind, SyncEnds, requests_in}
+use Rattle.sn_world.specs.Answering.{Arrives, AfterRounds, SyncEnds, requests_in}
 use Rattle.sn_world.specs.Calls.{AreServed, Fate}
 use Rattle.sn_world.specs.Delivered.{CallsFit, FirstFits, TracesFit}
 use Rattle.sn_world.specs.Fitting.{FitsUuids}
@@ -34,7 +34,7 @@ module _ (laws : RoundLaws) (keeps : Keeps) (says : SaysSome) (rise : VersionsRi
   abbrev Ends : Halt → Type 0
   Ends halt = SyncEnds first rows words acts fates halt
 
-  module _ (b : Behind rows words acts) (x : Reaches laws keeps says secret differ name first b.at b.later fates) where
+  module _ (b : AfterRounds rows words acts) (x : Reaches laws keeps says secret differ name first b.at b.later fates) where
     all_requests : length b.rounds ≡ most_exchanges → b.later ≡ [] → requests_in acts ≡ most_exchanges
     all_requests count none =
         let whole = ap requests_in b.acts_are ∙ requests_of b.rounds b.later in
@@ -67,7 +67,7 @@ served_answers laws keeps says rise one_stamp secret w s name owner least words 
     let e : ExchangesAlone (w.devices name) words acts halt =
     synced_alone (w.devices name) words one sets acts halt (unasked (w.devices name) one sets ready.unasked holds) syncs in
     let start : Standing = record { rows = w.devices name; words = words; last = None } in
-    let b : Behind (w.devices name) words acts = record { rounds = e.rounds; at = e.at; went = e.went; later = e.later; acts_are = e.acts_are } in
+    let b : AfterRounds (w.devices name) words acts = record { rounds = e.rounds; at = e.at; went = e.went; later = e.later; acts_are = e.acts_are } in
     let x = rounds_reach laws keeps says secret differ name e.rounds start e.at e.later w s w.server fates
     (record { holds = h; server_is = refl; device_is = refl }) ready.last have e.went
     (subst (λ (xs : List Act). AreServed w.server xs fates) e.acts_are over) arrive in

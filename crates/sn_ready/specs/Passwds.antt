@@ -32,7 +32,7 @@ use Rattle.sn_sync.specs.declared.answer.Answer.{Answer}
 use Rattle.sn_sync.specs.declared.answer.Answer.TheVariants as answer
 use Rattle.sn_sync.specs.declared.answer.More.{More}
 use Rattle.sn_sync.specs.declared.answer.More.TheVariants as more
-use Rattle.sn_world.specs.Answering.{Arrives, Behind, RanOut, StampsUsed, requests_in}
+use Rattle.sn_world.specs.Answering.{Arrives, AfterRounds, RanOut, StampsUsed, requests_in}
 use Rattle.sn_world.specs.Calls.{AreServed, Fate, rows_served, served}
 use Rattle.sn_world.specs.Delivered.{FitsDevices}
 use Rattle.sn_world.specs.Holds.{Holds, TokensDiffer}
@@ -42,7 +42,7 @@ use Rattle.sn_world.specs.World.{World}
 
 -- behind so many requests of the call: as many were made as a call may make, and one more is due
 pub record UsesAll (made : ℕ) (rows : Rows) (words : ChaCha) (acts : List Act) (halt : Halt) : Type 0 where
-  pub behind : Behind rows words acts
+  pub behind : AfterRounds rows words acts
   pub no_more : behind.later ≡ []
   pub all : made + requests_in acts ≡ most_exchanges
   pub due : IsDue behind.at.rows behind.at.last
@@ -55,7 +55,7 @@ StopsRow made server rows words acts fates halt =
 
 -- it is: nothing is left to be sent, and no page behind the last one
 pub record RowDone (rows : Rows) (words : ChaCha) (acts : List Act) : Type 0 where
-  pub behind : Behind rows words acts
+  pub behind : AfterRounds rows words acts
   pub done : IsDone behind.at.rows behind.at.last
 
 -- ---- the change

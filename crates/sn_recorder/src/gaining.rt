@@ -14,7 +14,7 @@ use sn_link::{Held, ServingLink};
 use sn_marks::server_stands;
 use sn_net::AskError;
 use sn_server::Server;
-use sn_string::Many;
+use sn_string::OwnedList;
 use sn_tail::{Tail, tail_of};
 use std::alloc::{AllocError, Global};
 
@@ -43,18 +43,18 @@ fn gained_by(alloc: Global, server: &Server<MemDisk>, place: u64) -> Option<Tail
 }
 
 /// A copy of these bytes.
-pub(crate) fn copy_of(alloc: Global, bytes: &[u8]) -> Result<Many<u8>, AllocError>
+pub(crate) fn copy_of(alloc: Global, bytes: &[u8]) -> Result<OwnedList<u8>, AllocError>
     ensures { IfOk result (λ copy. copy ≡ bytes.now) }
 {
     let copy = bytes.to_vec(alloc)?;
-    Ok(Many::of_vec(copy))
+    Ok(OwnedList::of_vec(copy))
 }
 
 /// A copy of the answer that came, where one came.
 pub(crate) fn answer_copy(
     alloc: Global,
     heard: &Result<Vec<u8>, AskError>,
-) -> Result<Option<Many<u8>>, AllocError>
+) -> Result<Option<OwnedList<u8>>, AllocError>
     ensures { IfOk result (λ copy. copy ≡ answer_of heard.now) }
 {
     match heard {

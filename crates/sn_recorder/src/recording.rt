@@ -8,7 +8,7 @@ use crate::exchanged::Exchanged;
 use crate::gaining::{answer_copy, copy_of, gained};
 use sn_link::ServingLink;
 use sn_net::{AskError, Link};
-use sn_string::Many;
+use sn_string::OwnedList;
 use std::alloc::Global;
 
 /// A link to a server in memory, and the records of its exchanges.
@@ -17,7 +17,7 @@ pub struct RecordingLink {
     link: ServingLink,
     // Of the gate behind the server's batches.
     place: u64,
-    exchanged: Many<Exchanged>,
+    exchanged: OwnedList<Exchanged>,
     // Whether memory sufficed for each record.
     whole: bool,
 }
@@ -27,7 +27,7 @@ pub struct RecordingLink {
 pub struct Recorded {
     pub link: ServingLink,
     pub place: u64,
-    pub exchanged: Many<Exchanged>,
+    pub exchanged: OwnedList<Exchanged>,
 }
 
 impl RecordingLink {
@@ -46,7 +46,7 @@ impl RecordingLink {
         RecordingLink {
             link,
             place,
-            exchanged: Many::new(alloc),
+            exchanged: OwnedList::new(alloc),
             whole: true,
         }
     }
@@ -106,7 +106,7 @@ impl RecordingLink {
             Some(tail) => {
                 self.place = tail.gate;
                 Ok(Delivered {
-                    answer: Many::of_vec(answer),
+                    answer: OwnedList::of_vec(answer),
                     batches: tail.batches,
                 })
             }

@@ -3,7 +3,7 @@ use Rattle.std.proofs.Common.{◌≡◌, sym, refl, subst, inl, inr, Bool, true,
 use Rattle.rand_chacha.specs.ChaCha.{ChaCha}
 use Rattle.sn_items.specs.declared.sealed.Sealed.{Sealed}
 use Rattle.sn_rekey.specs.Laws.{ClosedStays, OpenOrNot, VersionStays}
-use Rattle.sn_rekey.specs.Rekeying.{HasNoneOpen, HasOpen, HasStrings, IsClosed, IsOpen, IsRewrapped, Rekeys, RewrapsPlace, SealsAgain, with_strings}
+use Rattle.sn_rekey.specs.Rekeying.{HasNoneOpen, HasOpen, HasStrings, IsClosed, OpensUnderHeld, IsRewrapped, Rekeys, RewrapsPlace, SealsAgain, with_strings}
 use Rattle.sn_rekey.specs.Rewraps.{Bytes, RewrapsHeld}
 use Rattle.sn_rows.specs.declared.body.RowBody.{RowBody}
 use Rattle.sn_rows.specs.declared.body.RowBody.TheVariants as row
@@ -32,9 +32,9 @@ opens_of sets set words uuid given again left (inl present) = (present.text, inl
 opens_of sets set words uuid given again left (inr older) = (older.text, inr older.opens)
 
 is_open : (sets : Sets) (set : KeySet) (words : ChaCha) (uuid : Bytes) (before after : Option RowBody) (left : ChaCha)
-    → SealsAgain sets set words uuid before after left → IsOpen sets uuid before
+    → SealsAgain sets set words uuid before after left → OpensUnderHeld sets uuid before
 is_open sets set words uuid before after left made =
-    subst (λ (p : Option RowBody). IsOpen sets uuid p) (sym made.given_is)
+    subst (λ (p : Option RowBody). OpensUnderHeld sets uuid p) (sym made.given_is)
     (opens_of sets set words uuid (sealed_of made.given) (sealed_of made.again) left made.rewraps)
 
 -- ---- the row
@@ -94,7 +94,7 @@ closed_stays sets set words local closed =
       stale_is = refl;
     }
 
-not_both : (sets : Sets) (uuid : Bytes) (place : Option RowBody) → IsOpen sets uuid place → ¬ (IsClosed sets uuid place)
+not_both : (sets : Sets) (uuid : Bytes) (place : Option RowBody) → OpensUnderHeld sets uuid place → ¬ (IsClosed sets uuid place)
 not_both sets uuid None found closed = absurd found
 not_both sets uuid (Some row.Deleted) found closed = absurd found
 not_both sets uuid (Some (row.Sealed strings)) found closed = closed found.0 found.1

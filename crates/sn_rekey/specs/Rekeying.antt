@@ -13,10 +13,10 @@ use Rattle.sn_string.specs.declared.params.KeySet.{KeySet}
 -- ---- one version
 
 -- a version that opens under a set that is held
-abbrev pub IsOpen : Sets → Bytes → Option RowBody → Type 0
-IsOpen sets uuid None = ⊥
-IsOpen sets uuid (Some row.Deleted) = ⊥
-IsOpen sets uuid (Some (row.Sealed strings)) = (text : Bytes) × OpensHeld sets uuid (sealed_of strings) text
+abbrev pub OpensUnderHeld : Sets → Bytes → Option RowBody → Type 0
+OpensUnderHeld sets uuid None = ⊥
+OpensUnderHeld sets uuid (Some row.Deleted) = ⊥
+OpensUnderHeld sets uuid (Some (row.Sealed strings)) = (text : Bytes) × OpensHeld sets uuid (sealed_of strings) text
 
 -- none there, a deletion, or one that opens under no set that is held
 abbrev pub IsClosed : Sets → Bytes → Option RowBody → Type 0
@@ -52,7 +52,7 @@ IsRewrapped sets set words uuid before after left =
 
 -- a version of the item opens under a set that is held
 abbrev pub HasOpen : Sets → LocalItem → Type 0
-HasOpen sets local = IsOpen sets local.uuid local.body ⊎ IsOpen sets local.uuid local.latest ⊎ IsOpen sets local.uuid local.posted
+HasOpen sets local = OpensUnderHeld sets local.uuid local.body ⊎ OpensUnderHeld sets local.uuid local.latest ⊎ OpensUnderHeld sets local.uuid local.posted
 
 -- none does
 pub record HasNoneOpen (sets : Sets) (local : LocalItem) : Type 0 where

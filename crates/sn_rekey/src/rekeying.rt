@@ -8,7 +8,7 @@ use crate::rewrapping::rewrap_held;
 use sn_items::Words;
 use sn_rows::{LocalItem, RowBody, RowStrings};
 use sn_sets::Sets;
-use sn_string::{KeySet, Twin};
+use sn_string::{KeySet, TryClone};
 use std::alloc::{AllocError, Global};
 use uuid::Uuid;
 
@@ -72,7 +72,7 @@ fn item_with(
     ensures { IfOk result (λ after. HasStrings local.now body latest posted after) }
 {
     let stale = body.is_some() || local.stale;
-    let kind = local.kind.twin(alloc)?;
+    let kind = local.kind.try_clone(alloc)?;
     let body = place_with(alloc, body, &local.body)?;
     let latest = place_with(alloc, latest, &local.latest)?;
     let posted = place_with(alloc, posted, &local.posted)?;
@@ -96,6 +96,6 @@ fn place_with(
 {
     match strings {
         Some(strings) => Ok(Some(RowBody::Sealed(strings))),
-        None => before.twin(alloc),
+        None => before.try_clone(alloc),
     }
 }

@@ -33,7 +33,7 @@ use Rattle.sn_world.specs.Sessions.{opens}
 use Rattle.sn_world.specs.World.{Made, World, at_first}
 use Rattle.sn_replay.specs.Keeping.{IsKeptOf, requests_of}
 use Rattle.sn_replay.specs.Mirrored.{mirrored}
-use Rattle.sn_replay.specs.Playing.{Begins, BeginsAt, IsAt}
+use Rattle.sn_replay.specs.Playing.{BeginsReplay, BeginsAt, IsAt}
 use Rattle.sn_replay.specs.declared.kept.Kept.{Kept}
 use Rattle.sn_replay.specs.declared.replaying.Replaying.{Replaying}
 use Rattle.sn_replay.specs.declared.replaying.Seen.{Seen}
@@ -88,7 +88,7 @@ module _ (first : HoldsFirst) (fitting : AllFitFirst) (fit : EachFits) (stay : S
         (subst (λ (r : Rows). SlotReads unknown DeviceOwner 0 r) (sym (device_none name)) nothing_read);
   }
 
-  pub begins_with : Begins words replaying
+  pub begins_with : BeginsReplay words replaying
   begins_with = record {
     secret = x.secret;
     left = left;

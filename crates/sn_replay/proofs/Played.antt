@@ -3,7 +3,7 @@ use Rattle.std.proofs.Common.{◌≡◌, ◌≢◌, ℕ, suc, ◌+◌, ◌<◌, 
 use Rattle.std.proofs.lemmas.List.{append-nil, length-take-le, take_all, take_more, take-append-drop}
 use Rattle.rand_chacha.specs.ChaCha.{ChaCha}
 use Rattle.sn_course.specs.Stages.{Stage, Reported, past, reported, reporting, start}
-use Rattle.sn_course.specs.Headline.{Carried, Carries, Goes, IsNotAllowed, MayStand, MovesCarry, OpensWith, PasswordsApart, Recounts, Recovers, SecretOf, Slots, moves_in}
+use Rattle.sn_course.specs.Headline.{Carried, CarriesHeadline, Goes, IsNotAllowed, MayStand, MovesCarry, OpensWith, PasswordsApart, Recounts, Recovers, SecretOf, Slots, moves_in}
 use Rattle.sn_course.specs.Laws.{CarriedOfMoves, MovesMore, RecountsGo, RecountsGrow, RecountsMore, ReportingMore, settings_behind}
 use Rattle.sn_course.specs.Settings.{AreFirst, settings_after, words_of}
 use Rattle.sn_course.specs.declared.settings.Settings.{Settings}
@@ -20,7 +20,7 @@ use Rattle.sn_shown.specs.Shown.{AreHeld}
 use Rattle.sn_world.specs.Holds.{TokensDiffer}
 use Rattle.sn_world.specs.World.{World, at_first}
 use Rattle.sn_replay.specs.Lines.{IsBounded, IsRefusalAt, IsReplayRefusal, reports}
-use Rattle.sn_replay.specs.Playing.{AreSlotsOf, Begins, HasPlayed, HasPlayedAll, IsAt, IsPlayed, IsRefusalBehind, IsRefusedBehind, ReplayingOr, PlaysAs, Tells, behind, ends_slots}
+use Rattle.sn_replay.specs.Playing.{AreSlotsOf, BeginsReplay, HasPlayed, HasPlayedAll, IsAt, IsPlayed, IsRefusalBehind, IsRefusedBehind, ReplayingOr, PlaysAs, Tells, behind, ends_slots}
 use Rattle.sn_replay.specs.declared.error.ReplayError.{ReplayError}
 use Rattle.sn_replay.specs.declared.error.ReplayError.TheVariants as refusal
 use Rattle.sn_replay.specs.declared.replaying.Replaying.{Replaying}
@@ -117,7 +117,7 @@ record IsBefore (script : Script) (rs : List Reported) (r : Reported) (k : Repla
   secret_is : SecretOf (rs ++ r ∷ []) secret
   stands : TokensDiffer secret → PasswordsApart script → StandsBefore script secret rs r k events
 
-before_first : (script : Script) (r : Reported) (k : Replaying) → Begins (words_of r.settings r.number) k → IsBefore script [] r k []
+before_first : (script : Script) (r : Reported) (k : Replaying) → BeginsReplay (words_of r.settings r.number) k → IsBefore script [] r k []
 before_first script r k b = record {
   secret = b.secret;
   secret_is = (b.left, b.drew);
@@ -343,7 +343,7 @@ refused_all script first lines index l (refusal.NotAllowed number) is lines_are 
 -- ---- what it comes to
 
 carries_none : CarriedOfMoves → (script : Script) (first : Settings) (slots : Slots) (events : List Event) → AreFirst first → reporting 1 first script.lines ≡ []
-    → events ≡ [] → Carries script slots (record { events = events })
+    → events ≡ [] → CarriesHeadline script slots (record { events = events })
 carries_none carry script first slots events is none no_events = record {
   first = first;
   first_is = is;
@@ -366,7 +366,7 @@ carries_none carry script first slots events is none no_events = record {
 carries_some : CarriedOfMoves → (script : Script) (first : Settings) (slots : Slots) (secret : Bytes) (k : Replaying) (events : List Event) → AreFirst first
     → SecretOf (reporting 1 first script.lines) secret → slots ≡ ends_slots k.ends
     → (TokensDiffer secret → PasswordsApart script → HasPlayed script secret (reporting 1 first script.lines) k events)
-    → Carries script slots (record { events = events })
+    → CarriesHeadline script slots (record { events = events })
 carries_some carry script first slots secret k events is secret_is same played = record {
   first = first;
   first_is = is;
@@ -390,11 +390,11 @@ carries_some carry script first slots secret k events is secret_is same played =
 }
 
 carries_by : CarriedOfMoves → (script : Script) (first : Settings) (secret : Bytes) (slots : Slots) (found : Option Replaying) (events : List Event) → AreFirst first
-    → PlaysAs script secret (reporting 1 first script.lines) found events → AreSlotsOf found slots → Carries script slots (record { events = events })
+    → PlaysAs script secret (reporting 1 first script.lines) found events → AreSlotsOf found slots → CarriesHeadline script slots (record { events = events })
 carries_by carry script first secret slots None events is (none, no_events, no_secret) of = carries_none carry script first slots events is none no_events
 carries_by carry script first secret slots (Some k) events is (some, secret_is, played) same =
     carries_some carry script first slots secret k events is secret_is same played
 
 pub carries_all : CarriedOfMoves → (script : Script) (slots : Slots) (state : State) → HasPlayedAll script state → AreSlotsOf state.replaying slots
-    → Carries script slots (record { events = state.events })
+    → CarriesHeadline script slots (record { events = state.events })
 carries_all carry script slots state all of = carries_by carry script all.0 all.2.secret slots state.replaying state.events all.1 all.2.plays of

@@ -110,7 +110,7 @@ pub record BeginsAt (script : Script) (secret : Bytes) (words : ChaCha) (replayi
   pub opens : Opens secret words opened
   pub at : IsAt script secret replaying (start opened)
 
-pub record Begins (words : ChaCha) (replaying : Replaying) : Type 0 where
+pub record BeginsReplay (words : ChaCha) (replaying : Replaying) : Type 0 where
   pub secret : Bytes
   pub left : ChaCha
   pub drew : (secret, left) ≡ drawn 32 words
@@ -118,7 +118,7 @@ pub record Begins (words : ChaCha) (replaying : Replaying) : Type 0 where
 
 -- the replay that goes on, or what it begins with
 abbrev pub ReplayingOr : Option Replaying → Moment → Replaying → Type 0
-ReplayingOr None at replaying = Begins (words_of at.settings at.number) replaying
+ReplayingOr None at replaying = BeginsReplay (words_of at.settings at.number) replaying
 ReplayingOr (Some before) at replaying = replaying ≡ before
 
 -- ---- behind some lines

@@ -23,7 +23,7 @@ use sn_events::Setting;
 use sn_passwd::{every_sync_ends, passwds_end};
 use sn_readable::runs_readable;
 use sn_script::{Fate, Ordinal};
-use sn_string::{Text, Twin};
+use sn_string::{Text, TryClone};
 use sn_telling::Calling;
 use std::alloc::{AllocError, Global};
 
@@ -78,7 +78,7 @@ pub(crate) fn sign_in_line(
     runs_readable();
     let Replaying { ends, seen } = replaying;
     let calling = Calling::SignIn {
-        identifier: identifier.twin(alloc)?,
+        identifier: identifier.try_clone(alloc)?,
     };
     let mut words = line_words(at);
     let outcome = ends.sign_in(
@@ -106,7 +106,7 @@ pub(crate) fn put_line(
     let Replaying { ends, seen } = replaying;
     let calling = Calling::Put {
         kind: Text::fixed(KIND),
-        text: text.twin(alloc)?,
+        text: text.try_clone(alloc)?,
     };
     let mut words = line_words(at);
     let outcome = ends.put(
@@ -139,7 +139,7 @@ pub(crate) fn edit_line(
         return Err(ReplayError::NotAllowed { number: at.number });
     };
     let calling = Calling::Edit {
-        text: text.twin(alloc)?,
+        text: text.try_clone(alloc)?,
     };
     let mut words = line_words(at);
     let outcome = ends.edit(
@@ -257,7 +257,7 @@ fn registering(
 {
     let set = new_set(alloc, at, identifier, password)?;
     Ok(Calling::Register {
-        identifier: identifier.twin(alloc)?,
+        identifier: identifier.try_clone(alloc)?,
         set: Some(set),
     })
 }

@@ -16,7 +16,7 @@ use sn_events::{Ends, Outcome};
 use sn_recorder::Exchanged;
 use sn_report::Last;
 use sn_rows::Change;
-use sn_string::Many;
+use sn_string::OwnedList;
 use std::alloc::AllocError;
 
 /// The ends behind a call, how its event ends, the batches that its device's store gained, and its exchanges.
@@ -24,8 +24,8 @@ use std::alloc::AllocError;
 pub(crate) struct Came {
     pub(crate) ends: Ends,
     pub(crate) last: Last,
-    pub(crate) batches: Many<Many<Change>>,
-    pub(crate) exchanged: Many<Exchanged>,
+    pub(crate) batches: OwnedList<OwnedList<Change>>,
+    pub(crate) exchanged: OwnedList<Exchanged>,
 }
 
 /// What the ends gave, whatever the call gives.

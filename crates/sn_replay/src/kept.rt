@@ -5,14 +5,14 @@ ghost use Rattle.sn_replay.specs.Keeping.{kept_all};
 
 use sn_recorder::Exchanged;
 use sn_script::Ordinal;
-use sn_string::{KeySet, Many, Twin};
+use sn_string::{KeySet, OwnedList, TryClone};
 use std::alloc::{AllocError, Global};
 use std::collections::BTreeMap;
 
 /// A request that a device made: its bytes, and the set that it would begin.
 #[derive(Drop)]
 pub(crate) struct Kept {
-    pub(crate) request: Many<u8>,
+    pub(crate) request: OwnedList<u8>,
     pub(crate) begins: Option<KeySet>,
 }
 
@@ -20,7 +20,7 @@ pub(crate) struct Kept {
 #[derive(Drop)]
 pub(crate) struct Requests {
     alloc: Global,
-    made: BTreeMap<String, Many<Kept>>,
+    made: BTreeMap<String, OwnedList<Kept>>,
 }
 
 impl Requests {
@@ -41,8 +41,8 @@ impl Requests {
     pub(crate) fn add(
         &mut self,
         name: &str,
-        exchanged: Many<Exchanged>,
-        begun: Many<Option<KeySet>>,
+        exchanged: OwnedList<Exchanged>,
+        begun: OwnedList<Option<KeySet>>,
     ) -> Result<(), AllocError>
         ensures own { OnOk result (requests_of self.new name.now ≡ requests_of self.old name.now ++ kept_all exchanged begun) }
         ensures others { (other : List ℕ) → other ≢ name.now → requests_of self.new other ≡ requests_of self.old other }
@@ -69,18 +69,18 @@ impl Requests {
     }
 
     // Takes those of a device out.
-    fn take(&mut self, name: &str) -> Many<Kept>
+    fn take(&mut self, name: &str) -> OwnedList<Kept>
         ensures own { result ≡ requests_of self.old name.now }
         ensures others { (other : List ℕ) → other ≢ name.now → requests_of self.new other ≡ requests_of self.old other }
     {
         match self.made.remove(name) {
             Some(kept) => kept,
-            None => Many::new(self.alloc),
+            None => OwnedList::new(self.alloc),
         }
     }
 
     // Puts those of a device back.
-    fn put(&mut self, name: &str, kept: Many<Kept>) -> Result<(), AllocError>
+    fn put(&mut self, name: &str, kept: OwnedList<Kept>) -> Result<(), AllocError>
         ensures own { OnOk result (requests_of self.new name.now ≡ kept) }
         ensures others { (other : List ℕ) → other ≢ name.now → requests_of self.new other ≡ requests_of self.old other }
     {
@@ -95,8 +95,8 @@ impl Requests {
 // The requests of exchanges behind others, each with the set that it would begin.
 fn keep_all(
     alloc: Global,
-    kept: &mut Many<Kept>,
-    exchanged: Many<Exchanged>,
+    kept: &mut OwnedList<Kept>,
+    exchanged: OwnedList<Exchanged>,
     begun: &[Option<KeySet>],
 ) -> Result<(), AllocError>
     ensures { OnOk result (kept.new ≡ kept.old ++ kept_all exchanged begun.now) }
@@ -107,7 +107,7 @@ fn keep_all(
             return Ok(());
         };
         let Exchanged { request, .. } = exchange;
-        let begins = begins.twin(alloc)?;
+        let begins = begins.try_clone(alloc)?;
         kept.push(Kept { request, begins })?;
         place += 1;
     }

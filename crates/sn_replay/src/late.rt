@@ -27,7 +27,7 @@ use sn_report::{Event, Last};
 use sn_row_map::RowMap;
 use sn_rows::Change;
 use sn_script::Ordinal;
-use sn_string::{Many, Text};
+use sn_string::{OwnedList, Text};
 use sn_telling::{agains_tell, late_moves};
 use sn_world::{keeps, keeps_held};
 use std::alloc::{AllocError, Global};
@@ -89,7 +89,7 @@ pub(crate) fn late_line(
             number: at.number,
             puts: false,
             moves,
-            shown: Many::new(alloc),
+            shown: OwnedList::new(alloc),
             last: Last::Answer { status },
             server_mark,
             device_mark: None,
@@ -104,8 +104,8 @@ fn moves_of(
     devices: &mut Mirrors,
     device: &Text,
     kept: &Kept,
-    batches: &[Many<Change>],
-) -> Result<Many<Move>, AllocError>
+    batches: &[OwnedList<Change>],
+) -> Result<OwnedList<Move>, AllocError>
     ensures moves { IfOk result (λ moves. (found : Option Request) × IsReadAs kept.now.request found
         × SaysGained (row_in server.old) (mirrored devices.old device.now) device.now kept.now.begins found batches.now moves) }
     ensures server { OnOk result (row_in server.new ≡ rows_behind_all (row_in server.old) batches.now) }

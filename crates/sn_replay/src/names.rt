@@ -5,17 +5,21 @@ ghost use Rattle.std.specs.List.{list_any};
 ghost use Rattle.std.specs.Str.{bytes_eq};
 ghost use Rattle.sn_course.specs.Stages.{names_with};
 
-use sn_string::{Many, Text, Twin};
+use sn_string::{OwnedList, Text, TryClone};
 use std::alloc::{AllocError, Global};
 
 /// A device begins with its first line.
-pub(crate) fn add_name(alloc: Global, names: &mut Many<Text>, name: &Text) -> Result<(), AllocError>
+pub(crate) fn add_name(
+    alloc: Global,
+    names: &mut OwnedList<Text>,
+    name: &Text,
+) -> Result<(), AllocError>
     ensures { OnOk result (names.new ≡ names_with names.old (Some name.now)) }
 {
     if is_among(names.as_slice(), name) {
         return Ok(());
     }
-    let name = name.twin(alloc)?;
+    let name = name.try_clone(alloc)?;
     names.push(name)
 }
 

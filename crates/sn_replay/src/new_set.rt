@@ -8,7 +8,7 @@ ghost use Rattle.sn_string.specs.Bounds.{IsIdentifier};
 
 use crate::settings::{Moment, line_words};
 use sn_keys::derive;
-use sn_string::{KeySet, Params, Text, Twin, hex_text};
+use sn_string::{KeySet, Params, Text, TryClone, hex_text};
 use std::alloc::{AllocError, Global};
 
 /// The set that a registration of this line begins. Its device derives the same one from the line's words.
@@ -40,7 +40,7 @@ fn new_params(
     ensures { IfOk result (λ params. (params.identifier ≡ identifier.now) × (params.pw_cost ≡ cost) × (params.pw_nonce ≡ encode_lower nonce.now)) }
 {
     let nonce = Text::of_string(hex_text(alloc, nonce)?);
-    let identifier = identifier.twin(alloc)?;
+    let identifier = identifier.try_clone(alloc)?;
     let Some(params) = Params::new(identifier, cost, nonce) else {
         unreachable!();
     };

@@ -1,7 +1,7 @@
 //! The run over a script.
 
 ghost use Rattle.std.specs.Prelude.{◌≡◌, ◌≤◌, ◌+◌, ◌++◌, ◌∷◌, [], ℕ, List, All, IfErr, IfOk, IsErrOf, OnOk, length};
-ghost use Rattle.sn_course.specs.Headline.{Carries, shelf_slots};
+ghost use Rattle.sn_course.specs.Headline.{CarriesHeadline, shelf_slots};
 ghost use Rattle.sn_course.specs.declared.settings.Settings.{Settings};
 ghost use Rattle.sn_disk.specs.MemShelf.{shelf_slot};
 ghost use Rattle.sn_disk.specs.Shelf.{unknown};
@@ -24,7 +24,7 @@ use sn_course::{
 use sn_disk::MemShelf;
 use sn_report::{Event, Report};
 use sn_script::{Line, Script};
-use sn_string::Many;
+use sn_string::OwnedList;
 use std::alloc::{AllocError, Global};
 
 /// Carries out a script at both ends, line by line, and reports what each line brought about. The disks of both are put on the
@@ -32,7 +32,7 @@ use std::alloc::{AllocError, Global};
 pub fn replay(alloc: Global, script: &Script, shelf: &mut MemShelf) -> Result<Report, ReplayError>
     requires bounded { All IsBounded script.now.lines }
     requires fresh { (name : List ℕ) → shelf_slot shelf.old name ≡ unknown }
-    ensures carries { IfOk result (Carries script.now (shelf_slots shelf.new)) }
+    ensures carries { IfOk result (CarriesHeadline script.now (shelf_slots shelf.new)) }
     ensures refused { IfErr result (IsReplayRefusal script.now) }
     ensures untouched { (number : ℕ) → IsErrOf result (refusal.NotAllowed number) → shelf.new ≡ shelf.old }
 {
@@ -63,7 +63,7 @@ fn put_away(replaying: Option<Replaying>, shelf: &mut MemShelf) -> Result<(), Al
 pub(crate) struct State {
     pub(crate) settings: Settings,
     pub(crate) replaying: Option<Replaying>,
-    pub(crate) events: Many<Event>,
+    pub(crate) events: OwnedList<Event>,
 }
 
 // Carries out all lines.
@@ -75,7 +75,7 @@ fn play(alloc: Global, script: &Script) -> Result<State, ReplayError>
     let mut state = State {
         settings: first_settings(),
         replaying: None,
-        events: Many::new(alloc),
+        events: OwnedList::new(alloc),
     };
     'lines: for (index, line) in script.lines.as_slice().iter().enumerate() {
         state = step(alloc, state, index as u64 + 1, line)?;

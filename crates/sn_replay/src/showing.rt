@@ -13,7 +13,7 @@ use crate::settings::Moment;
 use sn_report::{Event, Last};
 use sn_shown::laws::states_regular;
 use sn_shown::show;
-use sn_string::Many;
+use sn_string::OwnedList;
 use sn_tail::slots_grow;
 use std::alloc::{AllocError, Global};
 
@@ -37,7 +37,7 @@ pub(crate) fn show_line(
         event: Event {
             number: at.number,
             puts: false,
-            moves: Many::new(alloc),
+            moves: OwnedList::new(alloc),
             shown,
             last: Last::Done,
             server_mark,

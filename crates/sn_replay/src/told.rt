@@ -28,7 +28,7 @@ use sn_events::Ends;
 use sn_laws::Move;
 use sn_lines::each_fits;
 use sn_report::{DeviceMark, Event, Last};
-use sn_string::{Many, Text, Twin};
+use sn_string::{OwnedList, Text, TryClone};
 use sn_telling::{Calling, Told, calls_tell};
 use sn_world::{keeps, keeps_held};
 use std::alloc::{AllocError, Global};
@@ -74,19 +74,19 @@ fn event_of(
     number: u64,
     name: &Text,
     calling: &Calling,
-    moves: Many<Move>,
+    moves: OwnedList<Move>,
     last: Last,
 ) -> Result<Event, AllocError>
     ensures { (secret : Bytes) (w : World) (s : Ideal) → Stands ends.now secret w s
         → IfOk result (IsEventOf ends.now w number name.now (puts_of calling.now) moves last) }
 {
-    let device = name.twin(alloc)?;
+    let device = name.try_clone(alloc)?;
     let mark = ends.device_mark(name.as_str());
     Ok(Event {
         number,
         puts: puts(calling),
         moves,
-        shown: Many::new(alloc),
+        shown: OwnedList::new(alloc),
         last,
         server_mark: ends.server_mark(),
         device_mark: Some(DeviceMark { name: device, mark }),

@@ -3,7 +3,7 @@
 use sn_client::Place;
 use sn_laws::Move;
 use sn_status::ClientRefusal;
-use sn_string::{Many, Text};
+use sn_string::{OwnedList, Text};
 
 /// How an event ended.
 #[derive(Drop)]
@@ -35,9 +35,9 @@ pub struct Event {
     pub number: u64,
     /// Whether the line puts a new item, so that the edit among its moves makes a label.
     pub puts: bool,
-    pub moves: Many<Move>,
+    pub moves: OwnedList<Move>,
     /// Lines that are no moves: those that `show` prints.
-    pub shown: Many<Text>,
+    pub shown: OwnedList<Text>,
     pub last: Last,
     /// How many calls the record of the server's disk had after the event.
     pub server_mark: u64,
@@ -48,5 +48,5 @@ pub struct Event {
 /// The events of a script's lines, without those of its settings.
 #[derive(Drop)]
 pub struct Report {
-    pub events: Many<Event>,
+    pub events: OwnedList<Event>,
 }

@@ -5,7 +5,7 @@ ghost use Rattle.std.specs.Option.{option_copied};
 ghost use Rattle.sn_report.specs.Sets.{has_nonce, nonce_text, sets_after, sets_of};
 
 use sn_laws::Move;
-use sn_string::{KeySet, Many, Text, Twin};
+use sn_string::{KeySet, OwnedList, Text, TryClone};
 use std::alloc::{AllocError, Global};
 use std::fmt::Write;
 
@@ -17,7 +17,7 @@ pub struct NumberedSet {
 }
 
 // The set that a move begins, behind those of the moves before it.
-fn add_set(alloc: Global, sets: &mut Many<NumberedSet>, made: &Move) -> Result<(), AllocError>
+fn add_set(alloc: Global, sets: &mut OwnedList<NumberedSet>, made: &Move) -> Result<(), AllocError>
     ensures { OnOk result (sets.new ≡ sets_after sets.old made.now) }
 {
     match made {
@@ -41,20 +41,20 @@ fn add_set(alloc: Global, sets: &mut Many<NumberedSet>, made: &Move) -> Result<(
 
 fn push_set(
     alloc: Global,
-    sets: &mut Many<NumberedSet>,
+    sets: &mut OwnedList<NumberedSet>,
     set: &KeySet,
     number: u64,
 ) -> Result<(), AllocError>
     ensures { OnOk result (sets.new ≡ sets.old ++ record { nonce = set.now.params.pw_nonce; number = number } ∷ []) }
 {
-    let nonce = set.params.pw_nonce.twin(alloc)?;
+    let nonce = set.params.pw_nonce.try_clone(alloc)?;
     sets.push(NumberedSet { nonce, number })
 }
 
 /// The sets that moves begin, behind those of the moves before them.
 pub(crate) fn add_sets(
     alloc: Global,
-    sets: &mut Many<NumberedSet>,
+    sets: &mut OwnedList<NumberedSet>,
     moves: &[Move],
 ) -> Result<(), AllocError>
     ensures { OnOk result (sets.new ≡ sets_of sets.old moves.now) }

@@ -12,7 +12,7 @@ use crate::moves::{make_label, move_text};
 use crate::report::{Event, Report};
 use crate::sets::{NumberedSet, add_sets};
 use sn_laws::Move;
-use sn_string::{Many, Text};
+use sn_string::{OwnedList, Text};
 use std::alloc::{AllocError, Global};
 use std::fmt::Write;
 
@@ -70,7 +70,7 @@ fn push_event(
     alloc: Global,
     text: &mut String,
     labels: &mut Labels,
-    sets: &mut Many<NumberedSet>,
+    sets: &mut OwnedList<NumberedSet>,
     event: &Event,
 ) -> Result<(), AllocError>
     ensures labels { OnOk result (labels.new ≡ labels_of event.now.puts labels.old event.now.moves) }
@@ -92,7 +92,7 @@ pub fn report_text(alloc: Global, report: &Report) -> Result<Text, AllocError>
 {
     let mut text = String::new(alloc);
     let mut labels = Labels::new(alloc);
-    let mut sets = Many::new(alloc);
+    let mut sets = OwnedList::new(alloc);
     let events = report.events.as_slice();
     'events: for event in events {
         push_event(alloc, &mut text, &mut labels, &mut sets, event)?;

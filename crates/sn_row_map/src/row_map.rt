@@ -16,7 +16,7 @@ ghost use Rattle.sn_row_map.specs.Steps.{BeginsWith, GoesOn, IsFirst, IsNext, le
 ghost use Rattle.sn_row_map.specs.RowMaps.{FitsIn, HasRoom, IsSwept, IsTidy, IsTidyBut, KeepsRoom, SameRows, StaysSwept, row_in};
 
 use sn_rows::{Change, Key, RowKind, Slot, Value};
-use sn_string::{Many, Twin};
+use sn_string::{OwnedList, TryClone};
 use std::alloc::{AllocError, Global};
 use std::collections::BTreeMap;
 use std::mem;
@@ -54,10 +54,10 @@ impl RowMap {
     }
 
     /// The rows of a kind, in the order of their keys. The values are copied; beside that the time is logarithmic.
-    pub fn range(&self, alloc: Global, kind: RowKind) -> Result<Many<(Key, Value)>, AllocError>
+    pub fn range(&self, alloc: Global, kind: RowKind) -> Result<OwnedList<(Key, Value)>, AllocError>
         ensures { IfOk result (AreRowsOf self.now kind) }
     {
-        let mut rows = Many::new(alloc);
+        let mut rows = OwnedList::new(alloc);
         'entries: for (key, found) in self.entries.range(bounds_of(kind)) {
             push_row_of(alloc, &mut rows, kind, key, found)?;
         }
@@ -332,7 +332,7 @@ fn row_of_kind<'a>(kind: RowKind, key: &Key, found: &'a Option<Value>) -> Option
 // Adds what is found of a key, if it is a row of this kind.
 fn push_row_of(
     alloc: Global,
-    rows: &mut Many<(Key, Value)>,
+    rows: &mut OwnedList<(Key, Value)>,
     kind: RowKind,
     key: &Key,
     found: &Option<Value>,
@@ -342,7 +342,7 @@ fn push_row_of(
     let Some(value) = row_of_kind(kind, key, found) else {
         return Ok(());
     };
-    let value = value.twin(alloc)?;
+    let value = value.try_clone(alloc)?;
     rows.push((*key, value))
 }
 

@@ -8,7 +8,7 @@ use Rattle.std.proofs.lemmas.List.{append-nil, nil_from_length, length-append}
 use Rattle.std.proofs.lemmas.List.Concat.{flat_map-cons}
 use Rattle.sn_rows.specs.Bounds.{is_device_string}
 use Rattle.sn_rows.specs.Kinds.{kind_number, kind_of_number}
-use Rattle.sn_rows.specs.Cells.{Body, Cell, narrow, wide, plain, text, flag, slot, base, body, Column, number, stamp, cost, fixed, words, item_type, yes_or_no, which_set, base_stamp, version, base_bytes, counted, flag_byte, body_bytes, cell_bytes, cells_bytes, BodyInForm, InForm, AllInForm}
+use Rattle.sn_rows.specs.Cells.{Body, Cell, narrow, wide, plain, text, flag, slot, base, body, Column, number, stamp, cost, fixed, text_that, item_type, yes_or_no, which_set, base_stamp, version, base_bytes, counted, flag_byte, body_bytes, cell_bytes, cells_bytes, BodyInForm, InForm, AllInForm}
 use Rattle.sn_rows.specs.Columns.{key_columns, value_columns}
 use Rattle.sn_rows.specs.Spelling.{Entry, put, remove, entry_bytes, entries_bytes, Framed, EntryInForm}
 use Rattle.sn_rows.specs.Reading.{◌>>=◌, Read, Spot, spot, bytes_at, number_at, byte_at, stamp_at, cost_at, text_at, type_at, flag_at, slot_at, base_at, body_at, cell_as, column_at, columns_at, window_at, framed_at, op_at, kind_or, kind_at, entry_at, entries_at, payload_at}
@@ -84,7 +84,7 @@ column_takes number s x fits e = let c = cell_ok wide (number_at w64 s) x e in s
 column_takes stamp s x fits e = let c = cell_ok wide (stamp_at s) x e in subst (Good stamp s) c.2 (stamp_takes s c.0 fits c.1)
 column_takes cost s x fits e = let c = cell_ok narrow (cost_at s) x e in let t = cost_takes s c.0 fits c.1 in subst (Good cost s) c.2 (t.0, (t.1, t.2))
 column_takes (fixed count) s x fits e = let c = cell_ok plain (bytes_at count s) x e in let t = bytes_take count s c.0 fits c.1 in subst (Good (fixed count) s) c.2 (t.0, t.1)
-column_takes (words test) s x fits e = let c = cell_ok text (text_at test s) x e in let t = text_takes test s c.0 fits c.1 in subst (Good (words test) s) c.2 (t.0, (t.1, t.2))
+column_takes (text_that test) s x fits e = let c = cell_ok text (text_at test s) x e in let t = text_takes test s c.0 fits c.1 in subst (Good (text_that test) s) c.2 (t.0, (t.1, t.2))
 column_takes item_type s x fits e = let c = cell_ok text (type_at s) x e in let t = type_takes s c.0 fits c.1 in subst (Good item_type s) c.2 (t.0, (t.1, t.2, t.3))
 column_takes yes_or_no s x fits e = let c = cell_ok flag (flag_at s) x e in subst (Good yes_or_no s) c.2 (flag_takes s c.0 fits c.1, tt)
 column_takes which_set s x fits e = let c = cell_ok slot (slot_at s) x e in subst (Good which_set s) c.2 (slot_takes s c.0 fits c.1, tt)
@@ -100,7 +100,7 @@ column_again number (wide n) place rest h = (place + 8, rw (number_again w64 (2 
 column_again stamp (wide n) place rest h = (place + 8, rw (stamp_again n place rest h) refl, refl)
 column_again cost (narrow n) place rest h = (place + 4, rw (cost_again n place rest h.0 h.1) refl, refl)
 column_again (fixed count) (plain bytes) place rest h = (place + count, rw (bytes_again bytes count place rest h) refl, omega (arith, h))
-column_again (words test) (text t) place rest h = ((place + 4) + length t, rw (text_again test t place rest h.0 h.1) refl, omega (arith, length-append (to_be_bytes w32 (length t)) t))
+column_again (text_that test) (text t) place rest h = ((place + 4) + length t, rw (text_again test t place rest h.0 h.1) refl, omega (arith, length-append (to_be_bytes w32 (length t)) t))
 column_again item_type (text t) place rest h = ((place + 4) + length t, rw (type_again t place rest h.0 h.1 h.2) refl, omega (arith, length-append (to_be_bytes w32 (length t)) t))
 column_again yes_or_no (flag b) place rest h = (place + 1, rw (flag_again b place rest) refl, omega arith)
 column_again which_set (slot b) place rest h = (place + 1, rw (slot_again b place rest) refl, omega arith)

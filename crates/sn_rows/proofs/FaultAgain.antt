@@ -160,10 +160,10 @@ size_fault place front more own e none is fault =
     ∙ size_bad place more e (subst (λ (p : ℕ). IsFault field.size p more e) (omega (arith, ap length none)) (subst (λ (f : Field). IsFault f (place + length front) more e) is fault))
 
 -- and the second one
-words_fault : (words : ℕ → Field) (n place : ℕ) (front more : List ℕ) (own : Field) (e : RowError) → front ≡ to_be_bytes w32 n → own ≡ words n
-    → IsFault own (place + length front) more e → IsFault (words n) (place + 4) more e
-words_fault words n place front more own e front_is is fault =
-    subst (λ (p : ℕ). IsFault (words n) p more e) (ap (λ (l : List ℕ). place + length l) front_is) (subst (λ (f : Field). IsFault f (place + length front) more e) is fault)
+bytes_fault : (text_bytes : ℕ → Field) (n place : ℕ) (front more : List ℕ) (own : Field) (e : RowError) → front ≡ to_be_bytes w32 n → own ≡ text_bytes n
+    → IsFault own (place + length front) more e → IsFault (text_bytes n) (place + 4) more e
+bytes_fault text_bytes n place front more own e front_is is fault =
+    subst (λ (p : ℕ). IsFault (text_bytes n) p more e) (ap (λ (l : List ℕ). place + length l) front_is) (subst (λ (f : Field). IsFault f (place + length front) more e) is fault)
 
 text_bad : (test : List ℕ → Bool) (n place : ℕ) (more : List ℕ) (e : RowError) → n < 2 ^ 32 → IsFault (field.text test n) (place + 4) more e
     → text_at test (spot place (to_be_bytes w32 n ++ more)) ≡ Err e
@@ -179,7 +179,7 @@ unfolding text_at
 text_so test place front more own e (inl (none, is)) fault =
     ap (λ (r : Read ℕ). r >>= λ n. bytes_at n.0 n.1 >>= λ t. cond (test t.0) (Ok t) (Err (error.Range n.1.place))) (size_fault place front more own e none is fault)
 text_so test place front more own e (inr (n, lt, front_is, is)) fault =
-    ap (λ (l : List ℕ). text_at test (spot place (l ++ more))) front_is ∙ text_bad test n place more e lt (words_fault (field.text test) n place front more own e front_is is fault)
+    ap (λ (l : List ℕ). text_at test (spot place (l ++ more))) front_is ∙ text_bad test n place more e lt (bytes_fault (field.text test) n place front more own e front_is is fault)
 
 type_bad : (n place : ℕ) (more : List ℕ) (e : RowError) → n < 2 ^ 32 → IsFault (field.item_type n) (place + 4) more e
     → type_at (spot place (to_be_bytes w32 n ++ more)) ≡ Err e
@@ -206,7 +206,7 @@ type_so place front more own e (inl (none, is)) fault =
     ap (λ (r : Read ℕ). r >>= λ n. bytes_at n.0 n.1 >>= λ t. cond (is_type_or_empty t.0) (cond ((length t.0 == 0) && is_undeleted t.1.rest) (Err (error.Range n.1.place)) (Ok t)) (Err (error.Range n.1.place)))
     (size_fault place front more own e none is fault)
 type_so place front more own e (inr (n, lt, front_is, is)) fault =
-    ap (λ (l : List ℕ). type_at (spot place (l ++ more))) front_is ∙ type_bad n place more e lt (words_fault field.item_type n place front more own e front_is is fault)
+    ap (λ (l : List ℕ). type_at (spot place (l ++ more))) front_is ∙ type_bad n place more e lt (bytes_fault field.item_type n place front more own e front_is is fault)
 
 -- ---- bases and bodies
 
@@ -305,7 +305,7 @@ column_so col.number place bytes e f = ap (cell_as wide) (number_bad place bytes
 column_so col.stamp place bytes e f = ap (cell_as wide) (stamp_bad place bytes e (at_front field.stamp place bytes f.front f.more f.field e f.is_field.0 f.is_field.1 f.parts f.fault))
 column_so col.cost place bytes e f = ap (cell_as narrow) (cost_bad place bytes e (at_front field.cost place bytes f.front f.more f.field e f.is_field.0 f.is_field.1 f.parts f.fault))
 column_so (col.fixed count) place bytes e f = ap (cell_as plain) (fixed_bad count place bytes e (at_front (field.fixed count) place bytes f.front f.more f.field e f.is_field.0 f.is_field.1 f.parts f.fault))
-column_so (col.words test) place bytes e f = ap (λ (l : List ℕ). column_at (col.words test) (spot place l)) f.parts ∙ ap (cell_as text) (text_so test place f.front f.more f.field e f.is_field f.fault)
+column_so (col.text_that test) place bytes e f = ap (λ (l : List ℕ). column_at (col.text_that test) (spot place l)) f.parts ∙ ap (cell_as text) (text_so test place f.front f.more f.field e f.is_field f.fault)
 column_so col.item_type place bytes e f = ap (λ (l : List ℕ). column_at col.item_type (spot place l)) f.parts ∙ ap (cell_as text) (type_so place f.front f.more f.field e f.is_field f.fault)
 column_so col.yes_or_no place bytes e f = ap (cell_as flag) (flag_bad place bytes e (at_front (field.below 2) place bytes f.front f.more f.field e f.is_field.0 f.is_field.1 f.parts f.fault))
 column_so col.which_set place bytes e f = ap (cell_as slot) (slot_bad place bytes e (at_front (field.below 3) place bytes f.front f.more f.field e f.is_field.0 f.is_field.1 f.parts f.fault))

@@ -126,16 +126,16 @@ slot_fails s e fits h = elim (bind_err (byte_at s) (λ b. cond (b.0 == 0) (Ok (P
 -- ---- texts
 
 -- the first fault of a text
-pub record TextFault (words : ℕ → Field) (place : ℕ) (bytes : List ℕ) (e : RowError) : Type 0 where
+pub record TextFault (text_bytes : ℕ → Field) (place : ℕ) (bytes : List ℕ) (e : RowError) : Type 0 where
   pub front : List ℕ
   pub more : List ℕ
   pub own : Field
-  pub is_field : IsFieldOfText words front own
+  pub is_field : IsFieldOfText text_bytes front own
   pub parts : bytes ≡ front ++ more
   pub fault : IsFault own (place + length front) more e
 
-size_fault : (words : ℕ → Field) (s : Spot) (e : RowError) → number_at w32 s ≡ Err e → TextFault words s.place s.rest e
-size_fault words s e h =
+size_fault : (text_bytes : ℕ → Field) (s : Spot) (e : RowError) → number_at w32 s ≡ Err e → TextFault text_bytes s.place s.rest e
+size_fault text_bytes s e h =
     let p = number_fails w32 s e h in
     record {
       front = [];
@@ -146,17 +146,17 @@ size_fault words s e h =
       fault = fault_short field.size (s.place + 0) s.rest e p.0 (p.1 ∙ ap error.Short (omega arith));
     }
 
-words_fault : (words : ℕ → Field) (s : Spot) (n : ℕ × Spot) (e : RowError) → IsBytes s.rest → number_at w32 s ≡ Ok n → IsFault (words n.0) n.1.place n.1.rest e
-    → TextFault words s.place s.rest e
-words_fault words s n e fits h fault =
+bytes_fault : (text_bytes : ℕ → Field) (s : Spot) (n : ℕ × Spot) (e : RowError) → IsBytes s.rest → number_at w32 s ≡ Ok n → IsFault (text_bytes n.0) n.1.place n.1.rest e
+    → TextFault text_bytes s.place s.rest e
+bytes_fault text_bytes s n e fits h fault =
     let t = number_takes w32 (2 ^ 32) wide32 s n fits h in
     record {
       front = to_be_bytes w32 n.0;
       more = n.1.rest;
-      own = words n.0;
+      own = text_bytes n.0;
       is_field = inr (n.0, t.1, refl, refl);
       parts = t.0.parts;
-      fault = subst (λ (p : ℕ). IsFault (words n.0) p n.1.rest e) t.0.place_is fault;
+      fault = subst (λ (p : ℕ). IsFault (text_bytes n.0) p n.1.rest e) t.0.place_is fault;
     }
 
 pub text_fails : (test : List ℕ → Bool) (s : Spot) (e : RowError) → IsBytes s.rest → text_at test s ≡ Err e → TextFault (field.text test) s.place s.rest e
@@ -164,12 +164,12 @@ unfolding text_at
 text_fails test s e fits h = elim (bind_err (number_at w32 s) (λ n. bytes_at n.0 n.1 >>= λ t. cond (test t.0) (Ok t) (Err (error.Range n.1.place))) e h) [
   | inl short ↦ size_fault (field.text test) s e short
   | inr a ↦ elim (bind_err (bytes_at a.0.0 a.0.1) (λ t. cond (test t.0) (Ok t) (Err (error.Range a.0.1.place))) e a.2) [
-    | inl short ↦ (let p = bytes_fail a.0.0 a.0.1 e short in words_fault (field.text test) s a.0 e fits a.1 (fault_short (field.text test a.0.0) a.0.1.place a.0.1.rest e p.0 p.1))
+    | inl short ↦ (let p = bytes_fail a.0.0 a.0.1 e short in bytes_fault (field.text test) s a.0 e fits a.1 (fault_short (field.text test a.0.0) a.0.1.place a.0.1.rest e p.0 p.1))
     | inr b ↦ (
         let g = passed_err (test b.0.0) (error.Range a.0.1.place) e b.0 b.2 in
         let n = number_takes w32 (2 ^ 32) wide32 s a.0 fits a.1 in
         let t = bytes_take a.0.0 a.0.1 b.0 n.0.rest_fits b.1 in
-        words_fault (field.text test) s a.0 e fits a.1
+        bytes_fault (field.text test) s a.0 e fits a.1
         (fault_out (field.text test a.0.0) a.0.1.place a.0.1.rest b.0.0 b.0.1.rest e t.0.parts t.1 (λ passes. let off = g.0 in absurd cc) g.1))
   ]
 ]
@@ -179,12 +179,12 @@ unfolding type_at
 type_fails s e fits h = elim (bind_err (number_at w32 s) (λ n. bytes_at n.0 n.1 >>= λ t. cond (is_type_or_empty t.0) (cond ((length t.0 == 0) && is_undeleted t.1.rest) (Err (error.Range n.1.place)) (Ok t)) (Err (error.Range n.1.place))) e h) [
   | inl short ↦ size_fault field.item_type s e short
   | inr a ↦ elim (bind_err (bytes_at a.0.0 a.0.1) (λ t. cond (is_type_or_empty t.0) (cond ((length t.0 == 0) && is_undeleted t.1.rest) (Err (error.Range a.0.1.place)) (Ok t)) (Err (error.Range a.0.1.place))) e a.2) [
-    | inl short ↦ (let p = bytes_fail a.0.0 a.0.1 e short in words_fault field.item_type s a.0 e fits a.1 (fault_short (field.item_type a.0.0) a.0.1.place a.0.1.rest e p.0 p.1))
+    | inl short ↦ (let p = bytes_fail a.0.0 a.0.1 e short in bytes_fault field.item_type s a.0 e fits a.1 (fault_short (field.item_type a.0.0) a.0.1.place a.0.1.rest e p.0 p.1))
     | inr b ↦ (
         let n = number_takes w32 (2 ^ 32) wide32 s a.0 fits a.1 in
         let t = bytes_take a.0.0 a.0.1 b.0 n.0.rest_fits b.1 in
         let out : (FieldInForm (field.item_type a.0.0) b.0.0 b.0.1.rest → ⊥) → e ≡ error.Range a.0.1.place → TextFault field.item_type s.place s.rest e =
-        λ off is. words_fault field.item_type s a.0 e fits a.1 (fault_out (field.item_type a.0.0) a.0.1.place a.0.1.rest b.0.0 b.0.1.rest e t.0.parts t.1 off is) in
+        λ off is. bytes_fault field.item_type s a.0 e fits a.1 (fault_out (field.item_type a.0.0) a.0.1.place a.0.1.rest b.0.0 b.0.1.rest e t.0.parts t.1 off is) in
         elim (chosen (is_type_or_empty b.0.0) (cond ((length b.0.0 == 0) && is_undeleted b.0.1.rest) (Err (error.Range a.0.1.place)) (Ok b.0)) (Err (error.Range a.0.1.place)) (Err e) b.2) [
           | inl p ↦ (let g = guard_err ((length b.0.0 == 0) && is_undeleted b.0.1.rest) (error.Range a.0.1.place) e b.0 p.1 in out (λ form. let on = g.0 in let off = form.1 in absurd cc) g.1)
           | inr p ↦ out (λ form. let off = p.0 in let on = form.0 in absurd cc) (let same : error.Range a.0.1.place ≡ e = cc in sym same)
@@ -218,9 +218,9 @@ later_field c own s t front e of takes fault = record {
 }
 
 -- a text in a column, behind other fields of it
-text_in : (c : Column) (words : ℕ → Field) (s t : Spot) (before : List ℕ) (e : RowError) → ((front : List ℕ) (own : Field) → IsFieldOfText words front own → IsFieldOf c (before ++ front) own)
-    → Takes s before t → TextFault words t.place t.rest e → IsColumnFault c s.place s.rest e
-text_in c words s t before e of takes f = record {
+text_in : (c : Column) (text_bytes : ℕ → Field) (s t : Spot) (before : List ℕ) (e : RowError) → ((front : List ℕ) (own : Field) → IsFieldOfText text_bytes front own → IsFieldOf c (before ++ front) own)
+    → Takes s before t → TextFault text_bytes t.place t.rest e → IsColumnFault c s.place s.rest e
+text_in c text_bytes s t before e of takes f = record {
   front = before ++ f.front;
   more = f.more;
   field = f.own;
@@ -307,7 +307,7 @@ column_fails col.number s e fits h = let p = number_fails w64 s e (cell_err wide
 column_fails col.stamp s e fits h = first_field col.stamp field.stamp s.place s.rest e (refl, refl) (stamp_fails s e fits (cell_err wide (stamp_at s) e h))
 column_fails col.cost s e fits h = first_field col.cost field.cost s.place s.rest e (refl, refl) (cost_fails s e fits (cell_err narrow (cost_at s) e h))
 column_fails (col.fixed count) s e fits h = let p = bytes_fail count s e (cell_err plain (bytes_at count s) e h) in first_field (col.fixed count) (field.fixed count) s.place s.rest e (refl, refl) (fault_short (field.fixed count) s.place s.rest e p.0 p.1)
-column_fails (col.words test) s e fits h = text_in (col.words test) (field.text test) s s [] e (λ front own is. is) (nothing_taken s fits) (text_fails test s e fits (cell_err text (text_at test s) e h))
+column_fails (col.text_that test) s e fits h = text_in (col.text_that test) (field.text test) s s [] e (λ front own is. is) (nothing_taken s fits) (text_fails test s e fits (cell_err text (text_at test s) e h))
 column_fails col.item_type s e fits h = text_in col.item_type field.item_type s s [] e (λ front own is. is) (nothing_taken s fits) (type_fails s e fits (cell_err text (type_at s) e h))
 column_fails col.yes_or_no s e fits h = first_field col.yes_or_no (field.below 2) s.place s.rest e (refl, refl) (flag_fails s e fits (cell_err flag (flag_at s) e h))
 column_fails col.which_set s e fits h = first_field col.which_set (field.below 3) s.place s.rest e (refl, refl) (slot_fails s e fits (cell_err slot (slot_at s) e h))

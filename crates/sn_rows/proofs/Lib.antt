@@ -5,7 +5,7 @@ pub mod FaultChanges
 pub mod FaultLemmas
 pub mod FieldLemmas
 pub mod FormLemmas
-pub mod Glue
-pub mod Loop
-pub mod Same
+pub mod Appending
+pub mod ReadingOn
+pub mod EqualColumns
 pub mod TextLemmas

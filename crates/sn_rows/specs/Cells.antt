@@ -70,7 +70,7 @@ pub data Column : Type 0 where
   -- so many bytes
   fixed : ℕ → Column
   -- a text that passes a test
-  words : (List ℕ → Bool) → Column
+  text_that : (List ℕ → Bool) → Column
   -- the type of an item on the server, which two stamps and the flag of deletion follow
   item_type : Column
   -- 0 or 1
@@ -98,7 +98,7 @@ InForm number (wide n) rest = n < 2 ^ 64
 InForm stamp (wide n) rest = n ≤ last_stamp
 InForm cost (narrow n) rest = (1 ≤ n) × (n < 2 ^ 32)
 InForm (fixed count) (plain bytes) rest = length bytes ≡ count
-InForm (words test) (text bytes) rest = IsTrue (test bytes) × (length bytes < 2 ^ 32)
+InForm (text_that test) (text bytes) rest = IsTrue (test bytes) × (length bytes < 2 ^ 32)
 InForm item_type (text bytes) rest = IsTrue (is_type_or_empty bytes) × (length bytes < 2 ^ 32) × ((length bytes == 0) && is_undeleted rest ≡ false)
 InForm yes_or_no (flag b) rest = Unit {0}
 InForm which_set (slot s) rest = Unit {0}

@@ -1,7 +1,7 @@
 -- The table of kinds: the columns of each kind's key and value, and what a key or a value has in them.
 use Rattle.std.specs.Prelude.{List, [], ◌∷◌, Option, Some, None}
 use Rattle.sn_rows.specs.Bounds.{is_identifier, is_nonce, is_server_string, is_sync_token, is_token, is_type}
-use Rattle.sn_rows.specs.Cells.{Body, Cell, narrow, wide, plain, text, flag, slot, base, body, Column, number, stamp, cost, fixed, words, item_type, yes_or_no, which_set, base_stamp, version}
+use Rattle.sn_rows.specs.Cells.{Body, Cell, narrow, wide, plain, text, flag, slot, base, body, Column, number, stamp, cost, fixed, text_that, item_type, yes_or_no, which_set, base_stamp, version}
 use Rattle.sn_rows.specs.declared.kind.RowKind.{RowKind}
 use Rattle.sn_rows.specs.declared.kind.RowKind.TheVariants.{Store, Account, Generation, Item, Owner, Set, Local}
 use Rattle.sn_rows.specs.declared.key.Key.{Key}
@@ -24,17 +24,17 @@ abbrev pub value_columns : RowKind → List Column
 -- secret, last stamp, accounts
 value_columns Store = fixed 32 ∷ stamp ∷ number ∷ []
 -- identifier, generation, check
-value_columns Account = words is_identifier ∷ number ∷ fixed 32 ∷ []
+value_columns Account = text_that is_identifier ∷ number ∷ fixed 32 ∷ []
 -- cost, nonce
-value_columns Generation = cost ∷ words is_nonce ∷ []
+value_columns Generation = cost ∷ text_that is_nonce ∷ []
 -- account, type, created, updated, deleted, content, item key
-value_columns Item = number ∷ item_type ∷ stamp ∷ stamp ∷ yes_or_no ∷ words is_server_string ∷ words is_server_string ∷ []
+value_columns Item = number ∷ item_type ∷ stamp ∷ stamp ∷ yes_or_no ∷ text_that is_server_string ∷ text_that is_server_string ∷ []
 -- identifier, account, session token, sync token, cursor token, next local number
-value_columns Owner = words is_identifier ∷ fixed 16 ∷ words is_token ∷ words is_sync_token ∷ words is_sync_token ∷ number ∷ []
+value_columns Owner = text_that is_identifier ∷ fixed 16 ∷ text_that is_token ∷ text_that is_sync_token ∷ text_that is_sync_token ∷ number ∷ []
 -- cost, nonce, the three keys
-value_columns Set = cost ∷ words is_nonce ∷ fixed 32 ∷ fixed 32 ∷ fixed 32 ∷ []
+value_columns Set = cost ∷ text_that is_nonce ∷ fixed 32 ∷ fixed 32 ∷ fixed 32 ∷ []
 -- uuid, type, base, stale, body, latest, posted
-value_columns Local = fixed 16 ∷ words is_type ∷ base_stamp ∷ yes_or_no ∷ version ∷ version ∷ version ∷ []
+value_columns Local = fixed 16 ∷ text_that is_type ∷ base_stamp ∷ yes_or_no ∷ version ∷ version ∷ version ∷ []
 
 abbrev pub key_cells : Key → List Cell
 key_cells key.Store = []

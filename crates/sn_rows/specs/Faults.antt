@@ -80,8 +80,8 @@ IsFault field place rest e = ((length rest < field_size field) × (e ≡ error.S
 
 -- the two fields of a text, each with what stands before it: how many bytes, and these
 abbrev pub IsFieldOfText : (ℕ → Field) → List ℕ → Field → Type 0
-IsFieldOfText words front field = ((front ≡ []) × (field ≡ size))
-    ⊎ ((n : ℕ) × (n < 2 ^ 32) × (front ≡ to_be_bytes w32 n) × (field ≡ words n))
+IsFieldOfText text_bytes front field = ((front ≡ []) × (field ≡ size))
+    ⊎ ((n : ℕ) × (n < 2 ^ 32) × (front ≡ to_be_bytes w32 n) × (field ≡ text_bytes n))
 
 -- the fields of a column, each with what stands before it in the column
 abbrev pub IsFieldOf : Column → List ℕ → Field → Type 0
@@ -89,7 +89,7 @@ IsFieldOf col.number front field = (front ≡ []) × (field ≡ number)
 IsFieldOf col.stamp front field = (front ≡ []) × (field ≡ stamp)
 IsFieldOf col.cost front field = (front ≡ []) × (field ≡ cost)
 IsFieldOf (col.fixed count) front field = (front ≡ []) × (field ≡ fixed count)
-IsFieldOf (col.words test) front field = IsFieldOfText (text test) front field
+IsFieldOf (col.text_that test) front field = IsFieldOfText (text test) front field
 IsFieldOf col.item_type front field = IsFieldOfText item_type front field
 IsFieldOf col.yes_or_no front field = (front ≡ []) × (field ≡ below 2)
 IsFieldOf col.which_set front field = (front ≡ []) × (field ≡ below 3)

@@ -4,7 +4,7 @@ use Rattle.std.specs.Prelude.{◌≡◌, ℕ, zero, suc, ◌+◌, ◌==◌, ◌&
 use Rattle.std.specs.Int.{Width, w32, w64, byte_len, from_be_bytes}
 use Rattle.sn_rows.specs.Bounds.{last_stamp, is_device_string, is_type_or_empty}
 use Rattle.sn_rows.specs.Kinds.{kind_of_number}
-use Rattle.sn_rows.specs.Cells.{Body, Cell, narrow, wide, plain, text, flag, slot, base, body, Column, number, stamp, cost, fixed, words, item_type, yes_or_no, which_set, base_stamp, version, is_undeleted}
+use Rattle.sn_rows.specs.Cells.{Body, Cell, narrow, wide, plain, text, flag, slot, base, body, Column, number, stamp, cost, fixed, text_that, item_type, yes_or_no, which_set, base_stamp, version, is_undeleted}
 use Rattle.sn_rows.specs.Columns.{key_columns, value_columns}
 use Rattle.sn_rows.specs.Spelling.{Entry, put, remove}
 use Rattle.sn_rows.specs.declared.kind.RowKind.{RowKind}
@@ -106,7 +106,7 @@ column_at number s = cell_as wide (number_at w64 s)
 column_at stamp s = cell_as wide (stamp_at s)
 column_at cost s = cell_as narrow (cost_at s)
 column_at (fixed count) s = cell_as plain (bytes_at count s)
-column_at (words test) s = cell_as text (text_at test s)
+column_at (text_that test) s = cell_as text (text_at test s)
 column_at item_type s = cell_as text (type_at s)
 column_at yes_or_no s = cell_as flag (flag_at s)
 column_at which_set s = cell_as slot (slot_at s)

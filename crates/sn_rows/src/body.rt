@@ -4,7 +4,7 @@ ghost use Rattle.std.specs.Prelude.{◌≡◌, ◌↔◌, IsSome, IfSome, IsTrue
 ghost use Rattle.sn_rows.specs.Bounds.{HasDeviceLengths, is_device_string};
 
 use crate::texts::is_device_text;
-use sn_string::{Text, Twin};
+use sn_string::{Text, TryClone};
 use std::alloc::{AllocError, Global};
 
 /// The two strings of a sealed item in a device's row. Each has at most 1,048,576 bytes before its
@@ -42,10 +42,10 @@ impl RowStrings {
     }
 }
 
-impl Twin for RowStrings {
-    fn twin(&self, alloc: Global) -> Result<RowStrings, AllocError> {
-        let content = self.content.twin(alloc)?;
-        let enc = self.enc.twin(alloc)?;
+impl TryClone for RowStrings {
+    fn try_clone(&self, alloc: Global) -> Result<RowStrings, AllocError> {
+        let content = self.content.try_clone(alloc)?;
+        let enc = self.enc.try_clone(alloc)?;
         Ok(RowStrings { content, enc })
     }
 }
@@ -70,11 +70,11 @@ impl RowBody {
     }
 }
 
-impl Twin for RowBody {
-    fn twin(&self, alloc: Global) -> Result<RowBody, AllocError> {
+impl TryClone for RowBody {
+    fn try_clone(&self, alloc: Global) -> Result<RowBody, AllocError> {
         match self {
             RowBody::Deleted => Ok(RowBody::Deleted),
-            RowBody::Sealed(strings) => Ok(RowBody::Sealed(strings.twin(alloc)?)),
+            RowBody::Sealed(strings) => Ok(RowBody::Sealed(strings.try_clone(alloc)?)),
         }
     }
 }

@@ -2,7 +2,7 @@
 
 ghost use Rattle.std.specs.Prelude.{◌≡◌, IfOk};
 
-use sn_string::Twin;
+use sn_string::TryClone;
 use std::alloc::{AllocError, Global};
 use std::marker::Model;
 
@@ -35,9 +35,9 @@ impl<T: Drop> Boxed<T> {
     }
 }
 
-impl<T: Twin + Drop> Twin for Boxed<T> {
-    fn twin(&self, alloc: Global) -> Result<Boxed<T>, AllocError> {
-        let value = self.get().twin(alloc)?;
+impl<T: TryClone + Drop> TryClone for Boxed<T> {
+    fn try_clone(&self, alloc: Global) -> Result<Boxed<T>, AllocError> {
+        let value = self.get().try_clone(alloc)?;
         Boxed::of(alloc, value)
     }
 }

@@ -5,7 +5,7 @@ ghost use Rattle.sn_rows.specs.Kinds.{key_kind, value_kind};
 
 use crate::key::Key;
 use crate::value::Value;
-use sn_string::Twin;
+use sn_string::TryClone;
 use std::alloc::{AllocError, Global};
 
 /// A row: a key, and a value of its kind.
@@ -16,9 +16,9 @@ pub struct Row {
     pub ghost one_kind: { key_kind key ≡ value_kind value },
 }
 
-impl Twin for Row {
-    fn twin(&self, alloc: Global) -> Result<Row, AllocError> {
-        let value = self.value.twin(alloc)?;
+impl TryClone for Row {
+    fn try_clone(&self, alloc: Global) -> Result<Row, AllocError> {
+        let value = self.value.try_clone(alloc)?;
         Ok(Row {
             key: self.key,
             value,
@@ -49,10 +49,10 @@ impl Change {
     }
 }
 
-impl Twin for Change {
-    fn twin(&self, alloc: Global) -> Result<Change, AllocError> {
+impl TryClone for Change {
+    fn try_clone(&self, alloc: Global) -> Result<Change, AllocError> {
         match self {
-            Change::Put(row) => Ok(Change::Put(row.twin(alloc)?)),
+            Change::Put(row) => Ok(Change::Put(row.try_clone(alloc)?)),
             Change::Remove(key) => Ok(Change::Remove(*key)),
         }
     }

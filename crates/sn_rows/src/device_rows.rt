@@ -6,7 +6,7 @@ ghost use Rattle.sn_rows.specs.Bounds.{HasLength, IsVisible, is_identifier, is_n
 
 use crate::body::RowBody;
 use crate::texts::{is_text_within, is_visible};
-use sn_string::{LAST_STAMP, Text, Twin};
+use sn_string::{LAST_STAMP, Text, TryClone};
 use std::alloc::{AllocError, Global};
 use uuid::Uuid;
 
@@ -72,12 +72,12 @@ impl OwnerRow {
     }
 }
 
-impl Twin for OwnerRow {
-    fn twin(&self, alloc: Global) -> Result<OwnerRow, AllocError> {
-        let identifier = self.identifier.twin(alloc)?;
-        let token = self.token.twin(alloc)?;
-        let sync_token = self.sync_token.twin(alloc)?;
-        let cursor_token = self.cursor_token.twin(alloc)?;
+impl TryClone for OwnerRow {
+    fn try_clone(&self, alloc: Global) -> Result<OwnerRow, AllocError> {
+        let identifier = self.identifier.try_clone(alloc)?;
+        let token = self.token.try_clone(alloc)?;
+        let sync_token = self.sync_token.try_clone(alloc)?;
+        let cursor_token = self.cursor_token.try_clone(alloc)?;
         Ok(OwnerRow {
             identifier,
             account: self.account,
@@ -134,9 +134,9 @@ impl SetRow {
     }
 }
 
-impl Twin for SetRow {
-    fn twin(&self, alloc: Global) -> Result<SetRow, AllocError> {
-        let pw_nonce = self.pw_nonce.twin(alloc)?;
+impl TryClone for SetRow {
+    fn try_clone(&self, alloc: Global) -> Result<SetRow, AllocError> {
+        let pw_nonce = self.pw_nonce.try_clone(alloc)?;
         Ok(SetRow {
             pw_cost: self.pw_cost,
             pw_nonce,
@@ -210,12 +210,12 @@ fn is_base(base: Option<u64>) -> bool
     }
 }
 
-impl Twin for LocalItem {
-    fn twin(&self, alloc: Global) -> Result<LocalItem, AllocError> {
-        let kind = self.kind.twin(alloc)?;
-        let body = self.body.twin(alloc)?;
-        let latest = self.latest.twin(alloc)?;
-        let posted = self.posted.twin(alloc)?;
+impl TryClone for LocalItem {
+    fn try_clone(&self, alloc: Global) -> Result<LocalItem, AllocError> {
+        let kind = self.kind.try_clone(alloc)?;
+        let body = self.body.try_clone(alloc)?;
+        let latest = self.latest.try_clone(alloc)?;
+        let posted = self.posted.try_clone(alloc)?;
         Ok(LocalItem {
             uuid: self.uuid,
             kind,

@@ -4,7 +4,7 @@ ghost use Rattle.std.specs.Prelude.{◌≡◌};
 ghost use Rattle.sn_rows.specs.Kinds.{key_kind};
 
 use crate::kind::RowKind;
-use sn_string::Twin;
+use sn_string::TryClone;
 use std::alloc::{AllocError, Global};
 use uuid::Uuid;
 
@@ -51,8 +51,8 @@ impl Key {
     }
 }
 
-impl Twin for Key {
-    fn twin(&self, _alloc: Global) -> Result<Key, AllocError> {
+impl TryClone for Key {
+    fn try_clone(&self, _alloc: Global) -> Result<Key, AllocError> {
         Ok(*self)
     }
 }

@@ -17,7 +17,7 @@ use crate::key::Key;
 use crate::kind::RowKind;
 use crate::read_values::value_of;
 use crate::value::Value;
-use sn_string::Many;
+use sn_string::OwnedList;
 use std::alloc::Global;
 use uuid::Uuid;
 
@@ -150,10 +150,10 @@ fn change_of<'a>(alloc: Global, at: At<'a>) -> Result<(Change, At<'a>), RowError
 }
 
 // All changes, one after the other.
-fn all_of(alloc: Global, bytes: &[u8]) -> Result<Many<Change>, RowError>
+fn all_of(alloc: Global, bytes: &[u8]) -> Result<OwnedList<Change>, RowError>
     ensures { Gives (λ found. entries_of found) result (payload_at bytes.now) }
 {
-    let mut changes = Many::new(alloc);
+    let mut changes = OwnedList::new(alloc);
     let mut place = 0;
     let mut rest = bytes;
     while !rest.is_empty() {
@@ -167,7 +167,7 @@ fn all_of(alloc: Global, bytes: &[u8]) -> Result<Many<Change>, RowError>
 
 /// The changes that the bytes spell, all of the bytes. Texts are copied; the time is one pass, and the
 /// memory that of the rows.
-pub fn read(alloc: Global, bytes: &[u8]) -> Result<Many<Change>, RowError>
+pub fn read(alloc: Global, bytes: &[u8]) -> Result<OwnedList<Change>, RowError>
     // What is read is spelled so.
     ensures found { IfOk result (λ found. (bytes.now ≡ spelled found) × AreInForm found) }
     // What is spelled so is read, unless memory is wanting.

@@ -5,7 +5,7 @@ ghost use Rattle.sn_rows.specs.Bounds.{HasLength, is_identifier, is_nonce, is_se
 ghost use Rattle.sn_rows.specs.Packed.{kind_in, content_in, enc_in};
 
 use crate::texts::{is_str_within, is_text_within};
-use sn_string::{LAST_STAMP, MOST_STRING, Text, Twin};
+use sn_string::{LAST_STAMP, MOST_STRING, Text, TryClone};
 use std::alloc::{AllocError, Global};
 use std::marker::Model;
 
@@ -36,8 +36,8 @@ impl StoreRow {
     }
 }
 
-impl Twin for StoreRow {
-    fn twin(&self, _alloc: Global) -> Result<StoreRow, AllocError> {
+impl TryClone for StoreRow {
+    fn try_clone(&self, _alloc: Global) -> Result<StoreRow, AllocError> {
         Ok(StoreRow {
             secret: self.secret,
             last: self.last,
@@ -74,9 +74,9 @@ impl AccountRow {
     }
 }
 
-impl Twin for AccountRow {
-    fn twin(&self, alloc: Global) -> Result<AccountRow, AllocError> {
-        let identifier = self.identifier.twin(alloc)?;
+impl TryClone for AccountRow {
+    fn try_clone(&self, alloc: Global) -> Result<AccountRow, AllocError> {
+        let identifier = self.identifier.try_clone(alloc)?;
         Ok(AccountRow {
             identifier,
             generation: self.generation,
@@ -111,9 +111,9 @@ impl GenerationRow {
     }
 }
 
-impl Twin for GenerationRow {
-    fn twin(&self, alloc: Global) -> Result<GenerationRow, AllocError> {
-        let pw_nonce = self.pw_nonce.twin(alloc)?;
+impl TryClone for GenerationRow {
+    fn try_clone(&self, alloc: Global) -> Result<GenerationRow, AllocError> {
+        let pw_nonce = self.pw_nonce.try_clone(alloc)?;
         Ok(GenerationRow {
             pw_cost: self.pw_cost,
             pw_nonce,
@@ -309,8 +309,8 @@ impl ItemRow {
     }
 }
 
-impl Twin for ItemRow {
-    fn twin(&self, alloc: Global) -> Result<ItemRow, AllocError> {
+impl TryClone for ItemRow {
+    fn try_clone(&self, alloc: Global) -> Result<ItemRow, AllocError> {
         let (kind, content, enc) = self.texts();
         let row = ItemRow::packed(
             alloc,

@@ -7,7 +7,7 @@ use crate::boxed::Boxed;
 use crate::device_rows::{LocalItem, OwnerRow, SetRow};
 use crate::kind::RowKind;
 use crate::server_rows::{AccountRow, GenerationRow, ItemRow, StoreRow};
-use sn_string::Twin;
+use sn_string::TryClone;
 use std::alloc::{AllocError, Global};
 
 /// The value of a row. What is large stands in a place of its own, so that each value takes memory for what it holds.
@@ -39,16 +39,16 @@ impl Value {
     }
 }
 
-impl Twin for Value {
-    fn twin(&self, alloc: Global) -> Result<Value, AllocError> {
+impl TryClone for Value {
+    fn try_clone(&self, alloc: Global) -> Result<Value, AllocError> {
         match self {
-            Value::Store(row) => Ok(Value::Store(row.twin(alloc)?)),
-            Value::Account(row) => Ok(Value::Account(row.twin(alloc)?)),
-            Value::Generation(row) => Ok(Value::Generation(row.twin(alloc)?)),
-            Value::Item(row) => Ok(Value::Item(row.twin(alloc)?)),
-            Value::Owner(row) => Ok(Value::Owner(row.twin(alloc)?)),
-            Value::Set(row) => Ok(Value::Set(row.twin(alloc)?)),
-            Value::Local(row) => Ok(Value::Local(row.twin(alloc)?)),
+            Value::Store(row) => Ok(Value::Store(row.try_clone(alloc)?)),
+            Value::Account(row) => Ok(Value::Account(row.try_clone(alloc)?)),
+            Value::Generation(row) => Ok(Value::Generation(row.try_clone(alloc)?)),
+            Value::Item(row) => Ok(Value::Item(row.try_clone(alloc)?)),
+            Value::Owner(row) => Ok(Value::Owner(row.try_clone(alloc)?)),
+            Value::Set(row) => Ok(Value::Set(row.try_clone(alloc)?)),
+            Value::Local(row) => Ok(Value::Local(row.try_clone(alloc)?)),
         }
     }
 }

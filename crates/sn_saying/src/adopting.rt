@@ -9,7 +9,7 @@ use crate::joining::joining;
 use crate::reposting::{push_reposting, reposted};
 use sn_laws::Move;
 use sn_row_map::RowMap;
-use sn_string::{Many, Text};
+use sn_string::{OwnedList, Text};
 use std::alloc::{AllocError, Global};
 
 /// The moves of the commit by which the device of this name adopts the last set of its account: `rows` are the device's
@@ -19,14 +19,14 @@ pub fn adopted(
     server: &RowMap,
     rows: &RowMap,
     name: &Text,
-) -> Result<Many<Move>, AllocError>
+) -> Result<OwnedList<Move>, AllocError>
     ensures { IfOk result (IsAdoption (row_in server.now) (row_in rows.now) name.now) }
 {
     let Some(identifier) = identifier_in(rows) else {
-        return Ok(Many::new(alloc));
+        return Ok(OwnedList::new(alloc));
     };
     let Some((number, generation)) = account_in(server, identifier) else {
-        return Ok(Many::new(alloc));
+        return Ok(OwnedList::new(alloc));
     };
     let older = older_in(server, rows, number, generation);
     let mut moves = joining(alloc, name, identifier, older, generation)?;

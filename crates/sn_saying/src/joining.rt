@@ -8,7 +8,7 @@ ghost use Rattle.sn_saying.specs.Joined.{IsJoining};
 use crate::accounts::account_in;
 use sn_laws::Move;
 use sn_row_map::RowMap;
-use sn_string::{Many, Text, Twin};
+use sn_string::{OwnedList, Text, TryClone};
 use std::alloc::{AllocError, Global};
 
 /// The moves of the commit by which the device of this name takes up the account of an identifier, as a registration or a
@@ -18,11 +18,11 @@ pub fn joined(
     server: &RowMap,
     name: &Text,
     identifier: &Text,
-) -> Result<Many<Move>, AllocError>
+) -> Result<OwnedList<Move>, AllocError>
     ensures { IfOk result (IsJoining (row_in server.now) name.now identifier.now) }
 {
     let Some((_, generation)) = account_in(server, identifier) else {
-        return Ok(Many::new(alloc));
+        return Ok(OwnedList::new(alloc));
     };
     joining(alloc, name, identifier, None, generation)
 }
@@ -34,19 +34,19 @@ pub(crate) fn joining(
     identifier: &Text,
     older: Option<u64>,
     number: u64,
-) -> Result<Many<Move>, AllocError>
+) -> Result<OwnedList<Move>, AllocError>
     ensures { IfOk result (λ moves. moves ≡ joining name.now identifier.now older number) }
 {
-    let mut moves = Many::new(alloc);
+    let mut moves = OwnedList::new(alloc);
     if let Some(older) = older {
         moves.push(Move::Retire {
-            device: name.twin(alloc)?,
+            device: name.try_clone(alloc)?,
             number: older,
         })?;
     }
     moves.push(Move::Join {
-        device: name.twin(alloc)?,
-        identifier: identifier.twin(alloc)?,
+        device: name.try_clone(alloc)?,
+        identifier: identifier.try_clone(alloc)?,
         number,
     })?;
     Ok(moves)

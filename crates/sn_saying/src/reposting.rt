@@ -13,7 +13,7 @@ use crate::sent::is_same;
 use sn_laws::Move;
 use sn_row_map::RowMap;
 use sn_rows::{Key, LocalItem, RowKind, Value};
-use sn_string::{Many, Text, Twin};
+use sn_string::{OwnedList, Text, TryClone};
 use std::alloc::{AllocError, Global};
 use uuid::Uuid;
 
@@ -24,11 +24,11 @@ pub(crate) fn reposted(
     server: &RowMap,
     rows: &RowMap,
     number: u64,
-) -> Result<Many<Uuid>, AllocError>
+) -> Result<OwnedList<Uuid>, AllocError>
     ensures { IfOk result (λ uuids. (accounts : List Account) (a : Account) → ShowsAccounts (row_in server.now) accounts
         → account_at number accounts ≡ Some a → AreRepostedIn (row_in rows.now) a uuids) }
 {
-    let mut uuids = Many::new(alloc);
+    let mut uuids = OwnedList::new(alloc);
     let mut found = rows.first(RowKind::Local);
     'items: while let Some((at, value)) = found {
         push_uuid(&mut uuids, reposted_uuid(server, number, at, value))?;
@@ -38,7 +38,7 @@ pub(crate) fn reposted(
 }
 
 // Adds a uuid, if there is one.
-fn push_uuid(uuids: &mut Many<Uuid>, uuid: Option<Uuid>) -> Result<(), AllocError>
+fn push_uuid(uuids: &mut OwnedList<Uuid>, uuid: Option<Uuid>) -> Result<(), AllocError>
     ensures { OnOk result (uuids.new ≡ uuids.old ++ option_to_list uuid) }
 {
     match uuid {
@@ -94,7 +94,7 @@ fn stamp_for(number: u64, found: Option<&Value>) -> Option<u64>
 /// Adds the moves by which what was sent of these items is sent again.
 pub(crate) fn push_reposting(
     alloc: Global,
-    moves: &mut Many<Move>,
+    moves: &mut OwnedList<Move>,
     name: &Text,
     uuids: &[Uuid],
 ) -> Result<(), AllocError>
@@ -102,11 +102,11 @@ pub(crate) fn push_reposting(
 {
     'uuids: for uuid in uuids {
         moves.push(Move::Unpost {
-            device: name.twin(alloc)?,
+            device: name.try_clone(alloc)?,
             uuid: *uuid,
         })?;
         moves.push(Move::Post {
-            device: name.twin(alloc)?,
+            device: name.try_clone(alloc)?,
             uuid: *uuid,
         })?;
     }

@@ -8,7 +8,7 @@ use crate::accounts::{account_in, identifier_in, older_in};
 use sn_laws::Move;
 use sn_row_map::RowMap;
 use sn_rows::{Change, Key, Slot};
-use sn_string::{Many, Text, Twin};
+use sn_string::{OwnedList, Text, TryClone};
 use std::alloc::{AllocError, Global};
 
 /// The moves that an applied answer says behind those of its items: the older set of the device of this name ends, if the
@@ -19,11 +19,11 @@ pub fn retired(
     rows: &RowMap,
     name: &Text,
     changes: &[Change],
-) -> Result<Many<Move>, AllocError>
+) -> Result<OwnedList<Move>, AllocError>
     ensures { IfOk result (IsRetirement (row_in server.now) (row_in rows.now) name.now changes.now) }
 {
     if !gives_up(changes) {
-        return Ok(Many::new(alloc));
+        return Ok(OwnedList::new(alloc));
     }
     let moves = retiring(alloc, name, older_held(server, rows))?;
     Ok(moves)
@@ -62,15 +62,15 @@ fn older_held(server: &RowMap, rows: &RowMap) -> Option<u64>
 }
 
 // The set of this number ends, if there is one.
-fn retiring(alloc: Global, name: &Text, older: Option<u64>) -> Result<Many<Move>, AllocError>
+fn retiring(alloc: Global, name: &Text, older: Option<u64>) -> Result<OwnedList<Move>, AllocError>
     ensures { IfOk result (λ moves. moves ≡ retiring name.now older) }
 {
-    let mut moves = Many::new(alloc);
+    let mut moves = OwnedList::new(alloc);
     let Some(older) = older else {
         return Ok(moves);
     };
     moves.push(Move::Retire {
-        device: name.twin(alloc)?,
+        device: name.try_clone(alloc)?,
         number: older,
     })?;
     Ok(moves)

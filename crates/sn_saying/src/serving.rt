@@ -15,7 +15,7 @@ use sn_laws::Move;
 use sn_moves::registers_in;
 use sn_row_map::RowMap;
 use sn_rows::{Change, ItemRow, Key, Row, Value};
-use sn_string::{KeySet, Many, Text, Twin};
+use sn_string::{KeySet, OwnedList, Text, TryClone};
 use sn_sync::Request;
 use std::alloc::{AllocError, Global};
 use uuid::Uuid;
@@ -31,7 +31,7 @@ pub fn served(
     begins: Option<&KeySet>,
     request: &Request,
     changes: &[Change],
-) -> Result<Many<Move>, AllocError>
+) -> Result<OwnedList<Move>, AllocError>
     ensures moves { IfOk result (IsServing (row_in server.old) (row_in device.now) name.now (option_copied begins.entry) request.now changes.now) }
     ensures rows { OnOk result (row_in server.new ≡ rows_after (row_in server.old) changes.now) }
 {
@@ -49,7 +49,7 @@ pub fn served(
         }
         Request::Params { .. } | Request::SignIn { .. } => {
             apply_all(alloc, server, changes)?;
-            Ok(Many::new(alloc))
+            Ok(OwnedList::new(alloc))
         }
     }
 }
@@ -69,7 +69,7 @@ fn apply(alloc: Global, server: &mut RowMap, change: &Change) -> Result<(), Allo
     ensures { OnOk result (row_in server.new ≡ rows_after (row_in server.old) (change.now ∷ [])) }
 {
     let mut changes = Vec::new(alloc);
-    changes.push(change.twin(alloc)?)?;
+    changes.push(change.try_clone(alloc)?)?;
     server.add_all(changes)
 }
 
@@ -78,10 +78,10 @@ fn changes_in(
     alloc: Global,
     begins: Option<&KeySet>,
     changes: &[Change],
-) -> Result<Many<Move>, AllocError>
+) -> Result<OwnedList<Move>, AllocError>
     ensures { IfOk result (λ moves. moves ≡ changes_in (option_copied begins.entry) changes.now) }
 {
-    let mut moves = Many::new(alloc);
+    let mut moves = OwnedList::new(alloc);
     let Some(set) = begins else {
         return Ok(moves);
     };
@@ -101,9 +101,9 @@ fn change_of(alloc: Global, set: &KeySet, row: &Row) -> Result<Option<Move>, All
         (Key::Account(_), Value::Account(account)) => {
             let account = account.get();
             Ok(Some(Move::Change {
-                identifier: account.identifier.twin(alloc)?,
+                identifier: account.identifier.try_clone(alloc)?,
                 number: account.generation,
-                set: set.twin(alloc)?,
+                set: set.try_clone(alloc)?,
             }))
         }
         _ => Ok(None),
@@ -117,12 +117,12 @@ fn items_served(
     device: &RowMap,
     name: &Text,
     changes: &[Change],
-) -> Result<Many<Move>, AllocError>
+) -> Result<OwnedList<Move>, AllocError>
     ensures moves { IfOk result (λ moves. LoneChanges (row_in server.old) (row_in device.now) changes.now
         → SaysChanges (row_in server.old) (row_in device.now) name.now changes.now moves) }
     ensures rows { OnOk result (row_in server.new ≡ rows_after (row_in server.old) changes.now) }
 {
-    let mut moves = Many::new(alloc);
+    let mut moves = OwnedList::new(alloc);
     'changes: for change in changes {
         let said = change_said(alloc, server, device, name, change)?;
         push_said(&mut moves, said)?;
@@ -170,7 +170,7 @@ fn item_said(
     let stamp = item.updated();
     if is_accepted(server, device, generation, uuid, item) {
         return Ok(Move::Accept {
-            device: name.twin(alloc)?,
+            device: name.try_clone(alloc)?,
             uuid,
             stamp,
             under: number_of(item.is_deleted(), generation),
@@ -216,7 +216,7 @@ fn number_of(deleted: bool, number: u64) -> Option<u64>
 }
 
 // Adds a move, if there is one.
-fn push_said(moves: &mut Many<Move>, said: Option<Move>) -> Result<(), AllocError>
+fn push_said(moves: &mut OwnedList<Move>, said: Option<Move>) -> Result<(), AllocError>
     ensures { OnOk result (moves.new ≡ moves.old ++ option_to_list said) }
 {
     match said {

@@ -9,7 +9,7 @@ use crate::fates::losses;
 use crate::script::{Fate, Line};
 use crate::texts::{TextBehind, text_behind};
 use crate::words::{is_name, is_short, label_of, number, ordinal_of};
-use sn_string::{Many, Text, hash_bytes};
+use sn_string::{OwnedList, Text, hash_bytes};
 use std::alloc::{AllocError, Global};
 
 pub fn seed_line(words: &[&str]) -> Option<Line>
@@ -71,7 +71,7 @@ struct Entry {
     device: Text,
     identifier: Text,
     password: Text,
-    fates: Many<Fate>,
+    fates: OwnedList<Fate>,
 }
 
 fn entry_of(alloc: Global, words: &[&str]) -> Result<Option<Entry>, AllocError>

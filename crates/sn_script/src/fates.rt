@@ -6,7 +6,7 @@ ghost use Rattle.sn_script.specs.declared.script.Ordinal.{Ordinal};
 
 use crate::script::{Fate, Ordinal};
 use crate::words::{is_digit, is_number, ordinal_of};
-use sn_string::Many;
+use sn_string::OwnedList;
 use std::alloc::{AllocError, Global};
 
 fn is_hex_digit(c: u8) -> bool
@@ -121,11 +121,11 @@ pub fn is_fate(word: &str) -> bool
 }
 
 /// The losses that the words say, where each says one.
-pub fn losses(alloc: Global, words: &[&str]) -> Result<Option<Many<Fate>>, AllocError>
+pub fn losses(alloc: Global, words: &[&str]) -> Result<Option<OwnedList<Fate>>, AllocError>
     ensures { IfOk result (λ found. MatchOption found
         ((fates : List Fate) → ¬ (AreLosses (map (λ w. w.now) words.now) fates)) (AreLosses (map (λ w. w.now) words.now))) }
 {
-    let mut fates = Many::new(alloc);
+    let mut fates = OwnedList::new(alloc);
     for word in words {
         let Some(fate) = loss_of(word) else {
             return Ok(None);

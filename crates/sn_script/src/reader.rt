@@ -6,7 +6,7 @@ ghost use Rattle.sn_script.specs.Scripts.{lines_of, without_last, IsScript, IsSc
 
 use crate::lines::line_at;
 use crate::script::{Script, ScriptError};
-use sn_string::Many;
+use sn_string::OwnedList;
 use std::alloc::{AllocError, Global};
 
 fn parts_of<'a>(alloc: Global, text: &'a str) -> Result<Vec<&'a str>, AllocError>
@@ -45,7 +45,7 @@ pub fn read_script(alloc: Global, text: &str) -> Result<Script, ScriptError>
 {
     let parts = parts_of(alloc, text)?;
     let texts = without_empty_last(parts.as_slice());
-    let mut lines = Many::new(alloc);
+    let mut lines = OwnedList::new(alloc);
     for (place, line_text) in texts.iter().enumerate() {
         let Some(line) = line_at(alloc, place, line_text)? else {
             return Err(ScriptError::Line {

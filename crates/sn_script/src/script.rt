@@ -3,7 +3,7 @@
 ghost use Rattle.std.specs.Prelude.{◌≡◌};
 ghost use Rattle.sn_script.specs.declared.script.ScriptError.TheVariants.{Memory};
 
-use sn_string::{Many, Text};
+use sn_string::{OwnedList, Text};
 use std::alloc::AllocError;
 use thiserror::Error;
 
@@ -40,41 +40,41 @@ pub enum Line {
         /// 1 to 254 bytes, as the password; so where a device signs in.
         identifier: Text,
         password: Text,
-        fates: Many<Fate>,
+        fates: OwnedList<Fate>,
     },
     SignIn {
         device: Text,
         identifier: Text,
         password: Text,
-        fates: Many<Fate>,
+        fates: OwnedList<Fate>,
     },
     /// A new item with this content.
     Put {
         device: Text,
-        fates: Many<Fate>,
+        fates: OwnedList<Fate>,
         text: Text,
     },
     /// The item of this label gets this content. No label has number 0.
     Edit {
         device: Text,
         label: Ordinal,
-        fates: Many<Fate>,
+        fates: OwnedList<Fate>,
         text: Text,
     },
     Delete {
         device: Text,
         label: Ordinal,
-        fates: Many<Fate>,
+        fates: OwnedList<Fate>,
     },
     Sync {
         device: Text,
-        fates: Many<Fate>,
+        fates: OwnedList<Fate>,
     },
     /// The device's account gets this password, of 1 to 254 bytes.
     Passwd {
         device: Text,
         password: Text,
-        fates: Many<Fate>,
+        fates: OwnedList<Fate>,
     },
     /// Of the requests that the device ever made, delivered or not, this one is delivered once more.
     Late {
@@ -87,7 +87,7 @@ pub enum Line {
 /// The lines of a script. The first has number 1.
 #[derive(Drop)]
 pub struct Script {
-    pub lines: Many<Line>,
+    pub lines: OwnedList<Line>,
 }
 
 /// Why a script is refused.

@@ -6,7 +6,7 @@ ghost use Rattle.sn_script.specs.declared.script.Fate.{Fate};
 
 use crate::fates::{is_fate, loss_of};
 use crate::script::Fate;
-use sn_string::{Many, Text};
+use sn_string::{OwnedList, Text};
 use std::alloc::{AllocError, Global};
 
 // The words with a blank between each two.
@@ -36,7 +36,7 @@ fn text_from(alloc: Global, first: &str, more: &[&str]) -> Result<Option<Text>, 
 /// Losses, and the text behind them.
 #[derive(Drop)]
 pub struct TextBehind {
-    pub fates: Many<Fate>,
+    pub fates: OwnedList<Fate>,
     pub text: Text,
 }
 
@@ -46,7 +46,7 @@ pub fn text_behind(alloc: Global, words: &[&str]) -> Result<Option<TextBehind>, 
         ((fates : List Fate) (text : List ℕ) → ¬ (IsTextBehind (map (λ w. w.now) words.now) fates text))
         (λ t. IsTextBehind (map (λ w. w.now) words.now) t.fates t.text)) }
 {
-    let mut fates = Many::new(alloc);
+    let mut fates = OwnedList::new(alloc);
     for (place, word) in words.iter().enumerate() {
         let Some(fate) = loss_of(word) else {
             return match text_from(alloc, word, &words[place + 1..])? {

@@ -2,7 +2,7 @@
 
 use sn_generator::generate;
 use sn_script::{Fate, Line, Ordinal, Script, read_script};
-use sn_string::{Many, Text};
+use sn_string::{OwnedList, Text};
 use std::alloc::{AllocError, Global};
 use std::test::Fail;
 
@@ -45,7 +45,7 @@ fn expected(alloc: Global, events: &str) -> Result<String, AllocError> {
     Ok(text)
 }
 
-fn fates_text(fates: &Many<Fate>) -> Result<&'static str, Fail> {
+fn fates_text(fates: &OwnedList<Fate>) -> Result<&'static str, Fail> {
     match fates.as_slice() {
         [] => Ok(""),
         [Fate::DropReply(Ordinal::Nth(1))] => Ok(" drop-reply"),
@@ -81,7 +81,7 @@ fn put_text(alloc: Global, device: &Text, text: &Text) -> Result<String, AllocEr
     format!(in alloc; "put {device} {text}")
 }
 
-fn sync_text(alloc: Global, device: &Text, fates: &Many<Fate>) -> Result<String, Fail> {
+fn sync_text(alloc: Global, device: &Text, fates: &OwnedList<Fate>) -> Result<String, Fail> {
     let fates = fates_text(fates)?;
     let device = device.as_str();
     Ok(format!(in alloc; "sync {device}{fates}")?)

@@ -1,7 +1,7 @@
 //! Lists of moves with the place that the definitions refuse.
 
 use sn_laws::*;
-use sn_string::{KeySet, Many, Params, Text};
+use sn_string::{KeySet, OwnedList, Params, Text};
 use std::alloc::{AllocError, Global};
 use std::str::Split;
 use std::test::Fail;

@@ -6,7 +6,7 @@ use sn_row_map::RowMap;
 use sn_rows::{
     AccountRow, Boxed, Change, ItemRow, Key, LocalItem, Row, RowBody, RowStrings, Value,
 };
-use sn_string::{Many, Text};
+use sn_string::{OwnedList, Text};
 use sn_sync::{Answer, Body, Conflict, Item, Request};
 use std::alloc::{AllocError, Global};
 use std::test::Fail;
@@ -179,15 +179,15 @@ fn taken(alloc: Global, number: u8) -> Result<Conflict, Fail> {
 }
 
 fn answer(alloc: Global) -> Result<Answer, Fail> {
-    let mut conflicts = Many::new(alloc);
+    let mut conflicts = OwnedList::new(alloc);
     for number in [4, 6] {
         conflicts.push(taken(alloc, number)?)?;
     }
     Ok(Answer::Sync {
         conflicts,
         cursor_token: None,
-        retrieved: Many::new(alloc),
-        saved: Many::new(alloc),
+        retrieved: OwnedList::new(alloc),
+        saved: OwnedList::new(alloc),
         sync_token: Text::of(alloc, "t")?,
     })
 }
@@ -242,7 +242,7 @@ fn server_rows(alloc: Global) -> Result<RowMap, Fail> {
 fn request(alloc: Global) -> Result<Request, Fail> {
     Ok(Request::Sync {
         token: Text::of(alloc, "t")?,
-        items: Many::new(alloc),
+        items: OwnedList::new(alloc),
         limit: 1,
         sync_token: None,
         cursor_token: None,

@@ -4,7 +4,7 @@ use sn_client::Place;
 use sn_laws::{Body, Content, Move};
 use sn_report::*;
 use sn_status::ClientRefusal;
-use sn_string::{KeySet, Many, Params, Text, uuid_of};
+use sn_string::{KeySet, OwnedList, Params, Text, uuid_of};
 use std::alloc::{AllocError, Global};
 use std::test::Fail;
 use uuid::Uuid;
@@ -146,7 +146,7 @@ fn plain(alloc: Global, text: &str) -> Result<Content, AllocError> {
 }
 
 // Lines 4, 5, 10 and 11 put items.
-fn event(number: u64, moves: Many<Move>, shown: Many<Text>, last: Last) -> Event {
+fn event(number: u64, moves: OwnedList<Move>, shown: OwnedList<Text>, last: Last) -> Event {
     Event {
         number,
         puts: matches!(number, 4 | 5 | 10 | 11),
@@ -159,7 +159,7 @@ fn event(number: u64, moves: Many<Move>, shown: Many<Text>, last: Last) -> Event
 }
 
 fn begun(alloc: Global) -> Result<Event, Fail> {
-    let mut moves = Many::new(alloc);
+    let mut moves = OwnedList::new(alloc);
     moves.push(Move::Register {
         identifier: Text::of(alloc, "alice")?,
         set: alice(alloc)?,
@@ -169,41 +169,41 @@ fn begun(alloc: Global) -> Result<Event, Fail> {
         identifier: Text::of(alloc, "alice")?,
         number: 1,
     })?;
-    Ok(event(3, moves, Many::new(alloc), Last::Done))
+    Ok(event(3, moves, OwnedList::new(alloc), Last::Done))
 }
 
 // The text names an item that has no label yet.
 fn first_put(alloc: Global) -> Result<Event, Fail> {
-    let mut moves = Many::new(alloc);
+    let mut moves = OwnedList::new(alloc);
     let text = plain(alloc, "{\"to\":\"f81d4fae-7dec-11d0-a765-00a0c91e6bf6\"}")?;
     moves.push(edit(alloc, one()?, text)?)?;
-    Ok(event(4, moves, Many::new(alloc), Last::Done))
+    Ok(event(4, moves, OwnedList::new(alloc), Last::Done))
 }
 
 fn second_put(alloc: Global) -> Result<Event, Fail> {
-    let mut moves = Many::new(alloc);
+    let mut moves = OwnedList::new(alloc);
     let text = plain(
         alloc,
         "{\"to\":\"f81d4fae-7dec-11d0-a765-00a0c91e6bf6\",\"from\":\"00000000-0000-4000-8000-000000000001\"}",
     )?;
     moves.push(edit(alloc, two()?, text)?)?;
-    Ok(event(5, moves, Many::new(alloc), Last::Done))
+    Ok(event(5, moves, OwnedList::new(alloc), Last::Done))
 }
 
 // An edit of an item that was put takes no label.
 fn deletion(alloc: Global) -> Result<Event, Fail> {
-    let mut moves = Many::new(alloc);
+    let mut moves = OwnedList::new(alloc);
     moves.push(edit(alloc, one()?, Content::Deleted)?)?;
-    Ok(event(6, moves, Many::new(alloc), Last::Done))
+    Ok(event(6, moves, OwnedList::new(alloc), Last::Done))
 }
 
 fn exchange(alloc: Global) -> Result<Event, Fail> {
-    let mut moves = Many::new(alloc);
+    let mut moves = OwnedList::new(alloc);
     moves.push(post(alloc, two()?)?)?;
     moves.push(accept(alloc, two()?, 1000001, Some(1))?)?;
     moves.push(accept(alloc, one()?, 1000002, None)?)?;
     moves.push(settle(alloc, two()?)?)?;
-    let mut shown = Many::new(alloc);
+    let mut shown = OwnedList::new(alloc);
     shown.push(Text::of(alloc, "account alice set 1")?)?;
     shown.push(Text::of(alloc, "device A none")?)?;
     let tag = Text::of(alloc, "taken")?;
@@ -231,7 +231,7 @@ const REPORT: &str = "3 register alice set 1
 #[test]
 fn writes_moves(rt: HostRuntime) -> Result<(), Fail> {
     let alloc = rt.alloc();
-    let mut events = Many::new(alloc);
+    let mut events = OwnedList::new(alloc);
     events.push(begun(alloc)?)?;
     events.push(first_put(alloc)?)?;
     events.push(second_put(alloc)?)?;
@@ -244,7 +244,7 @@ fn writes_moves(rt: HostRuntime) -> Result<(), Fail> {
 // A draft that meets other versions, and a change of password.
 fn met(alloc: Global) -> Result<Event, Fail> {
     let device = "A";
-    let mut moves = Many::new(alloc);
+    let mut moves = OwnedList::new(alloc);
     moves.push(Move::Fork {
         device: Text::of(alloc, device)?,
         uuid: one()?,
@@ -272,11 +272,11 @@ fn met(alloc: Global) -> Result<Event, Fail> {
         device: Text::of(alloc, device)?,
         uuid: three()?,
     })?;
-    Ok(event(8, moves, Many::new(alloc), Last::Done))
+    Ok(event(8, moves, OwnedList::new(alloc), Last::Done))
 }
 
 fn rekeyed(alloc: Global) -> Result<Event, Fail> {
-    let mut moves = Many::new(alloc);
+    let mut moves = OwnedList::new(alloc);
     moves.push(Move::Change {
         identifier: Text::of(alloc, "alice")?,
         number: 2,
@@ -291,24 +291,24 @@ fn rekeyed(alloc: Global) -> Result<Event, Fail> {
         device: Text::of(alloc, "A")?,
         number: 1,
     })?;
-    Ok(event(9, moves, Many::new(alloc), Last::Done))
+    Ok(event(9, moves, OwnedList::new(alloc), Last::Done))
 }
 
 fn put(alloc: Global, number: u64, uuid: Uuid) -> Result<Event, Fail> {
-    let mut moves = Many::new(alloc);
+    let mut moves = OwnedList::new(alloc);
     moves.push(edit(alloc, uuid, plain(alloc, "{}")?)?)?;
-    Ok(event(number, moves, Many::new(alloc), Last::Done))
+    Ok(event(number, moves, OwnedList::new(alloc), Last::Done))
 }
 
 fn renaming(alloc: Global, uuid: Uuid, other: Uuid) -> Result<Event, Fail> {
-    let mut moves = Many::new(alloc);
+    let mut moves = OwnedList::new(alloc);
     let device = Text::of(alloc, "A")?;
     moves.push(Move::Rename {
         device,
         uuid,
         other,
     })?;
-    Ok(event(12, moves, Many::new(alloc), Last::Link))
+    Ok(event(12, moves, OwnedList::new(alloc), Last::Link))
 }
 
 const MET: &str = "4 edit A #1 {}
@@ -329,7 +329,7 @@ const MET: &str = "4 edit A #1 {}
 #[test]
 fn writes_moves_of_conflicts(rt: HostRuntime) -> Result<(), Fail> {
     let alloc = rt.alloc();
-    let mut events = Many::new(alloc);
+    let mut events = OwnedList::new(alloc);
     events.push(put(alloc, 4, one()?)?)?;
     events.push(met(alloc)?)?;
     events.push(rekeyed(alloc)?)?;
@@ -353,7 +353,7 @@ const AGAIN: &str = "10 edit A #1 {}
 #[test]
 fn writes_least_labels(rt: HostRuntime) -> Result<(), Fail> {
     let alloc = rt.alloc();
-    let mut events = Many::new(alloc);
+    let mut events = OwnedList::new(alloc);
     events.push(put(alloc, 10, one()?)?)?;
     events.push(put(alloc, 11, one()?)?)?;
     events.push(put(alloc, 11, two()?)?)?;
@@ -363,14 +363,18 @@ fn writes_least_labels(rt: HostRuntime) -> Result<(), Fail> {
     Ok(())
 }
 
-fn ended(alloc: Global, events: &mut Many<Event>, last: Last) -> Result<(), Fail> {
+fn ended(alloc: Global, events: &mut OwnedList<Event>, last: Last) -> Result<(), Fail> {
     let number = (events.len() as u64).saturating_add(1);
-    let none = Many::new(alloc);
-    events.push(event(number, none, Many::new(alloc), last))?;
+    let none = OwnedList::new(alloc);
+    events.push(event(number, none, OwnedList::new(alloc), last))?;
     Ok(())
 }
 
-fn refused(alloc: Global, events: &mut Many<Event>, refusal: ClientRefusal) -> Result<(), Fail> {
+fn refused(
+    alloc: Global,
+    events: &mut OwnedList<Event>,
+    refusal: ClientRefusal,
+) -> Result<(), Fail> {
     ended(alloc, events, Last::Refused(refusal))
 }
 
@@ -401,7 +405,7 @@ const ENDS: &str = "1 = ok
 23 = refused client.7 BadAnswer retrieved 7
 ";
 
-fn answered(alloc: Global, events: &mut Many<Event>) -> Result<(), Fail> {
+fn answered(alloc: Global, events: &mut OwnedList<Event>) -> Result<(), Fail> {
     ended(alloc, events, Last::Done)?;
     ended(alloc, events, Last::Link)?;
     let tag = Text::of(alloc, "taken")?;
@@ -413,7 +417,7 @@ fn answered(alloc: Global, events: &mut Many<Event>) -> Result<(), Fail> {
     ended(alloc, events, Last::Answer { status: 503 })
 }
 
-fn refused_all(alloc: Global, events: &mut Many<Event>) -> Result<(), Fail> {
+fn refused_all(alloc: Global, events: &mut OwnedList<Event>) -> Result<(), Fail> {
     refused(alloc, events, ClientRefusal::NoAccount)?;
     refused(alloc, events, ClientRefusal::NoItem { uuid: one()? })?;
     let nonce = Text::of(alloc, "6e")?;
@@ -432,7 +436,7 @@ fn refused_all(alloc: Global, events: &mut Many<Event>) -> Result<(), Fail> {
     refused(alloc, events, ClientRefusal::TooLarge { size: 1073741825 })
 }
 
-fn no_answers(alloc: Global, events: &mut Many<Event>) -> Result<(), Fail> {
+fn no_answers(alloc: Global, events: &mut OwnedList<Event>) -> Result<(), Fail> {
     ended(alloc, events, Last::BadAnswer(Place::Head))?;
     let name = Text::of(alloc, "cursor_token")?;
     ended(alloc, events, Last::BadAnswer(Place::Member { name }))?;
@@ -446,7 +450,7 @@ fn no_answers(alloc: Global, events: &mut Many<Event>) -> Result<(), Fail> {
 #[test]
 fn writes_last_lines(rt: HostRuntime) -> Result<(), Fail> {
     let alloc = rt.alloc();
-    let mut events = Many::new(alloc);
+    let mut events = OwnedList::new(alloc);
     answered(alloc, &mut events)?;
     refused_all(alloc, &mut events)?;
     no_answers(alloc, &mut events)?;

@@ -1,7 +1,7 @@
 //! What the clauses mean at written scripts.
 
 use sn_script::*;
-use sn_string::{Many, Text, hex_text};
+use sn_string::{OwnedList, Text, hex_text};
 use std::alloc::{AllocError, Global};
 use std::test::Fail;
 use tables::{ACCOUNTS, FATES, ITEMS, LAYOUT, LOSSES, SETTINGS, TEXTS};
@@ -47,7 +47,7 @@ fn label_shown(alloc: Global, device: &Text, which: Ordinal) -> Result<String, A
     format!(in alloc; "[{device}][{which}]")
 }
 
-fn fates_shown(alloc: Global, fates: &Many<Fate>) -> Result<String, AllocError> {
+fn fates_shown(alloc: Global, fates: &OwnedList<Fate>) -> Result<String, AllocError> {
     let mut all = String::new(alloc);
     for fate in fates.as_slice() {
         let (what, which) = match fate {
@@ -64,7 +64,7 @@ fn entry_shown(
     alloc: Global,
     command: &str,
     names: [&Text; 3],
-    fates: &Many<Fate>,
+    fates: &OwnedList<Fate>,
 ) -> Result<String, AllocError> {
     let [device, identifier, password] = names;
     let device = device.as_str();

@@ -2,7 +2,7 @@
 
 use sn_laws::{Content, Move, first_illegal};
 use sn_report::{Event, Last, Report};
-use sn_string::{KeySet, Many, Params, Text};
+use sn_string::{KeySet, OwnedList, Params, Text};
 use sn_summary::{Summary, summary_of, summary_text};
 use std::alloc::{AllocError, Global};
 use std::test::Fail;
@@ -133,20 +133,20 @@ fn move_of(alloc: Global, line: &str) -> Result<Move, Fail> {
     move_with(alloc, &words)
 }
 
-fn moves_of(alloc: Global, line: &str) -> Result<Many<Move>, Fail> {
-    let mut moves = Many::new(alloc);
+fn moves_of(alloc: Global, line: &str) -> Result<OwnedList<Move>, Fail> {
+    let mut moves = OwnedList::new(alloc);
     for word in line.split(';') {
         moves.push(move_of(alloc, word)?)?;
     }
     Ok(moves)
 }
 
-fn event(alloc: Global, number: u64, moves: Many<Move>) -> Event {
+fn event(alloc: Global, number: u64, moves: OwnedList<Move>) -> Event {
     Event {
         number,
         puts: false,
         moves,
-        shown: Many::new(alloc),
+        shown: OwnedList::new(alloc),
         last: Last::Done,
         server_mark: 0,
         device_mark: None,
@@ -154,14 +154,14 @@ fn event(alloc: Global, number: u64, moves: Many<Move>) -> Event {
 }
 
 // Two events, of which the first has the moves.
-fn reported(alloc: Global, moves: Many<Move>) -> Result<Report, AllocError> {
-    let mut events = Many::new(alloc);
+fn reported(alloc: Global, moves: OwnedList<Move>) -> Result<Report, AllocError> {
+    let mut events = OwnedList::new(alloc);
     events.push(event(alloc, 3, moves))?;
-    events.push(event(alloc, 4, Many::new(alloc)))?;
+    events.push(event(alloc, 4, OwnedList::new(alloc)))?;
     Ok(Report { events })
 }
 
-fn summarized(alloc: Global, moves: Many<Move>) -> Result<Summary, Fail> {
+fn summarized(alloc: Global, moves: OwnedList<Move>) -> Result<Summary, Fail> {
     if first_illegal(alloc, moves.as_slice())?.is_some() {
         return Err("illegal".into());
     }
@@ -196,7 +196,7 @@ fn summarizes(rt: HostRuntime) -> Result<(), Fail> {
 
 #[test]
 fn no_moves(rt: HostRuntime) -> Result<(), Fail> {
-    let summary = summarized(rt.alloc(), Many::new(rt.alloc()))?;
+    let summary = summarized(rt.alloc(), OwnedList::new(rt.alloc()))?;
     assert_eq!(rt; summary, counts("0 0 0 0")?);
     Ok(())
 }

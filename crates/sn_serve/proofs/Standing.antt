@@ -12,7 +12,7 @@ use Rattle.sn_rows.specs.Spelling.{spelled}
 use Rattle.sn_rows.specs.Table.{rows_of_batches}
 use Rattle.sn_rows.specs.declared.change.Change.{Change}
 use Rattle.sn_server.specs.Facts.{server_each}
-use Rattle.sn_server.specs.Loads.{Begins, IsEmpty, IsFirst, Opens, StandsOrBegins, Stays, StaysOrBegins, StaysRefused, kept_of, secret_of}
+use Rattle.sn_server.specs.Loads.{BeginsStore, IsEmpty, IsFirst, Opens, StandsOrBegins, Stays, StaysOrBegins, StaysRefused, kept_of, secret_of}
 use Rattle.sn_server.specs.Outcomes.{session_disk}
 use Rattle.sn_server.specs.Sessions.{SessionEnds}
 use Rattle.sn_server.specs.Steps.{after_all, world}
@@ -130,7 +130,7 @@ module _ (before : List ℕ → Type 0) (file secret : List ℕ) (batches : List
   stayed (inl was) = each c was
   stayed (inr same) = record { image = same_shown ServerOwner file c (map spelled batches) store.image same; each = store.each }
 
-  begun : Begins file secret c → StandsOrBegins (kept_of batches) secret c
+  begun : BeginsStore file secret c → StandsOrBegins (kept_of batches) secret c
   begun b =
       inr (subst (λ (bs : List (List Change)). IsEmpty (rows_of_batches bs) × (changes : List Change) × IsFirst secret changes × IsStore ServerOwner c (bs ++ changes ∷ []))
       (one_store ServerOwner file b.batches batches b.store store) (b.empty, b.changes, b.first, b.begun))

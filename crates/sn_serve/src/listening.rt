@@ -2,7 +2,7 @@
 ghost use Rattle.std.specs.Prelude.{◌≡◌, ◌≤◌, ◌++◌, ◌∷◌, [], List, ℕ, OnOk, IsErrOf};
 ghost use Rattle.std.specs.Fmt.{decimal};
 ghost use Rattle.std.specs.Io.KnownBytes.{Appends};
-ghost use Rattle.sn_io.specs.Causes.{Rose, HasCause};
+ghost use Rattle.sn_io.specs.Causes.{Rose, CountsFailure};
 ghost use Rattle.sn_io.specs.Streams.{TakesPart};
 ghost use Rattle.sn_rows.specs.declared.change.Change.{Change};
 ghost use Rattle.sn_server.specs.Loads.{kept_of, secret_of};

@@ -70,7 +70,7 @@ abbrev pub Stays : (List ℕ → Type 0) → List ℕ → List ℕ → Type 0
 Stays before file c = before c ⊎ SameBatches ServerOwner file c
 
 -- The file stands for batches that leave no row, and these bytes for them with the whole first commit.
-pub record Begins (file secret c : List ℕ) : Type 0 where
+pub record BeginsStore (file secret c : List ℕ) : Type 0 where
   pub batches : List (List Change)
   pub store : IsStore ServerOwner file batches
   pub empty : IsEmpty (rows_of_batches batches)
@@ -80,7 +80,7 @@ pub record Begins (file secret c : List ℕ) : Type 0 where
 
 -- what a crash leaves at any moment of a load
 abbrev pub StaysOrBegins : (List ℕ → Type 0) → List ℕ → List ℕ → List ℕ → Type 0
-StaysOrBegins before file secret c = Stays before file c ⊎ Begins file secret c
+StaysOrBegins before file secret c = Stays before file c ⊎ BeginsStore file secret c
 
 -- What it leaves where the load is refused so. The first commit is begun only where the disk fails in it. Of a file that is
 -- foreign, or damaged at a batch that isn't whole, a crash leaves just what it might have left before.

@@ -21,7 +21,7 @@ use sn_account::{Ruled, State, answer};
 use sn_disk::Disk;
 use sn_http::Message;
 use sn_rows::Change;
-use sn_string::{Many, Text};
+use sn_string::{OwnedList, Text};
 use sn_sync::{Answer, More, Request};
 use sn_table::{CommitError, Committed};
 use std::alloc::{AllocError, Global};
@@ -151,7 +151,7 @@ impl<D: Disk> Server<D> {
 // What a request changes, and the reply to it, with all the memory that it takes.
 #[derive(Drop)]
 struct Prepared {
-    changes: Many<Change>,
+    changes: OwnedList<Change>,
     reply: Reply,
 }
 

@@ -16,7 +16,7 @@ use sn_items::Words;
 use sn_journal::Owner;
 use sn_row_map::RowMap;
 use sn_rows::{Change, Key, Row, RowKind, StoreRow, Value};
-use sn_string::Many;
+use sn_string::OwnedList;
 use sn_table::{CommitError, Committed, Log, load_log};
 use std::alloc::{AllocError, Global};
 
@@ -186,12 +186,12 @@ impl<D: Disk> Server<D> {
 }
 
 // The changes of the first commit.
-fn first_changes(alloc: Global, secret: [u8; 32]) -> Result<Many<Change>, AllocError>
+fn first_changes(alloc: Global, secret: [u8; 32]) -> Result<OwnedList<Change>, AllocError>
     ensures first { IfOk result (IsFirst secret) }
     ensures fits { IfOk result (λ changes. length (spelled changes) ≤ most_payload) }
 {
     let _bytes = bytes_of(&secret);
-    let mut changes = Many::new(alloc);
+    let mut changes = OwnedList::new(alloc);
     changes.push(put_first(secret))?;
     Ok(changes)
 }

@@ -2,7 +2,7 @@
 
 ghost use Rattle.std.specs.Prelude.{◌≤◌, OnErr, OnOk};
 ghost use Rattle.std.specs.Io.KnownBytes.{Appends};
-ghost use Rattle.sn_io.specs.Causes.{HasCause};
+ghost use Rattle.sn_io.specs.Causes.{CountsFailure};
 ghost use Rattle.sn_io.specs.Streams.{TakesPart};
 ghost use Rattle.sn_server.specs.CheckBodies.{check_bytes};
 ghost use Rattle.sn_server.specs.Replies.{reply_bytes};
@@ -186,7 +186,7 @@ impl<D: Disk> Server<D> {
 fn send<O: Sink>(sink: &mut O, reply: &Reply) -> Result<(), WriteFault>
     ensures ok { OnOk result (Appends (O.held sink.old) (O.held sink.new) (reply_bytes reply.now)) }
     ensures err { OnErr result (TakesPart (O.held sink.old) (O.held sink.new) (reply_bytes reply.now)) }
-    ensures cause { HasCause (O.fault_count sink.old) (O.fault_count sink.new) result }
+    ensures cause { CountsFailure (O.fault_count sink.old) (O.fault_count sink.new) result }
 {
     let body = reply.body.as_str().as_bytes();
     write_answer(
@@ -202,7 +202,7 @@ fn send<O: Sink>(sink: &mut O, reply: &Reply) -> Result<(), WriteFault>
 fn send_check<O: Sink>(sink: &mut O, status: u16) -> Result<(), WriteFault>
     ensures ok { OnOk result (Appends (O.held sink.old) (O.held sink.new) (check_bytes status)) }
     ensures err { OnErr result (TakesPart (O.held sink.old) (O.held sink.new) (check_bytes status)) }
-    ensures cause { HasCause (O.fault_count sink.old) (O.fault_count sink.new) result }
+    ensures cause { CountsFailure (O.fault_count sink.old) (O.fault_count sink.new) result }
 {
     write_answer(sink, status, "", true, check_body(status).as_bytes())
 }

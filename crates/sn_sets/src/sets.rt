@@ -7,7 +7,7 @@ ghost use Rattle.sn_sets.specs.Sets.{OpensHeld, OpensNot, OpensNowhere, sealed_o
 
 use sn_items::{ItemError, Sealed, open_item};
 use sn_rows::RowStrings;
-use sn_string::{KeySet, Twin};
+use sn_string::{KeySet, TryClone};
 use std::alloc::{AllocError, Global};
 use uuid::Uuid;
 
@@ -84,7 +84,7 @@ fn opens_none(error: ItemError) -> Result<Option<String>, AllocError>
 pub fn sealed_strings(alloc: Global, strings: &RowStrings) -> Result<Sealed, AllocError>
     ensures { IfOk result (λ sealed. sealed ≡ sealed_of strings.now) }
 {
-    let content = strings.content.twin(alloc)?;
-    let enc = strings.enc.twin(alloc)?;
+    let content = strings.content.try_clone(alloc)?;
+    let enc = strings.enc.try_clone(alloc)?;
     Ok(Sealed { content, enc })
 }

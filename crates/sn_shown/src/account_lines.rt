@@ -18,7 +18,7 @@ use crate::rows::{account_count, account_row};
 use sn_report::{Labels, account_line};
 use sn_row_map::RowMap;
 use sn_rows::Key;
-use sn_string::{KeySet, Many, Text};
+use sn_string::{KeySet, OwnedList, Text};
 use std::alloc::{AllocError, Global};
 use std::collections::BTreeMap;
 
@@ -26,7 +26,7 @@ use std::collections::BTreeMap;
 /// order of label. The sets are by the keys of the server's rows of them.
 pub(crate) fn add_accounts(
     alloc: Global,
-    lines: &mut Many<Text>,
+    lines: &mut OwnedList<Text>,
     labels: &Labels,
     server: &RowMap,
     numbers: &Numbers,
@@ -44,7 +44,7 @@ pub(crate) fn add_accounts(
 }
 
 // For each account, in order, a list of its own line alone.
-fn first_lists(alloc: Global, server: &RowMap) -> Result<Vec<Many<Text>>, AllocError>
+fn first_lists(alloc: Global, server: &RowMap) -> Result<Vec<OwnedList<Text>>, AllocError>
     ensures { (s : Ideal) → IsServed (row_in server.now) s → IfOk result (λ lists. lists.items ≡ map (lines_so_far [] []) s.accounts) }
 {
     let mut lists = Vec::new(alloc);
@@ -55,11 +55,11 @@ fn first_lists(alloc: Global, server: &RowMap) -> Result<Vec<Many<Text>>, AllocE
     Ok(lists)
 }
 
-fn first_list(alloc: Global, server: &RowMap, number: u64) -> Result<Many<Text>, AllocError>
+fn first_list(alloc: Global, server: &RowMap, number: u64) -> Result<OwnedList<Text>, AllocError>
     ensures { (s : Ideal) (a : Account) → IsServed (row_in server.now) s → account_at number s.accounts ≡ Some a
         → IfOk result (λ list. list ≡ account_text a ∷ []) }
 {
-    let mut list = Many::new(alloc);
+    let mut list = OwnedList::new(alloc);
     let Some(row) = account_row(server, number) else {
         return Ok(list);
     };
@@ -69,7 +69,7 @@ fn first_list(alloc: Global, server: &RowMap, number: u64) -> Result<Many<Text>,
 }
 
 // Adds the lines of all lists, in order.
-fn add_lists(lines: &mut Many<Text>, lists: Vec<Many<Text>>) -> Result<(), AllocError>
+fn add_lists(lines: &mut OwnedList<Text>, lists: Vec<OwnedList<Text>>) -> Result<(), AllocError>
     ensures { OnOk result (lines.new ≡ lines.old ++ flat_map (λ list. list) lists.items) }
 {
     'lists: for list in lists {
@@ -78,7 +78,7 @@ fn add_lists(lines: &mut Many<Text>, lists: Vec<Many<Text>>) -> Result<(), Alloc
     Ok(())
 }
 
-fn add_list(lines: &mut Many<Text>, list: Many<Text>) -> Result<(), AllocError>
+fn add_list(lines: &mut OwnedList<Text>, list: OwnedList<Text>) -> Result<(), AllocError>
     ensures { OnOk result (lines.new ≡ lines.old ++ list) }
 {
     'texts: for line in list.into_vec() {

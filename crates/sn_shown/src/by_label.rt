@@ -3,13 +3,13 @@
 ghost use Rattle.std.specs.Prelude.{◌≡◌, ◌++◌, OnOk};
 ghost use Rattle.std.specs.BTreeMap.{values};
 
-use sn_string::{Many, Text};
+use sn_string::{OwnedList, Text};
 use std::alloc::AllocError;
 use std::collections::BTreeMap;
 
 /// Adds lines in order of label.
 pub(crate) fn add_values(
-    lines: &mut Many<Text>,
+    lines: &mut OwnedList<Text>,
     mut by_label: BTreeMap<u64, Text>,
 ) -> Result<(), AllocError>
     ensures { OnOk result (lines.new ≡ lines.old ++ values by_label) }

@@ -21,7 +21,7 @@ use crate::rows::strings_of;
 use sn_report::{Labels, closed_line};
 use sn_row_map::RowMap;
 use sn_rows::{LocalItem, RowKind, Value};
-use sn_string::{Many, Text};
+use sn_string::{OwnedList, Text};
 use std::alloc::{AllocError, Global};
 use std::collections::BTreeMap;
 
@@ -29,7 +29,7 @@ use std::collections::BTreeMap;
 /// numbers are those of the server's sets.
 pub(crate) fn add_closed(
     alloc: Global,
-    lines: &mut Many<Text>,
+    lines: &mut OwnedList<Text>,
     labels: &Labels,
     rows: &RowMap,
     numbers: &Numbers,

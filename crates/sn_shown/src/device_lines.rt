@@ -19,14 +19,14 @@ use crate::holding::{Holding, holding_of};
 use crate::numbers::Numbers;
 use sn_report::{Labels, device_line, no_account_line};
 use sn_row_map::RowMap;
-use sn_string::{Many, Text};
+use sn_string::{OwnedList, Text};
 use std::alloc::{AllocError, Global};
 
 /// Adds the lines of each of these devices, in this order: the device, its drafts in order of label,
 /// and what is closed to it, in order of label.
 pub(crate) fn add_devices<D: Devices>(
     alloc: Global,
-    lines: &mut Many<Text>,
+    lines: &mut OwnedList<Text>,
     labels: &Labels,
     names: &[Text],
     numbers: &Numbers,
@@ -46,7 +46,7 @@ pub(crate) fn add_devices<D: Devices>(
 // Adds the lines of a device.
 fn add_device<D: Devices>(
     alloc: Global,
-    lines: &mut Many<Text>,
+    lines: &mut OwnedList<Text>,
     labels: &Labels,
     numbers: &Numbers,
     devices: &D,
@@ -67,7 +67,7 @@ fn add_device<D: Devices>(
 }
 
 // Adds the line of a device without an account.
-fn add_none(alloc: Global, lines: &mut Many<Text>, name: &str) -> Result<(), AllocError>
+fn add_none(alloc: Global, lines: &mut OwnedList<Text>, name: &str) -> Result<(), AllocError>
     ensures { OnOk result (lines.new ≡ lines.old ++ none_text name.now ∷ []) }
 {
     let line = no_account_line(alloc, name)?;
@@ -77,7 +77,7 @@ fn add_none(alloc: Global, lines: &mut Many<Text>, name: &str) -> Result<(), All
 // Adds the lines of a device that holds sets. Its drafts are sealed under the present one.
 fn add_holder(
     alloc: Global,
-    lines: &mut Many<Text>,
+    lines: &mut OwnedList<Text>,
     labels: &Labels,
     rows: &RowMap,
     numbers: &Numbers,

@@ -25,7 +25,7 @@ use sn_laws::Content;
 use sn_report::{Labels, draft_line};
 use sn_row_map::RowMap;
 use sn_rows::{LocalItem, RowBody, RowKind, Value};
-use sn_string::{KeySet, Many, Text};
+use sn_string::{KeySet, OwnedList, Text};
 use std::alloc::{AllocError, Global};
 use std::collections::BTreeMap;
 use uuid::Uuid;
@@ -33,7 +33,7 @@ use uuid::Uuid;
 /// Adds a line for each draft of a device that has a label, in order of label, opened under the set.
 pub(crate) fn add_drafts(
     alloc: Global,
-    lines: &mut Many<Text>,
+    lines: &mut OwnedList<Text>,
     labels: &Labels,
     rows: &RowMap,
     set: &KeySet,

@@ -16,7 +16,7 @@ use crate::numbers::Numbers;
 use crate::rows::{owner_row, set_row};
 use sn_row_map::RowMap;
 use sn_rows::{OwnerRow, SetRow, Slot};
-use sn_string::{KeySet, Params, Twin};
+use sn_string::{KeySet, Params, TryClone};
 use std::alloc::{AllocError, Global};
 
 /// A set of an account, with its number.
@@ -121,8 +121,8 @@ fn held_set(
 fn key_set(alloc: Global, owner: &OwnerRow, row: &SetRow) -> Result<KeySet, AllocError>
     ensures { IfOk result (IsSetOf owner.now row.now) }
 {
-    let identifier = owner.identifier.twin(alloc)?;
-    let nonce = row.pw_nonce.twin(alloc)?;
+    let identifier = owner.identifier.try_clone(alloc)?;
+    let nonce = row.pw_nonce.try_clone(alloc)?;
     let cost = row.pw_cost;
     match Params::new(identifier, cost, nonce) {
         Some(params) => Ok(KeySet {

@@ -23,7 +23,7 @@ use sn_laws::Body;
 use sn_report::{Labels, item_line};
 use sn_row_map::RowMap;
 use sn_rows::{ItemRow, Key};
-use sn_string::{KeySet, Many, Text};
+use sn_string::{KeySet, OwnedList, Text};
 use std::alloc::{AllocError, Global};
 use std::collections::BTreeMap;
 use uuid::Uuid;
@@ -35,7 +35,7 @@ pub(crate) fn add_item(
     numbers: &Numbers,
     sets: &BTreeMap<Key, KeySet>,
     labels: &Labels,
-    lists: &mut Vec<Many<Text>>,
+    lists: &mut Vec<OwnedList<Text>>,
     uuid: &Uuid,
 ) -> Result<(), AllocError>
     ensures { (s : Ideal) (front : List Bytes) → IsServed (row_in server.now) s → AreNumbers numbers.now s.accounts
@@ -53,7 +53,7 @@ pub(crate) fn add_item(
 }
 
 // Adds a line to the list of the account of this number; where there is none, to no list.
-fn add_line(lists: &mut Vec<Many<Text>>, number: u64, line: Text) -> Result<(), AllocError>
+fn add_line(lists: &mut Vec<OwnedList<Text>>, number: u64, line: Text) -> Result<(), AllocError>
     ensures { (index : ℕ) → number ≡ index + 1 → index < length lists.old.items
         → OnOk result (lists.new.items ≡ slice_set lists.old.items index (slice_index_or lists.old.items index [] ++ line ∷ [])) }
 {

@@ -16,7 +16,7 @@ use crate::held::held_sets;
 use crate::numbers::Numbers;
 use sn_report::Labels;
 use sn_row_map::RowMap;
-use sn_string::{Many, Text};
+use sn_string::{OwnedList, Text};
 use std::alloc::{AllocError, Global};
 
 /// The lines that show what both ends hold, from the server's rows and those of the devices of these
@@ -29,14 +29,14 @@ pub fn show<D: Devices>(
     names: &[Text],
     server: &RowMap,
     devices: &D,
-) -> Result<Many<Text>, AllocError>
+) -> Result<OwnedList<Text>, AllocError>
     ensures { (s : Ideal) → EndsShow (row_in server.now) (λ name. rows_in (D.rows_of devices.now name)) names.now s
         → IfOk result (λ lines. (closed : Bytes → Bytes → Option ℕ) × AreClosed (λ name. rows_in (D.rows_of devices.now name)) s closed
         × (lines ≡ show_lines labels.now names.now s closed)) }
 {
     let numbers = Numbers::of_rows(alloc, server)?;
     let sets = held_sets(alloc, &numbers, names, devices)?;
-    let mut lines = Many::new(alloc);
+    let mut lines = OwnedList::new(alloc);
     add_accounts(alloc, &mut lines, labels, server, &numbers, &sets)?;
     add_devices(alloc, &mut lines, labels, names, &numbers, devices)?;
     Ok(lines)

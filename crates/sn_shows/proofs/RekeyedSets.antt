@@ -19,7 +19,7 @@ use Rattle.sn_rows.specs.declared.value.Value.TheVariants as value
 use Rattle.sn_rows.specs.Facts.{first_put, neither_put, second_put}
 use Rattle.sn_string.specs.declared.params.KeySet.{KeySet}
 use Rattle.sn_shows.specs.Sets.{OpensUnder, set_at}
-use Rattle.sn_shows.specs.Servers.{HasCause, ShowsAccount, ShowsAccounts, ShowsGeneration, ShowsIdentity, ShowsItem, ShowsStrings, account_at}
+use Rattle.sn_shows.specs.Servers.{StandsForSome, ShowsAccount, ShowsAccounts, ShowsGeneration, ShowsIdentity, ShowsItem, ShowsStrings, account_at}
 use Rattle.sn_shows.specs.Laws.{AreApart}
 use Rattle.sn_shows.specs.Rekeying.{PutsGeneration}
 use Rattle.sn_shows.proofs.ServersGrown.{each_shows, own_changed}
@@ -164,8 +164,8 @@ changed_shows rows s number a set account generation h apart at p =
     its_at : account_at number (renewed s.accounts a set) ≡ Some (more_sets set a)
     its_at = own_changed (more_sets set) s.accounts number a at
 
-    its_set : HasCause (renewed s.accounts a set) (key.Generation number (length a.sets + 1))
+    its_set : StandsForSome (renewed s.accounts a set) (key.Generation number (length a.sets + 1))
     its_set = record { account = more_sets set a; at = its_at; set = set; set_is = set_last a.sets set }
 
-    its_account : HasCause (renewed s.accounts a set) (key.Account number)
+    its_account : StandsForSome (renewed s.accounts a set) (key.Account number)
     its_account = subst (λ (o : Option Account). IsSome o) (sym its_at) refl

@@ -18,7 +18,7 @@ use Rattle.sn_rows.specs.declared.value.Value.TheVariants as value
 use Rattle.sn_rows.specs.Facts.{put_apart, put_here}
 use Rattle.sn_string.specs.declared.params.KeySet.{KeySet}
 use Rattle.sn_shows.specs.Sets.{set_at}
-use Rattle.sn_shows.specs.Servers.{HasCause, ShowsAccount, ShowsAccounts, ShowsItem, ShowsStrings, account_at, first_of}
+use Rattle.sn_shows.specs.Servers.{StandsForSome, ShowsAccount, ShowsAccounts, ShowsItem, ShowsStrings, account_at, first_of}
 use Rattle.sn_shows.specs.Laws.{AreApart, created_of}
 use Rattle.sn_shows.proofs.ServersLists.{account_changed, change_account, first_new, first_stays, last_other, last_own, more}
 use Rattle.sn_shows.proofs.ServersRows.{Continues, HasSuch, cause_after, cause_continues, keep_account, keep_generation, keep_identity}
@@ -216,7 +216,7 @@ shows_grown rows accounts number a w change p h apart at none =
           (λ k some. cause_continues accounts (grown accounts a w) (continues accounts (is_account a.identifier) w) k (h.no_other k some));
     }
   where
-    its_cause : HasCause (grown accounts a w) (key.Item w.uuid)
+    its_cause : StandsForSome (grown accounts a w) (key.Item w.uuid)
     its_cause = record {
       number = number;
       account = more w a;

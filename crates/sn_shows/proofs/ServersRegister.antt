@@ -15,7 +15,7 @@ use Rattle.sn_rows.specs.declared.value.Value.TheVariants as value
 use Rattle.sn_rows.specs.Facts.{first_put, neither_put, second_put}
 use Rattle.sn_string.specs.declared.params.KeySet.{KeySet}
 use Rattle.sn_shows.specs.Sets.{set_at}
-use Rattle.sn_shows.specs.Servers.{HasCause, ShowsAccount, ShowsAccounts, ShowsGeneration, account_at}
+use Rattle.sn_shows.specs.Servers.{StandsForSome, ShowsAccount, ShowsAccounts, ShowsGeneration, account_at}
 use Rattle.sn_shows.specs.Laws.{PutsAccount}
 use Rattle.sn_shows.proofs.ServersLists.{account_before, account_cases, account_last, number_within}
 use Rattle.sn_shows.proofs.ServersRows.{Continues, cause_after, cause_continues, keep_account}
@@ -117,7 +117,7 @@ registered_shows rows s identifier set account generation h p =
           (λ at some. cause_continues s.accounts (registered s.accounts identifier set) (continues s.accounts (new_account identifier set)) at (h.no_other at some)));
     }
   where
-    its_generation : HasCause (registered s.accounts identifier set) (key.Generation (length s.accounts + 1) 1)
+    its_generation : StandsForSome (registered s.accounts identifier set) (key.Generation (length s.accounts + 1) 1)
     its_generation = record {
       account = new_account identifier set;
       at = account_last s.accounts (new_account identifier set);
@@ -125,5 +125,5 @@ registered_shows rows s identifier set account generation h p =
       set_is = refl;
     }
 
-    its_account : HasCause (registered s.accounts identifier set) (key.Account (length s.accounts + 1))
+    its_account : StandsForSome (registered s.accounts identifier set) (key.Account (length s.accounts + 1))
     its_account = subst (λ (o : Option Account). IsSome o) (sym (account_last s.accounts (new_account identifier set))) refl

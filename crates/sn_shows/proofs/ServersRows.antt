@@ -13,7 +13,7 @@ use Rattle.sn_rows.specs.declared.value.Value.{Value}
 use Rattle.sn_rows.specs.Facts.{keys_compare, put_apart}
 use Rattle.sn_string.specs.declared.params.KeySet.{KeySet}
 use Rattle.sn_shows.specs.Sets.{set_at}
-use Rattle.sn_shows.specs.Servers.{HasCause, ShowsAccount, ShowsGeneration, ShowsIdentity, ShowsItem, account_at}
+use Rattle.sn_shows.specs.Servers.{StandsForSome, ShowsAccount, ShowsGeneration, ShowsIdentity, ShowsItem, account_at}
 
 -- an account's rows, where they are the same as before
 
@@ -87,7 +87,7 @@ is_there (Some y) x h = refl
 
 -- what causes a row still does
 pub cause_continues : (accounts now : List Account) → ((number : ℕ) (a : Account) → account_at number accounts ≡ Some a → Continues accounts now number a)
-    → (at : Key) → HasCause accounts at → HasCause now at
+    → (at : Key) → StandsForSome accounts at → StandsForSome now at
 cause_continues accounts now each key.Store h = tt
 cause_continues accounts now each (key.Account number) h =
     let there = some_there (account_at number accounts) h in
@@ -105,11 +105,11 @@ cause_continues accounts now each (key.Set slot) h = h
 cause_continues accounts now each (key.Local number) h = h
 
 -- a row that is put has a cause, and the others had theirs
-pub cause_after : (rows : Rows) (accounts : List Account) (change : Change) (at : Key) (v : Value) → Puts change at v → HasCause accounts at
-    → ((other : Key) → IsSome (rows other) → HasCause accounts other)
-    → (other : Key) → IsSome (rows_after rows (change ∷ []) other) → HasCause accounts other
+pub cause_after : (rows : Rows) (accounts : List Account) (change : Change) (at : Key) (v : Value) → Puts change at v → StandsForSome accounts at
+    → ((other : Key) → IsSome (rows other) → StandsForSome accounts other)
+    → (other : Key) → IsSome (rows_after rows (change ∷ []) other) → StandsForSome accounts other
 cause_after rows accounts change at v puts cause before other some =
     elim (cases_Bool (same_key at other)) [
-      | inl same ↦ subst (λ (k : Key). HasCause accounts k) ((keys_compare at other).0 same) cause
+      | inl same ↦ subst (λ (k : Key). StandsForSome accounts k) ((keys_compare at other).0 same) cause
       | inr apart ↦ before other (subst (λ (o : Option Value). IsSome o) (put_apart rows change at other v puts apart) some)
     ]

@@ -89,19 +89,19 @@ pub record IsSet (accounts : List Account) (number generation : ℕ) : Type 0 wh
   pub set_is : set_at generation account.sets ≡ Some set
 
 -- only a server's rows, and each of them for something
-abbrev pub HasCause : List Account → Key → Type 0
-HasCause accounts key.Store = Unit {0}
-HasCause accounts (key.Account number) = IsSome (account_at number accounts)
-HasCause accounts (key.Generation number generation) = IsSet accounts number generation
-HasCause accounts (key.Item uuid) = IsShown accounts uuid
-HasCause accounts key.Owner = ⊥
-HasCause accounts (key.Set slot) = ⊥
-HasCause accounts (key.Local number) = ⊥
+abbrev pub StandsForSome : List Account → Key → Type 0
+StandsForSome accounts key.Store = Unit {0}
+StandsForSome accounts (key.Account number) = IsSome (account_at number accounts)
+StandsForSome accounts (key.Generation number generation) = IsSet accounts number generation
+StandsForSome accounts (key.Item uuid) = IsShown accounts uuid
+StandsForSome accounts key.Owner = ⊥
+StandsForSome accounts (key.Set slot) = ⊥
+StandsForSome accounts (key.Local number) = ⊥
 
 -- all but the store's own row
 pub record ShowsAccounts (rows : Rows) (accounts : List Account) : Type 0 where
   pub each : (number : ℕ) (a : Account) → account_at number accounts ≡ Some a → ShowsAccount rows number a
-  pub no_other : (key : Key) → IsSome (rows key) → HasCause accounts key
+  pub no_other : (key : Key) → IsSome (rows key) → StandsForSome accounts key
 
 -- the store's own row has the greatest stamp, or 0, and counts the accounts; before it stands there is no account
 abbrev pub ShowsStore : Option Value → List Account → Type 0

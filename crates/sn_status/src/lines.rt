@@ -14,7 +14,7 @@ use std::alloc::{AllocError, Global};
 /// Writes the line of a status. Where there is no memory for a line that tells values, the status is want of memory.
 pub fn tell<E: Sink>(alloc: Global, err: &mut E, status: Status) -> Status
     ensures same { IsTold status result }
-    ensures told { Tells (E.held err.old) (E.held err.new) (E.fault_count err.old) (E.fault_count err.new) (line_of result) }
+    ensures line_written { Tells (E.held err.old) (E.held err.new) (E.fault_count err.old) (E.fault_count err.new) (line_of result) }
 {
     match status {
         Status::Done => Status::Done,
@@ -51,7 +51,7 @@ pub fn tell<E: Sink>(alloc: Global, err: &mut E, status: Status) -> Status
 
 fn tell_refusal<E: Sink>(alloc: Global, err: &mut E, refusal: Refusal) -> Status
     ensures same { (result ≡ Status.Refused refusal) ⊎ (result ≡ Status.Memory) }
-    ensures told { Tells (E.held err.old) (E.held err.new) (E.fault_count err.old) (E.fault_count err.new) (line_of result) }
+    ensures line_written { Tells (E.held err.old) (E.held err.new) (E.fault_count err.old) (E.fault_count err.new) (line_of result) }
 {
     match refusal_line(alloc, &refusal) {
         Ok(line) => {
@@ -67,7 +67,7 @@ fn tell_refusal<E: Sink>(alloc: Global, err: &mut E, refusal: Refusal) -> Status
 
 fn tell_unfit<E: Sink>(alloc: Global, err: &mut E, unfit: Unfit) -> Status
     ensures same { (result ≡ Status.Foreign unfit) ⊎ (result ≡ Status.Memory) }
-    ensures told { Tells (E.held err.old) (E.held err.new) (E.fault_count err.old) (E.fault_count err.new) (line_of result) }
+    ensures line_written { Tells (E.held err.old) (E.held err.new) (E.fault_count err.old) (E.fault_count err.new) (line_of result) }
 {
     match unfit_line(alloc, unfit) {
         Ok(line) => {
@@ -83,7 +83,7 @@ fn tell_unfit<E: Sink>(alloc: Global, err: &mut E, unfit: Unfit) -> Status
 
 fn tell_server<E: Sink>(alloc: Global, err: &mut E, status: u16, tag: Text) -> Status
     ensures same { (result ≡ Status.Server status tag) ⊎ (result ≡ Status.Memory) }
-    ensures told { Tells (E.held err.old) (E.held err.new) (E.fault_count err.old) (E.fault_count err.new) (line_of result) }
+    ensures line_written { Tells (E.held err.old) (E.held err.new) (E.fault_count err.old) (E.fault_count err.new) (line_of result) }
 {
     match server_line(alloc, status, &tag) {
         Ok(line) => {
@@ -99,7 +99,7 @@ fn tell_server<E: Sink>(alloc: Global, err: &mut E, status: u16, tag: Text) -> S
 
 fn tell_place<E: Sink>(alloc: Global, err: &mut E, place: Place) -> Status
     ensures same { (result ≡ Status.BadAnswer place) ⊎ (result ≡ Status.Memory) }
-    ensures told { Tells (E.held err.old) (E.held err.new) (E.fault_count err.old) (E.fault_count err.new) (line_of result) }
+    ensures line_written { Tells (E.held err.old) (E.held err.new) (E.fault_count err.old) (E.fault_count err.new) (line_of result) }
 {
     match answer_line(alloc, &place) {
         Ok(line) => {

@@ -9,7 +9,7 @@ use Rattle.uuid.proofs.TextLemmas.{by_index_length}
 use Rattle.sn_string.specs.Grammar.{IsHash, IsUuid, IsIv, joined, colon, parts_of, version}
 use Rattle.sn_string.specs.Hex.{IsLowerHex}
 use Rattle.sn_string.specs.Parts.{IsSix, HasForms}
-use Rattle.sn_string.specs.Refusals.{place_after, Refuses, IsNoParamsPart}
+use Rattle.sn_string.specs.Refusals.{place_after, RefusedFor, IsNoParamsPart}
 use Rattle.sn_string.specs.declared.reader.Six.{Six}
 use Rattle.sn_string.specs.declared.reader.StringError.TheVariants as error
 use Rattle.sn_string.specs.Uuids.{IsUuidText}
@@ -79,9 +79,9 @@ pub params_within : (text v h u i c p : List ℕ) → parts_of text ≡ v ∷ h 
 params_within text v h u i c p parts = omega (arith, params_place text v h u i c p parts)
 
 -- where the other five are in their forms, the last is the leftmost that isn't
-pub Refuses-params : (text : List ℕ) (six : Six) → IsSix text six → HasForms six → IsNoParamsPart six.params_text.now
-    → Refuses (parts_of text) (error.Params (length text - length six.params_text.now))
-Refuses-params text six parts forms none =
-    let P : List (List ℕ) → Type 0 = λ l. Refuses l (error.Params (length text - length six.params_text.now)) in
+pub RefusedFor-params : (text : List ℕ) (six : Six) → IsSix text six → HasForms six → IsNoParamsPart six.params_text.now
+    → RefusedFor (parts_of text) (error.Params (length text - length six.params_text.now))
+RefusedFor-params text six parts forms none =
+    let P : List (List ℕ) → Type 0 = λ l. RefusedFor l (error.Params (length text - length six.params_text.now)) in
     let place = params_place text six.version.now six.hash.now six.uuid.now six.iv.now six.ciphertext.now six.params_text.now parts in
     subst P (sym parts) (forms.version, forms.hash, forms.uuid, forms.iv, forms.ciphertext, none, omega (arith, place))

@@ -9,7 +9,7 @@ use Rattle.sn_string.specs.Grammar.{Is003, Reading, parts_of, version}
 use Rattle.sn_string.specs.Laws.{IsOutcome}
 use Rattle.sn_string.specs.Parameters.{HasParams, IsParamsJson, IsParamsPart}
 use Rattle.sn_string.specs.Parts.{reading_of}
-use Rattle.sn_string.specs.Refusals.{IsRefusal, Refuses, IsLeftmost}
+use Rattle.sn_string.specs.Refusals.{IsRefusal, RefusedFor, IsLeftmost}
 use Rattle.sn_string.specs.declared.params.KeySet.{KeySet}
 use Rattle.sn_string.specs.declared.params.Params.{Params}
 use Rattle.sn_string.specs.declared.reader.Parts.{Parts}
@@ -65,10 +65,10 @@ one_reading text a b h k =
     let params : a.params ≡ b.params = one_params b.params_text a.params b.params (subst P part h.params) k.params in
     λ i. record { hash = hash i; uuid = uuid i; iv = iv i; ciphertext = ciphertext i; params_text = part i; params = params i }
 
-leftmost_of : (text : List ℕ) (r : Reading) (e : StringError) → Is003 text r → Refuses (parts_of text) e
+leftmost_of : (text : List ℕ) (r : Reading) (e : StringError) → Is003 text r → RefusedFor (parts_of text) e
     → IsLeftmost version r.hash r.uuid r.iv r.ciphertext r.params_text e
 leftmost_of text r e h refusal =
-    let P : List (List ℕ) → Type 0 = λ l. Refuses l e in
+    let P : List (List ℕ) → Type 0 = λ l. RefusedFor l e in
     subst P h.parts refusal
 
 -- six parts in their forms are not refused
@@ -141,7 +141,7 @@ one_leftmost v h u i c p (error.Params m) (error.Ciphertext n) x y = absurd (y.4
 one_leftmost v h u i c p (error.Params m) (error.Params n) x y = ap error.Params (x.6 ∙ sym y.6)
 one_leftmost v h u i c p (error.Params m) error.Memory x y = absurd y
 
-one_of : (parts : List (List ℕ)) (a b : StringError) → Refuses parts a → Refuses parts b → a ≡ b
+one_of : (parts : List (List ℕ)) (a b : StringError) → RefusedFor parts a → RefusedFor parts b → a ≡ b
 one_of [] a b x y = x ∙ sym y
 one_of (v ∷ []) a b x y = x ∙ sym y
 one_of (v ∷ h ∷ []) a b x y = x ∙ sym y
@@ -151,7 +151,7 @@ one_of (v ∷ h ∷ u ∷ i ∷ c ∷ []) a b x y = x ∙ sym y
 one_of (v ∷ h ∷ u ∷ i ∷ c ∷ p ∷ []) a b x y = one_leftmost v h u i c p a b x y
 one_of (v ∷ h ∷ u ∷ i ∷ c ∷ p ∷ q ∷ qs) a b x y = x ∙ sym y
 
-refusal_of : (text : List ℕ) (e : StringError) → e ≢ error.Memory → IsRefusal text e → Refuses (parts_of text) e
+refusal_of : (text : List ℕ) (e : StringError) → e ≢ error.Memory → IsRefusal text e → RefusedFor (parts_of text) e
 refusal_of text (error.Parts n) other h = h
 refusal_of text (error.Version n) other h = h
 refusal_of text (error.Hash n) other h = h

@@ -35,11 +35,11 @@ IsLeftmost v h u i c p error.Memory = ⊥
 
 -- the refusal of a text with these parts: their number where they are not six, else the leftmost
 -- part out of form
-abbrev pub Refuses : List (List ℕ) → StringError → Type 0
-Refuses (v ∷ h ∷ u ∷ i ∷ c ∷ p ∷ []) e = IsLeftmost v h u i c p e
-Refuses parts e = e ≡ error.Parts (length parts)
+abbrev pub RefusedFor : List (List ℕ) → StringError → Type 0
+RefusedFor (v ∷ h ∷ u ∷ i ∷ c ∷ p ∷ []) e = IsLeftmost v h u i c p e
+RefusedFor parts e = e ≡ error.Parts (length parts)
 
 -- the text may be refused so; want of memory may come anywhere
 abbrev pub IsRefusal : List ℕ → StringError → Type 0
 IsRefusal text error.Memory = ⊤
-IsRefusal text e = Refuses (parts_of text) e
+IsRefusal text e = RefusedFor (parts_of text) e

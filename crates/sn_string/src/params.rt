@@ -4,7 +4,7 @@ ghost use Rattle.std.specs.Prelude.{◌≡◌, ◌↔◌, IsSome, IfSome, IsTrue
 ghost use Rattle.sn_string.specs.Bounds.{IsIdentifier, IsCost, IsNonce};
 
 use crate::text::Text;
-use crate::twin::Twin;
+use crate::try_clone::TryClone;
 use std::alloc::{AllocError, Global};
 
 /// Auth parameters: the identifier of an account, and the cost and the nonce of its password.
@@ -52,10 +52,10 @@ impl Params {
     }
 }
 
-impl Twin for Params {
-    fn twin(&self, alloc: Global) -> Result<Params, AllocError> {
-        let identifier = self.identifier.twin(alloc)?;
-        let pw_nonce = self.pw_nonce.twin(alloc)?;
+impl TryClone for Params {
+    fn try_clone(&self, alloc: Global) -> Result<Params, AllocError> {
+        let identifier = self.identifier.try_clone(alloc)?;
+        let pw_nonce = self.pw_nonce.try_clone(alloc)?;
         Ok(Params {
             identifier,
             pw_cost: self.pw_cost,
@@ -86,9 +86,9 @@ impl KeySet {
     }
 }
 
-impl Twin for KeySet {
-    fn twin(&self, alloc: Global) -> Result<KeySet, AllocError> {
-        let params = self.params.twin(alloc)?;
+impl TryClone for KeySet {
+    fn try_clone(&self, alloc: Global) -> Result<KeySet, AllocError> {
+        let params = self.params.try_clone(alloc)?;
         Ok(KeySet {
             params,
             pw: self.pw,

@@ -12,7 +12,7 @@ use Rattle.sn_laws.specs.Each.{Each, One}
 use Rattle.sn_laws.specs.Lookups.{Bytes, empty, has_item, is_account, last_of}
 use Rattle.sn_laws.specs.Moves.{after, allows, body_under, changed_where, registered, resealed, sent_content, version_of}
 use Rattle.sn_laws.specs.Reached.{AllDiffer, HasItem}
-use Rattle.sn_laws.specs.Relation.{IsLive, IsSaid, MayAccept, MayRewrap}
+use Rattle.sn_laws.specs.Relation.{IsLive, NamesSet, MayAccept, MayRewrap}
 use Rattle.sn_laws.specs.Runs.{Legal, end}
 use Rattle.sn_laws.specs.declared.ideal.Account.{Account}
 use Rattle.sn_laws.specs.declared.ideal.Body.{Body}
@@ -133,7 +133,7 @@ gained ms uuid a w next old new live legal g tells updates h item = at (bytes_eq
 
 -- ---- each kind of move
 
-said_live : (c : Content) (n : ℕ) (under : Option ℕ) (live : Bool) → live ≡ is_some under → IsSaid n c under → IsTrue live ↔ IsLive (body_under c n)
+said_live : (c : Content) (n : ℕ) (under : Option ℕ) (live : Bool) → live ≡ is_some under → NamesSet n c under → IsTrue live ↔ IsLive (body_under c n)
 said_live (Plain text) n under live is said = (λ k. tt {0}, λ k. is ∙ ap (λ o. is_some o) said)
 said_live Deleted n under live is said = (λ k. clash live k (is ∙ ap (λ o. is_some o) said), λ k. absurd k)
 

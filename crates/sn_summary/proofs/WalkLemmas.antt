@@ -14,7 +14,7 @@ use Rattle.sn_report.specs.declared.report.Event.{Event}
 use Rattle.sn_report.specs.declared.report.Report.{Report}
 use Rattle.sn_summary.specs.Items.{makes_fork, makes_version}
 use Rattle.sn_summary.specs.Summaries.{IsSummaryOf, moves_in}
-use Rattle.sn_summary.specs.Walks.{GoesOn, HoldsDrafts, IsBehind, NotesDrafts, NotesLive, uuid_cmp}
+use Rattle.sn_summary.specs.Walks.{GoesOn, HoldsDrafts, IsAfter, NotesDrafts, NotesLive, uuid_cmp}
 use Rattle.sn_summary.specs.declared.summary.Summary.{Summary}
 use Rattle.sn_summary.specs.declared.walk.Walk.{Walk}
 use Rattle.sn_summary.proofs.LiveLemmas.{are_live}
@@ -36,13 +36,13 @@ stepped old new m live drafts versions forks ms legal h = record {
 }
 
 pub goes_nowhere : (walk : Walk) (moves : List Move) → GoesOn walk walk (take 0 moves)
-goes_nowhere walk moves ms legal h = subst (IsBehind walk) (sym (append-nil ms)) h
+goes_nowhere walk moves ms legal h = subst (IsAfter walk) (sym (append-nil ms)) h
 
 pub goes_further : (first was now : Walk) (some : List Move) (more : List Move) → GoesOn first was some → GoesOn was now more
     → GoesOn first now (some ++ more)
 goes_further first was now some more one two ms legal h =
     let whole : Legal ((ms ++ some) ++ more) = subst Legal (sym (append_assoc ms some more)) legal in
-    subst (IsBehind now) (append_assoc ms some more) (two (ms ++ some) whole (one ms (legal_before empty (ms ++ some) more whole) h))
+    subst (IsAfter now) (append_assoc ms some more) (two (ms ++ some) whole (one ms (legal_before empty (ms ++ some) more whole) h))
 
 pub goes_one_further : (first was now : Walk) (moves : List Move) (i : ℕ) (m : Move) → i < length moves → m ≡ get_or moves i m
     → GoesOn first was (take i moves) → GoesOn was now (m ∷ []) → GoesOn first now (take (i + 1) moves)
@@ -61,20 +61,20 @@ moves_more events i e within is =
     ∙ ap (λ ms. moves_in (take i events) ++ ms) (append-nil (get_or events i e).moves ∙ ap (λ (x : Event). x.moves) (sym is))
 
 pub event_further : (was now : Walk) (events : List Event) (i : ℕ) (e : Event) (moves : List Move) → i < length events → e ≡ get_or events i e
-    → moves ≡ e.moves → Legal (moves_in events) → IsBehind was (moves_in (take i events)) → GoesOn was now moves
-    → IsBehind now (moves_in (take (i + 1) events))
+    → moves ≡ e.moves → Legal (moves_in events) → IsAfter was (moves_in (take i events)) → GoesOn was now moves
+    → IsAfter now (moves_in (take (i + 1) events))
 event_further was now events i e moves within is are legal h goes =
     let next : moves_in (take (i + 1) events) ≡ moves_in (take i events) ++ moves =
     moves_more events i e within is ∙ ap (λ ms. moves_in (take i events) ++ ms) (sym are) in
     let front : Legal (moves_in (take (i + 1) events)) = legal_front events (i + 1) legal in
-    subst (IsBehind now) (sym next) (goes (moves_in (take i events)) (subst Legal next front) h)
+    subst (IsAfter now) (sym next) (goes (moves_in (take i events)) (subst Legal next front) h)
   where
     legal_front : (es : List Event) (n : ℕ) → Legal (moves_in es) → Legal (moves_in (take n es))
     legal_front es n k =
         legal_before empty (moves_in (take n es)) (moves_in (drop n es))
         (subst Legal (ap moves_in (sym (take-append-drop n es)) ∙ flat_map-append (λ (x : Event). x.moves) (take n es) (drop n es)) k)
 
-pub summed : (report : Report) (walk : Walk) (summary : Summary) → IsBehind walk (moves_in report.events) → IsOrdered uuid_cmp walk.live
+pub summed : (report : Report) (walk : Walk) (summary : Summary) → IsAfter walk (moves_in report.events) → IsOrdered uuid_cmp walk.live
     → summary.events ≡ length report.events → summary.items ≡ length (keys walk.live) → summary.versions ≡ walk.versions
     → summary.forks ≡ walk.forks → summary.drafts ≡ length (keys walk.drafts) → IsSummaryOf report summary
 summed report walk summary h ordered events items versions forks drafts = record {

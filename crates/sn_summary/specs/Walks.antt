@@ -79,7 +79,7 @@ pub record TakesKey (old new : BTreeSet DraftKey) (device uuid other : Bytes) : 
 -- ---- the whole
 
 -- the walk has come behind these moves
-pub record IsBehind (walk : Walk) (ms : List Move) : Type 0 where
+pub record IsAfter (walk : Walk) (ms : List Move) : Type 0 where
   pub live : HoldsLive walk.live (end ms).accounts
   pub drafts : HoldsDrafts walk.drafts (end ms).drafts
   pub versions : walk.versions ≡ count_by makes_version ms
@@ -87,4 +87,4 @@ pub record IsBehind (walk : Walk) (ms : List Move) : Type 0 where
 
 -- it goes on by these
 abbrev pub GoesOn : Walk → Walk → List Move → Type 0
-GoesOn old new more = (ms : List Move) → Legal (ms ++ more) → IsBehind old ms → IsBehind new (ms ++ more)
+GoesOn old new more = (ms : List Move) → Legal (ms ++ more) → IsAfter old ms → IsAfter new (ms ++ more)

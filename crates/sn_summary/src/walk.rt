@@ -2,7 +2,7 @@
 
 ghost use Rattle.std.specs.Prelude.{◌≡◌, ◌+◌, ◌∷◌, [], cond, IfOk, OnOk};
 ghost use Rattle.sn_summary.specs.Items.{makes_fork, makes_version};
-ghost use Rattle.sn_summary.specs.Walks.{GoesOn, IsBehind};
+ghost use Rattle.sn_summary.specs.Walks.{GoesOn, IsAfter};
 
 use crate::drafts::{DraftKey, note_drafts};
 use crate::live::note_live;
@@ -50,7 +50,7 @@ fn counted(count: u64, one: bool) -> Result<u64, AllocError>
 impl Walk {
     /// A walk that has come to no moves. Takes no memory.
     pub(crate) fn new(alloc: Global) -> Walk
-        ensures { IsBehind result [] }
+        ensures { IsAfter result [] }
     {
         Walk {
             alloc,

@@ -1,7 +1,7 @@
 //! Answers.
 
 use crate::item::Item;
-use sn_string::{Many, Params, Text};
+use sn_string::{OwnedList, Params, Text};
 use uuid::Uuid;
 
 /// An item of a request that was not accepted.
@@ -36,10 +36,10 @@ pub enum Answer {
     Params(Params),
     /// Stored items are those with stamps: the retrieved, the saved and those of sync conflicts.
     Sync {
-        conflicts: Many<Conflict>,
+        conflicts: OwnedList<Conflict>,
         cursor_token: Option<Text>,
-        retrieved: Many<Item>,
-        saved: Many<Item>,
+        retrieved: OwnedList<Item>,
+        saved: OwnedList<Item>,
         sync_token: Text,
     },
     /// A refusal, whose status isn't 200.

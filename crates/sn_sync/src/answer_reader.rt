@@ -22,7 +22,7 @@ use crate::members::{
 use crate::request::Route;
 use crate::request_reader::body_of;
 use serde_json::Value;
-use sn_string::{Many, Params, Text, uuid_of};
+use sn_string::{OwnedList, Params, Text, uuid_of};
 use std::alloc::{AllocError, Global};
 use uuid::Uuid;
 
@@ -145,7 +145,7 @@ fn synced(alloc: Global, body: &Value) -> Result<Answer, SyncError>
     })
 }
 
-fn conflicts(alloc: Global, body: &Value) -> Result<Many<Conflict>, SyncError>
+fn conflicts(alloc: Global, body: &Value) -> Result<OwnedList<Conflict>, SyncError>
     ensures ok { IfOk result (SaysConflicts (get (codes "conflicts") (view body.now))) }
     ensures err { IfErr result (Caused (RefusesConflictList (get (codes "conflicts") (view body.now)))) }
 {
@@ -155,11 +155,11 @@ fn conflicts(alloc: Global, body: &Value) -> Result<Many<Conflict>, SyncError>
     }
 }
 
-fn conflicts_of(alloc: Global, values: &[Value]) -> Result<Many<Conflict>, SyncError>
+fn conflicts_of(alloc: Global, values: &[Value]) -> Result<OwnedList<Conflict>, SyncError>
     ensures ok { IfOk result (AreConflicts (items_view values.now)) }
     ensures err { IfErr result (Caused (RefusesConflicts (items_view values.now))) }
 {
-    let mut conflicts = Many::new(alloc);
+    let mut conflicts = OwnedList::new(alloc);
     for value in values {
         conflicts.push(conflict(alloc, value)?)?;
     }

@@ -16,7 +16,7 @@ use crate::members::{
     flag_in, kind_in, lacks, optional_in, stamp_in, stamp_text_in, text_or_empty_in, uuid_in,
 };
 use serde_json::Value;
-use sn_string::{Many, Text};
+use sn_string::{OwnedList, Text};
 use std::alloc::Global;
 
 // Where an item stands: in a request, and given back unsaved, or among the account's versions.
@@ -55,7 +55,7 @@ pub(crate) fn sent_items(
     alloc: Global,
     body: &Value,
     name: &'static str,
-) -> Result<Many<Item>, SyncError>
+) -> Result<OwnedList<Item>, SyncError>
     ensures ok { IfOk result (SaysItems sent (get name.now (view body.now))) }
     ensures err { IfErr result (Caused (RefusesList sent name.now (get name.now (view body.now)))) }
 {
@@ -67,7 +67,7 @@ pub(crate) fn stored_items(
     alloc: Global,
     body: &Value,
     name: &'static str,
-) -> Result<Many<Item>, SyncError>
+) -> Result<OwnedList<Item>, SyncError>
     ensures ok { IfOk result (SaysItems stored (get name.now (view body.now))) }
     ensures err { IfErr result (Caused (RefusesList stored name.now (get name.now (view body.now)))) }
 {
@@ -79,7 +79,7 @@ fn list(
     standing: Standing,
     body: &Value,
     name: &'static str,
-) -> Result<Many<Item>, SyncError>
+) -> Result<OwnedList<Item>, SyncError>
     ensures ok { IfOk result (SaysItems (standing_of standing) (get name.now (view body.now))) }
     ensures err { IfErr result (Caused (RefusesList (standing_of standing) name.now (get name.now (view body.now)))) }
 {
@@ -94,11 +94,11 @@ fn items(
     standing: Standing,
     outer: &'static str,
     values: &[Value],
-) -> Result<Many<Item>, SyncError>
+) -> Result<OwnedList<Item>, SyncError>
     ensures ok { IfOk result (AreItems (standing_of standing) (items_view values.now)) }
     ensures err { IfErr result (Caused (RefusesItems (standing_of standing) outer.now (items_view values.now))) }
 {
-    let mut items = Many::new(alloc);
+    let mut items = OwnedList::new(alloc);
     for value in values {
         items.push(item(alloc, standing, outer, value)?)?;
     }

@@ -3,7 +3,7 @@
 ghost use Rattle.std.specs.Prelude.{◌≡◌};
 
 use crate::item::Item;
-use sn_string::{Many, Params, Text};
+use sn_string::{OwnedList, Params, Text};
 
 /// Where a request goes: its method and its path.
 #[derive(Clone, Copy, Debug, PartialEq, Eq)]
@@ -71,7 +71,7 @@ pub enum Request {
     /// The items in the order in which they are to be looked at, and how many the answer may give, 1 to 500.
     Sync {
         token: Text,
-        items: Many<Item>,
+        items: OwnedList<Item>,
         limit: u32,
         sync_token: Option<Text>,
         cursor_token: Option<Text>,

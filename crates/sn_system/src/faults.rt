@@ -1,6 +1,6 @@
 // Errors of the system as faults.
 ghost use Rattle.std.specs.Prelude.{◌≡◌, Ok, IsErr, IfOk, OnOk, OnErr};
-ghost use Rattle.sn_io.specs.Causes.{HasCause, IsRise};
+ghost use Rattle.sn_io.specs.Causes.{CountsFailure, IsRise};
 
 use sn_io::Failed;
 use std::io;
@@ -18,7 +18,7 @@ pub(crate) fn counted<T: Drop>(answer: io::Result<T>, faults: &mut u64) -> Resul
     ensures ok { IfOk answer (λ value. result ≡ Ok value) }
     ensures err { OnErr answer (IsErr result) }
     ensures quiet { OnOk result (faults.new ≡ faults.old) }
-    ensures cause { HasCause faults.old faults.new result }
+    ensures cause { CountsFailure faults.old faults.new result }
 {
     match answer {
         Ok(value) => Ok(value),

@@ -1,6 +1,6 @@
 // Files as disks, kept by their paths.
 ghost use Rattle.std.specs.Prelude.{◌≡◌, ◌↔◌, [], IsTrue, IsErr, OnOk, false};
-ghost use Rattle.sn_io.specs.Causes.{HasCause};
+ghost use Rattle.sn_io.specs.Causes.{CountsFailure};
 ghost use Rattle.sn_disk.specs.Shelf.{unknown};
 
 use crate::faults::{counted, fault};
@@ -40,7 +40,7 @@ impl FileDisk {
         ensures lost { IsErr result ↔ IsTrue self.old.lost }
         ensures stays { self.new.lost ≡ self.old.lost }
         ensures quiet { OnOk result (self.new.faults ≡ self.old.faults) }
-        ensures cause { HasCause self.old.faults self.new.faults result }
+        ensures cause { CountsFailure self.old.faults self.new.faults result }
     {
         if self.lost {
             return Err(fault(&mut self.faults));
@@ -79,7 +79,7 @@ impl Disk for FileDisk {
     }
 
     fn len(&mut self) -> Result<u64, Failed>
-        ensures cause { HasCause self.old.faults self.new.faults result }
+        ensures cause { CountsFailure self.old.faults self.new.faults result }
         ensures quiet { OnOk result (self.new.faults ≡ self.old.faults) }
         ensures lost { IsTrue self.old.lost → IsErr result }
         ensures stays { self.new.lost ≡ self.old.lost }
@@ -90,7 +90,7 @@ impl Disk for FileDisk {
     }
 
     fn read(&mut self, at: u64, into: &mut [u8]) -> Result<(), Failed>
-        ensures cause { HasCause self.old.faults self.new.faults result }
+        ensures cause { CountsFailure self.old.faults self.new.faults result }
         ensures quiet { OnOk result (self.new.faults ≡ self.old.faults) }
         ensures lost { IsTrue self.old.lost → IsErr result }
         ensures stays { self.new.lost ≡ self.old.lost }
@@ -100,7 +100,7 @@ impl Disk for FileDisk {
     }
 
     fn write_at(&mut self, at: u64, bytes: &[u8]) -> Result<(), Failed>
-        ensures cause { HasCause self.old.faults self.new.faults result }
+        ensures cause { CountsFailure self.old.faults self.new.faults result }
         ensures quiet { OnOk result (self.new.faults ≡ self.old.faults) }
         ensures lost { IsTrue self.old.lost → IsErr result }
         ensures stays { self.new.lost ≡ self.old.lost }
@@ -110,7 +110,7 @@ impl Disk for FileDisk {
     }
 
     fn cut(&mut self, len: u64) -> Result<(), Failed>
-        ensures cause { HasCause self.old.faults self.new.faults result }
+        ensures cause { CountsFailure self.old.faults self.new.faults result }
         ensures quiet { OnOk result (self.new.faults ≡ self.old.faults) }
         ensures lost { IsTrue self.old.lost → IsErr result }
         ensures stays { self.new.lost ≡ self.old.lost }
@@ -120,7 +120,7 @@ impl Disk for FileDisk {
     }
 
     fn sync(&mut self) -> Result<(), Failed>
-        ensures cause { HasCause self.old.faults self.new.faults result }
+        ensures cause { CountsFailure self.old.faults self.new.faults result }
         ensures quiet { OnOk result (self.new.faults ≡ self.old.faults) }
         ensures lost { IsTrue self.old.lost → IsErr result }
         // A sync that fails loses the disk.

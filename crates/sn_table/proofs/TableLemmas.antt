@@ -8,7 +8,7 @@ use Rattle.sn_disk.specs.declared.disk.Disk.{Ghosts}
 use Rattle.sn_journal.specs.Image.{IsImage, IsBeforeOrAfter, SameBatches}
 use Rattle.std.specs.declared.alloc.Global.{Global}
 use Rattle.sn_journal.specs.Reading.{AreIn}
-use Rattle.sn_journal.specs.Settled.{IsSettled, IsLoaded as IsJournal, owner_of}
+use Rattle.sn_journal.specs.AtRest.{HasDurably, IsLoaded as IsJournal, owner_of}
 use Rattle.sn_journal.specs.declared.journal.Journal.{Journal}
 use Rattle.sn_table.specs.Reading.{AreRead}
 use Rattle.sn_journal.specs.declared.owner.Owner.{Owner}
@@ -75,7 +75,7 @@ module _ {D : Type 0} {g : Ghosts D} where
   loaded_of owner file alloc journal bytes rows log l own reads is =
       let r = reads l.payloads l.read.read in
       let stands : StandsFor (log_of alloc journal) r.batches = record {
-        settled = subst (λ (ps : List (List ℕ)). IsSettled journal ps) r.are l.read.settled;
+        durably = subst (λ (ps : List (List ℕ)). HasDurably journal ps) r.are l.read.durably;
         each = subst (λ (w : Owner). All (IsBatch w) r.batches) (sym own) r.each;
       } in
       record {
@@ -85,10 +85,10 @@ module _ {D : Type 0} {g : Ghosts D} where
       }
 
   -- one batch more
-  pub stands_more : (old new : Log D g) (batches : List (List Change)) (changes : List Change) (payload : List ℕ) → StandsFor old batches → IsSettled new.journal (map spelled batches ++ payload ∷ []) → payload ≡ spelled changes
+  pub stands_more : (old new : Log D g) (batches : List (List Change)) (changes : List Change) (payload : List ℕ) → StandsFor old batches → HasDurably new.journal (map spelled batches ++ payload ∷ []) → payload ≡ spelled changes
       → log_owner new ≡ log_owner old → IsBatch (log_owner old) changes → StandsFor new (batches ++ changes ∷ [])
   stands_more old new batches changes payload o s is own b = record {
-    settled = subst (IsSettled new.journal) (ap (λ (p : List ℕ). map spelled batches ++ p ∷ []) is ∙ sym (map-append spelled batches (changes ∷ []))) s;
+    durably = subst (HasDurably new.journal) (ap (λ (p : List ℕ). map spelled batches ++ p ∷ []) is ∙ sym (map-append spelled batches (changes ∷ []))) s;
     each = subst (λ (w : Owner). All (IsBatch w) (batches ++ changes ∷ [])) (sym own) (All-push (IsBatch (log_owner old)) batches changes o.each b);
   }
 

@@ -10,7 +10,7 @@ use Rattle.sn_journal.specs.Loading.{IsNoImage}
 use Rattle.sn_journal.specs.declared.error.JournalError.{JournalError}
 use Rattle.sn_journal.specs.declared.error.JournalError.TheVariants.{Foreign, Damaged, DiskFault, Memory}
 use Rattle.sn_journal.specs.Image.{IsImage}
-use Rattle.sn_journal.specs.Settled.{settled_each}
+use Rattle.sn_journal.specs.AtRest.{durable_each}
 use Rattle.sn_journal.specs.declared.owner.Owner.{Owner}
 use Rattle.sn_row_map.specs.RowMaps.{row_in}
 use Rattle.sn_row_map.specs.declared.row_map.RowMap.{RowMap}
@@ -62,7 +62,7 @@ counted_store owner file batches (Err Memory) store found none = absurd none
 module _ {D : Type 0} {g : Ghosts D} where
   -- a crash leaves the batches of a log
   pub log_each : (log : Log D g) (batches : List (List Change)) → StandsFor log batches → (c : List ℕ) → g.may_leave (log_disk log) c → IsStore (log_owner log) c batches
-  log_each log batches stands c left = record { image = settled_each log.journal (map spelled batches) stands.settled c left; each = stands.each }
+  log_each log batches stands c left = record { image = durable_each log.journal (map spelled batches) stands.durably c left; each = stands.each }
 
   -- a crash leaves the batches of a table
   pub open_each : (table : Table D g) (batches : List (List Change)) → IsOpen table batches → (c : List ℕ) → g.may_leave (table_disk table) c → IsStore (table_owner table) c batches

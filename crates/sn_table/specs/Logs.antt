@@ -4,7 +4,7 @@ use Rattle.sn_io.specs.Causes.{Rose}
 use Rattle.sn_disk.specs.declared.disk.Disk.{Ghosts}
 use Rattle.sn_journal.specs.Image.{IsImage}
 use Rattle.sn_journal.specs.Loading.{IsForeign, IsDamaged}
-use Rattle.sn_journal.specs.Settled.{IsSettled, disk_of, owner_of}
+use Rattle.sn_journal.specs.AtRest.{HasDurably, disk_of, owner_of}
 use Rattle.sn_journal.specs.declared.owner.Owner.{Owner}
 use Rattle.sn_row_map.specs.RowMaps.{row_in}
 use Rattle.sn_row_map.specs.declared.row_map.RowMap.{RowMap}
@@ -37,7 +37,7 @@ module _ {D : Type 0} {g : Ghosts D} where
 
   -- its disk has these batches, also after a crash
   pub record StandsFor (log : Log D g) (batches : List (List Change)) : Type 0 where
-    pub settled : IsSettled log.journal (map spelled batches)
+    pub durably : HasDurably log.journal (map spelled batches)
     pub each : All (IsBatch (log_owner log)) batches
 
   -- .. and the rows are those that they leave

@@ -14,7 +14,7 @@ ghost use Rattle.sn_table.specs.declared.reading.Unread.TheVariants.{Memory};
 use sn_journal::{Batches, Owner};
 use sn_row_map::RowMap;
 use sn_rows::{Change, RowError, RowKind};
-use sn_string::Many;
+use sn_string::OwnedList;
 use std::alloc::{AllocError, Global};
 
 /// Why payloads weren't read.
@@ -68,7 +68,11 @@ pub fn are_of(owner: Owner, changes: &[Change]) -> bool
 }
 
 // The batch that a payload spells, if it does.
-fn batch_of(alloc: Global, owner: Owner, payload: &[u8]) -> Result<Option<Many<Change>>, AllocError>
+fn batch_of(
+    alloc: Global,
+    owner: Owner,
+    payload: &[u8],
+) -> Result<Option<OwnedList<Change>>, AllocError>
     ensures { IfOk result (λ found. MatchOption found (IsNoBatch owner payload.now) (λ changes. (payload.now ≡ spelled changes) × IsBatch owner changes)) }
 {
     let changes = match sn_rows::read(alloc, payload) {

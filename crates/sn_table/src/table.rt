@@ -17,7 +17,7 @@ use crate::{CommitError, Committed};
 use sn_disk::{Disk, MemDisk, Stop};
 use sn_row_map::RowMap;
 use sn_rows::{Change, Key, RowKind, Value};
-use sn_string::Many;
+use sn_string::OwnedList;
 use std::alloc::{AllocError, Global};
 
 /// An open table: its log, and the rows that the log's batches leave.
@@ -83,7 +83,7 @@ impl<D: Disk> Table<D> {
     }
 
     /// The rows of a kind, in the order of their keys. The values are copied; beside that the time is logarithmic.
-    pub fn range(&self, kind: RowKind) -> Result<Many<(Key, Value)>, AllocError>
+    pub fn range(&self, kind: RowKind) -> Result<OwnedList<(Key, Value)>, AllocError>
         ensures rows { IfOk result (AreRowsOf (table_rows self.now) kind) }
         ensures kind { IfOk result (λ rows. All (λ row. (key_kind row.0 ≡ kind) × (value_kind row.1 ≡ kind)) rows) }
     {

@@ -5,11 +5,11 @@ use Rattle.std.proofs.lemmas.Bool.{cases_eq}
 use Rattle.std.proofs.lemmas.List.{drop_at, map-append, take-append-le, take_all}
 use Rattle.std.proofs.lemmas.List.Concat.{flat_map-append}
 use Rattle.std.proofs.lemmas.List.Elements.{All-drop, All-nil}
-use Rattle.sn_disk.specs.Courses.{Course}
+use Rattle.sn_disk.specs.Courses.{DiskState}
 use Rattle.sn_disk.specs.Disk.{Only}
 use Rattle.sn_disk.specs.Growth.{Longer, runs_longer}
 use Rattle.sn_disk.specs.Laws.{stays}
-use Rattle.sn_disk.specs.MemDisk.{Grows, HasStopSet, disk_course, disk_told}
+use Rattle.sn_disk.specs.MemDisk.{Grows, HasStopSet, disk_state, disk_told}
 use Rattle.sn_disk.specs.MemShelf.{shelf_slot}
 use Rattle.sn_disk.specs.Shelf.{Slot, holds, out, unknown}
 use Rattle.sn_disk.specs.Steps.{LeftAt, Leaves, Reaches, Step, Told, replayed}
@@ -142,11 +142,11 @@ so_fresh disk owner is = record {
 pub longer_set : (stop : Stop) (old new : MemDisk) → HasStopSet stop old new → Longer (disk_told old) (disk_told new)
 longer_set stop old new set = record { start = ap (λ (t : Told). t.start) set.told; more = []; steps = ap (λ (t : Told). t.steps) set.told ∙ sym (append-nil (disk_told old).steps) }
 
-pub longer_copied : (old new : MemDisk) → disk_course new ≡ disk_course old → Longer (disk_told old) (disk_told new)
-longer_copied old new same = record { start = ap (λ (c : Course). c.told.start) same; more = []; steps = ap (λ (c : Course). c.told.steps) same ∙ sym (append-nil (disk_told old).steps) }
+pub longer_copied : (old new : MemDisk) → disk_state new ≡ disk_state old → Longer (disk_told old) (disk_told new)
+longer_copied old new same = record { start = ap (λ (c : DiskState). c.told.start) same; more = []; steps = ap (λ (c : DiskState). c.told.steps) same ∙ sym (append-nil (disk_told old).steps) }
 
 pub longer_calls : (old new : MemDisk) → Grows old new → Longer (disk_told old) (disk_told new)
-longer_calls old new grows = runs_longer (disk_course old) grows.calls (disk_course new) grows.runs
+longer_calls old new grows = runs_longer (disk_state old) grows.calls (disk_state new) grows.runs
 
 pub longer_on : (a b c : Told) → Longer a b → Longer b c → Longer a c
 longer_on a b c x y = record {

@@ -2,7 +2,7 @@
 ghost use Rattle.std.specs.Prelude.{◌≡◌, ◌⊎◌, ◌≤◌, ◌++◌, [], ◌∷◌, List, ℕ};
 ghost use Rattle.sn_disk.specs.Disk.{Only};
 ghost use Rattle.sn_disk.specs.Growth.{Longer};
-ghost use Rattle.sn_disk.specs.MemDisk.{Grows, HasStopSet, disk_course, disk_told};
+ghost use Rattle.sn_disk.specs.MemDisk.{Grows, HasStopSet, disk_state, disk_told};
 ghost use Rattle.sn_disk.specs.Steps.{Leaves};
 ghost use Rattle.sn_disk.specs.declared.images.Stop.{Stop};
 ghost use Rattle.sn_disk.specs.declared.memory.MemDisk.{MemDisk};
@@ -52,7 +52,7 @@ pub fn stands_then()
 pub fn record_grows()
     ensures calls { (old new : MemDisk) → Grows old new → Longer (disk_told old) (disk_told new) }
     ensures set { (stop : Stop) (old new : MemDisk) → HasStopSet stop old new → Longer (disk_told old) (disk_told new) }
-    ensures copied { (old new : MemDisk) → disk_course new ≡ disk_course old → Longer (disk_told old) (disk_told new) }
+    ensures copied { (old new : MemDisk) → disk_state new ≡ disk_state old → Longer (disk_told old) (disk_told new) }
     ensures on { (a b c : MemDisk) → Longer (disk_told a) (disk_told b) → Longer (disk_told b) (disk_told c) → Longer (disk_told a) (disk_told c) }
     ensures later { (old new : MemDisk) → Longer (disk_told old) (disk_told new) → mark_of old ≤ mark_of new }
 {}

@@ -10,7 +10,7 @@ ghost use Rattle.sn_tail.specs.declared.tails.TailError.TheVariants.{Memory};
 use crate::gates::{from_place, next_batch};
 use sn_journal::Owner;
 use sn_rows::{Change, RowError};
-use sn_string::Many;
+use sn_string::OwnedList;
 use sn_table::are_of;
 use std::alloc::{AllocError, Global};
 use thiserror::Error;
@@ -19,7 +19,7 @@ use thiserror::Error;
 #[derive(Drop)]
 pub struct Tail {
     /// Each batch of changes, the oldest first.
-    pub batches: Many<Many<Change>>,
+    pub batches: OwnedList<OwnedList<Change>>,
     /// Where the next batch is to stand.
     pub gate: u64,
 }
@@ -65,7 +65,7 @@ fn read_behind(alloc: Global, owner: Owner, bytes: &[u8], place: u64) -> Result<
     ensures read { IfOk result (λ tail. IsTail owner bytes.now place tail.batches tail.gate) }
     ensures refused { IfErr result (IsTailError owner bytes.now place) }
 {
-    let mut batches = Many::new(alloc);
+    let mut batches = OwnedList::new(alloc);
     let mut rest = from_place(bytes, place);
     let mut gate = place;
     'batches: while let Some((payload, after)) = next_batch(rest) {
@@ -80,7 +80,7 @@ fn read_behind(alloc: Global, owner: Owner, bytes: &[u8], place: u64) -> Result<
 fn add_batch(
     alloc: Global,
     owner: Owner,
-    batches: &mut Many<Many<Change>>,
+    batches: &mut OwnedList<OwnedList<Change>>,
     gate: u64,
     payload: &[u8],
 ) -> Result<(), TailError>
@@ -95,7 +95,11 @@ fn add_batch(
 }
 
 // The batch that a payload spells, if it does.
-fn batch_of(alloc: Global, owner: Owner, payload: &[u8]) -> Result<Option<Many<Change>>, AllocError>
+fn batch_of(
+    alloc: Global,
+    owner: Owner,
+    payload: &[u8],
+) -> Result<Option<OwnedList<Change>>, AllocError>
     ensures { IfOk result (λ found. MatchOption found (IsNoBatch owner payload.now) (λ changes. (payload.now ≡ spelled changes) × IsBatch owner changes)) }
 {
     let changes = match sn_rows::read(alloc, payload) {

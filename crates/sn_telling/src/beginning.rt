@@ -10,7 +10,7 @@ ghost use Rattle.sn_world.specs.Calls.{IsAskedFor};
 use crate::calling::Calling;
 use sn_row_map::RowMap;
 use sn_rows::{Key, OwnerRow, SetRow, Slot, Value};
-use sn_string::{KeySet, Params, Twin};
+use sn_string::{KeySet, Params, TryClone};
 use sn_sync::Request;
 use std::alloc::{AllocError, Global};
 
@@ -41,7 +41,7 @@ fn set_given(alloc: Global, calling: &Calling) -> Result<Option<KeySet>, AllocEr
     ensures { IfOk result (λ set. set ≡ set_given calling.now) }
 {
     match calling {
-        Calling::Register { set, .. } => set.twin(alloc),
+        Calling::Register { set, .. } => set.try_clone(alloc),
         Calling::SignIn { .. }
         | Calling::Put { .. }
         | Calling::Edit { .. }
@@ -69,8 +69,8 @@ fn asked_in(alloc: Global, rows: &RowMap) -> Result<Option<KeySet>, AllocError>
 fn key_set(alloc: Global, owner: &OwnerRow, keys: &SetRow) -> Result<KeySet, AllocError>
     ensures { IfOk result (IsSetOf owner.now.identifier keys.now) }
 {
-    let identifier = owner.identifier.twin(alloc)?;
-    let nonce = keys.pw_nonce.twin(alloc)?;
+    let identifier = owner.identifier.try_clone(alloc)?;
+    let nonce = keys.pw_nonce.try_clone(alloc)?;
     match Params::new(identifier, keys.pw_cost, nonce) {
         Some(params) => Ok(KeySet {
             params,

@@ -20,7 +20,7 @@ use sn_order::{Kind, kind_of};
 use sn_row_map::RowMap;
 use sn_rows::{Change, Key, LocalItem, Value};
 use sn_saying::{adopted, joined, retired};
-use sn_string::{Many, Text, Twin};
+use sn_string::{OwnedList, Text, TryClone};
 use std::alloc::{AllocError, Global};
 use uuid::Uuid;
 
@@ -32,13 +32,13 @@ pub(crate) fn committed(
     device: &mut RowMap,
     name: &Text,
     calling: &Calling,
-    answer: &Option<Many<u8>>,
-    batches: &[Many<Change>],
-) -> Result<Many<Move>, AllocError>
+    answer: &Option<OwnedList<u8>>,
+    batches: &[OwnedList<Change>],
+) -> Result<OwnedList<Move>, AllocError>
     ensures moves { IfOk result (SaysBatches calling.now (row_in server.now) (row_in device.old) name.now answer.now batches.now) }
     ensures rows { OnOk result (row_in device.new ≡ rows_behind_all (row_in device.old) batches.now) }
 {
-    let mut moves = Many::new(alloc);
+    let mut moves = OwnedList::new(alloc);
     'batches: for batch in batches {
         let changes = batch.as_slice();
         let said = batch_moves(alloc, server, device, name, calling, answer, changes)?;
@@ -55,9 +55,9 @@ fn batch_moves(
     device: &RowMap,
     name: &Text,
     calling: &Calling,
-    answer: &Option<Many<u8>>,
+    answer: &Option<OwnedList<u8>>,
     changes: &[Change],
-) -> Result<Many<Move>, AllocError>
+) -> Result<OwnedList<Move>, AllocError>
     ensures { IfOk result (SaysBatch calling.now (row_in server.now) (row_in device.now) name.now answer.now changes.now) }
 {
     let did = doing_by(alloc, device, calling, answer, changes)?;
@@ -71,7 +71,7 @@ fn doing_by(
     alloc: Global,
     device: &RowMap,
     calling: &Calling,
-    answer: &Option<Many<u8>>,
+    answer: &Option<OwnedList<u8>>,
     changes: &[Change],
 ) -> Result<Doing, AllocError>
     ensures { IfOk result (IsDoing calling.now answer.now (row_in device.now) changes.now) }
@@ -83,7 +83,7 @@ fn doing_by(
         }
         Calling::Put { kind, text } => put(alloc, kind, text, first_item(changes)),
         Calling::Edit { text } => Ok(Doing::Other(Done::Edits {
-            text: text.twin(alloc)?,
+            text: text.try_clone(alloc)?,
         })),
         Calling::Delete => Ok(Doing::Other(Done::Deletes)),
         Calling::Sync => synced(alloc, kind_of(changes), answer),
@@ -96,7 +96,7 @@ fn begun(alloc: Global, identifier: &Text) -> Result<Doing, AllocError>
     ensures { IfOk result (λ did. did ≡ Doing.Begins identifier.now) }
 {
     Ok(Doing::Begins {
-        identifier: identifier.twin(alloc)?,
+        identifier: identifier.try_clone(alloc)?,
     })
 }
 
@@ -130,15 +130,15 @@ fn put(
     match item {
         Some(item) => Ok(Doing::Other(Done::Puts {
             uuid: item.uuid,
-            kind: kind.twin(alloc)?,
-            text: text.twin(alloc)?,
+            kind: kind.try_clone(alloc)?,
+            text: text.try_clone(alloc)?,
         })),
         None => Ok(Doing::Other(Done::Renews)),
     }
 }
 
 // In a sync or a change of password, behind this answer.
-fn synced(alloc: Global, kind: Kind, answer: &Option<Many<u8>>) -> Result<Doing, AllocError>
+fn synced(alloc: Global, kind: Kind, answer: &Option<OwnedList<u8>>) -> Result<Doing, AllocError>
     ensures { IfOk result (IsSynced kind answer.now) }
 {
     match kind {
@@ -185,7 +185,7 @@ fn doing_moves(
     name: &Text,
     did: Doing,
     changes: &[Change],
-) -> Result<Many<Move>, AllocError>
+) -> Result<OwnedList<Move>, AllocError>
     ensures { IfOk result (SaysDoing (row_in server.now) (row_in device.now) name.now did changes.now) }
 {
     match did {
@@ -202,9 +202,9 @@ fn applied(
     server: &RowMap,
     device: &RowMap,
     name: &Text,
-    foreign: Many<Uuid>,
+    foreign: OwnedList<Uuid>,
     changes: &[Change],
-) -> Result<Many<Move>, AllocError>
+) -> Result<OwnedList<Move>, AllocError>
     ensures { IfOk result (λ moves. (later : List Move) × IsRetirement (row_in server.now) (row_in device.now) name.now changes.now later
         × (moves ≡ moves_of (row_in device.now) name.now (Applies foreign) changes.now ++ later)) }
 {

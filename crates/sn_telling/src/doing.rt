@@ -1,7 +1,7 @@
 //! What a device did in a commit.
 
 use sn_moves::Done;
-use sn_string::{Many, Text};
+use sn_string::{OwnedList, Text};
 use uuid::Uuid;
 
 /// What a device did in a commit.
@@ -12,7 +12,7 @@ pub enum Doing {
     /// It adopted its account's last set.
     Adopts,
     /// It applied the answer to a sync, by which another account has these uuids.
-    Applies { foreign: Many<Uuid> },
+    Applies { foreign: OwnedList<Uuid> },
     /// Anything else.
     Other(Done),
 }

@@ -10,7 +10,7 @@ use sn_laws::Move;
 use sn_row_map::RowMap;
 use sn_rows::Change;
 use sn_saying::served;
-use sn_string::{KeySet, Many, Text};
+use sn_string::{KeySet, OwnedList, Text};
 use sn_sync::Request;
 use std::alloc::{AllocError, Global};
 
@@ -23,8 +23,8 @@ pub(crate) fn gained(
     name: &Text,
     begins: Option<&KeySet>,
     request: &Option<Request>,
-    batches: &[Many<Change>],
-) -> Result<Many<Move>, AllocError>
+    batches: &[OwnedList<Change>],
+) -> Result<OwnedList<Move>, AllocError>
     ensures moves { IfOk result (SaysGained (row_in server.old) (row_in device.now) name.now (option_copied begins.entry) request.now batches.now) }
     ensures rows { OnOk result (row_in server.new ≡ rows_behind_all (row_in server.old) batches.now) }
 {
@@ -32,7 +32,7 @@ pub(crate) fn gained(
         Some(request) => all_served(alloc, server, device, name, begins, request, batches),
         None => {
             change_all(alloc, server, batches)?;
-            Ok(Many::new(alloc))
+            Ok(OwnedList::new(alloc))
         }
     }
 }
@@ -45,12 +45,12 @@ fn all_served(
     name: &Text,
     begins: Option<&KeySet>,
     request: &Request,
-    batches: &[Many<Change>],
-) -> Result<Many<Move>, AllocError>
+    batches: &[OwnedList<Change>],
+) -> Result<OwnedList<Move>, AllocError>
     ensures moves { IfOk result (SaysGained (row_in server.old) (row_in device.now) name.now (option_copied begins.entry) (Some request.now) batches.now) }
     ensures rows { OnOk result (row_in server.new ≡ rows_behind_all (row_in server.old) batches.now) }
 {
-    let mut moves = Many::new(alloc);
+    let mut moves = OwnedList::new(alloc);
     'batches: for batch in batches {
         let changes = batch.as_slice();
         let said = served(alloc, server, device, name, begins, request, changes)?;
@@ -60,7 +60,11 @@ fn all_served(
 }
 
 // Changes rows by batches.
-fn change_all(alloc: Global, rows: &mut RowMap, batches: &[Many<Change>]) -> Result<(), AllocError>
+fn change_all(
+    alloc: Global,
+    rows: &mut RowMap,
+    batches: &[OwnedList<Change>],
+) -> Result<(), AllocError>
     ensures { OnOk result (row_in rows.new ≡ rows_behind_all (row_in rows.old) batches.now) }
 {
     'batches: for batch in batches {

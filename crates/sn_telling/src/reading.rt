@@ -10,7 +10,7 @@ use sn_http::{
 };
 use sn_io::{Failed, Source};
 use sn_moves::foreign_in;
-use sn_string::Many;
+use sn_string::OwnedList;
 use sn_sync::answer_laws::{answers_not_refused, one_answer};
 use sn_sync::request_laws::{one_request, requests_not_refused};
 use sn_sync::written_laws::requests_read_back;
@@ -74,23 +74,23 @@ pub(crate) fn request_read(alloc: Global, bytes: &[u8]) -> Result<Option<Request
 /// The uuids that another account has, by the bytes of an answer to a sync. There are none where the bytes are no answer.
 pub(crate) fn foreign_told(
     alloc: Global,
-    answer: &Option<Many<u8>>,
-) -> Result<Many<Uuid>, AllocError>
+    answer: &Option<OwnedList<u8>>,
+) -> Result<OwnedList<Uuid>, AllocError>
     ensures { IfOk result (HasForeign answer.now) }
 {
     match answer {
         Some(bytes) => foreign_read(alloc, bytes.as_slice()),
-        None => Ok(Many::new(alloc)),
+        None => Ok(OwnedList::new(alloc)),
     }
 }
 
-fn foreign_read(alloc: Global, bytes: &[u8]) -> Result<Many<Uuid>, AllocError>
+fn foreign_read(alloc: Global, bytes: &[u8]) -> Result<OwnedList<Uuid>, AllocError>
     ensures { IfOk result (HasForeign (Some bytes.now)) }
 {
     one_answer();
     answers_not_refused();
     let Ok((status, body)) = read_answer(bytes) else {
-        return Ok(Many::new(alloc));
+        return Ok(OwnedList::new(alloc));
     };
     match sn_sync::read_answer(alloc, Route::Sync, status, body) {
         Ok(answer) => foreign_in(alloc, &answer),
@@ -99,11 +99,11 @@ fn foreign_read(alloc: Global, bytes: &[u8]) -> Result<Many<Uuid>, AllocError>
 }
 
 // None, where it isn't memory that was wanting.
-fn none_read(alloc: Global, error: &SyncError) -> Result<Many<Uuid>, AllocError>
+fn none_read(alloc: Global, error: &SyncError) -> Result<OwnedList<Uuid>, AllocError>
     ensures { IfOk result (λ uuids. error.now ≡ SyncError.Memory → ⊥) }
 {
     match error {
         SyncError::Memory => Err(AllocError),
-        _ => Ok(Many::new(alloc)),
+        _ => Ok(OwnedList::new(alloc)),
     }
 }

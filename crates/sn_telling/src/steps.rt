@@ -7,11 +7,11 @@ ghost use Rattle.sn_rows.specs.Table.{rows_after};
 use sn_laws::Move;
 use sn_row_map::RowMap;
 use sn_rows::Change;
-use sn_string::{Many, Twin};
+use sn_string::{OwnedList, TryClone};
 use std::alloc::{AllocError, Global};
 
 /// Adds moves behind others.
-pub(crate) fn push_all(moves: &mut Many<Move>, said: Many<Move>) -> Result<(), AllocError>
+pub(crate) fn push_all(moves: &mut OwnedList<Move>, said: OwnedList<Move>) -> Result<(), AllocError>
     ensures { OnOk result (moves.new ≡ moves.old ++ said) }
 {
     'said: for one in said.into_vec() {
@@ -24,10 +24,10 @@ pub(crate) fn push_all(moves: &mut Many<Move>, said: Many<Move>) -> Result<(), A
 pub(crate) fn change_rows(
     alloc: Global,
     rows: &mut RowMap,
-    batch: &Many<Change>,
+    batch: &OwnedList<Change>,
 ) -> Result<(), AllocError>
     ensures { OnOk result (row_in rows.new ≡ rows_after (row_in rows.old) batch.now) }
 {
-    let changes = batch.twin(alloc)?;
+    let changes = batch.try_clone(alloc)?;
     rows.add_all(changes.into_vec())
 }

@@ -21,15 +21,15 @@ use sn_order::{comes_first, is_sync, kind_of};
 use sn_recorder::Exchanged;
 use sn_row_map::RowMap;
 use sn_rows::Change;
-use sn_string::{KeySet, Many, Text};
+use sn_string::{KeySet, OwnedList, Text};
 use sn_sync::Request;
 use std::alloc::{AllocError, Global};
 
 /// What is told of a call: its moves, and the set that each of its requests would begin, in order.
 #[derive(Drop)]
 pub struct Told {
-    pub moves: Many<Move>,
-    pub begun: Many<Option<KeySet>>,
+    pub moves: OwnedList<Move>,
+    pub begun: OwnedList<Option<KeySet>>,
 }
 
 /// The moves of a call of the device of this name, by the device's batches and the exchanges. The rows of both ends, which
@@ -40,15 +40,15 @@ pub fn call_moves(
     device: &mut RowMap,
     name: &Text,
     calling: &Calling,
-    batches: &[Many<Change>],
+    batches: &[OwnedList<Change>],
     exchanged: &[Exchanged],
 ) -> Result<Told, AllocError>
     ensures { IfOk result (λ told. SaysWalk calling.now name.now (row_in server.old) (row_in device.old) false None batches.now exchanged.now
         told.moves told.begun (row_in server.new) (row_in device.new)) }
 {
     let mut told = Told {
-        moves: Many::new(alloc),
-        begun: Many::new(alloc),
+        moves: OwnedList::new(alloc),
+        begun: OwnedList::new(alloc),
     };
     let none = None;
     let (mut heard, mut answer, mut left) = (false, &none, batches);
@@ -77,8 +77,8 @@ pub fn late_moves(
     name: &Text,
     request: &[u8],
     begins: Option<&KeySet>,
-    batches: &[Many<Change>],
-) -> Result<Many<Move>, AllocError>
+    batches: &[OwnedList<Change>],
+) -> Result<OwnedList<Move>, AllocError>
     ensures moves { IfOk result (λ moves. (found : Option Request) × IsReadAs request.now found
         × SaysGained (row_in server.old) (row_in device.now) name.now (option_copied begins.entry) found batches.now moves) }
     ensures rows { OnOk result (row_in server.new ≡ rows_behind_all (row_in server.old) batches.now) }
@@ -97,8 +97,8 @@ fn push_turn(
     device: &mut RowMap,
     name: &Text,
     calling: &Calling,
-    answer: &Option<Many<u8>>,
-    first: &[Many<Change>],
+    answer: &Option<OwnedList<u8>>,
+    first: &[OwnedList<Change>],
     request: &Option<Request>,
     exchange: &Exchanged,
 ) -> Result<(), AllocError>
@@ -136,7 +136,11 @@ fn asks_sync(request: &Option<Request>) -> bool
 // ---- the batches before it
 
 // The batches that come before the next request, and those that come after it.
-fn split(heard: bool, syncs: bool, batches: &[Many<Change>]) -> (&[Many<Change>], &[Many<Change>])
+fn split(
+    heard: bool,
+    syncs: bool,
+    batches: &[OwnedList<Change>],
+) -> (&[OwnedList<Change>], &[OwnedList<Change>])
     ensures first { result.0.now ≡ front heard syncs batches.now }
     ensures behind { result.1.now ≡ rest heard syncs batches.now }
 {
@@ -144,7 +148,7 @@ fn split(heard: bool, syncs: bool, batches: &[Many<Change>]) -> (&[Many<Change>]
 }
 
 // How many come before it.
-fn front_len(heard: bool, syncs: bool, batches: &[Many<Change>]) -> usize
+fn front_len(heard: bool, syncs: bool, batches: &[OwnedList<Change>]) -> usize
     ensures within { result ≤ length batches.now }
     ensures front { front heard syncs batches.now ≡ take result batches.now }
     ensures rest { rest heard syncs batches.now ≡ drop result batches.now }

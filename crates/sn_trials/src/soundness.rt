@@ -5,7 +5,7 @@ use sn_account::{first_state, first_unsound};
 use sn_rows::{
     AccountRow, Boxed, Change, GenerationRow, ItemRow, Key, Row, RowKind, StoreRow, Value,
 };
-use sn_string::{Many, Text};
+use sn_string::{OwnedList, Text};
 use std::alloc::Global;
 use std::test::Fail;
 use uuid::Uuid;
@@ -404,8 +404,8 @@ static STRINGS: [Made; 6] = [
 ];
 
 // The sound rows, and behind them one change more.
-fn rows_with(alloc: Global, made: &Made) -> Result<Many<Change>, Fail> {
-    let mut rows = Many::new(alloc);
+fn rows_with(alloc: Global, made: &Made) -> Result<OwnedList<Change>, Fail> {
+    let mut rows = OwnedList::new(alloc);
     for row in &SOUND {
         rows.push(change_of(alloc, row)?)?;
     }

@@ -5,7 +5,7 @@ ghost use Rattle.sn_account.specs.States.{IsUnmarked};
 
 use sn_account::State;
 use sn_rows::{AccountRow, Boxed, Change, Key, Row, StoreRow, Value};
-use sn_string::{Many, Text};
+use sn_string::{OwnedList, Text};
 use std::alloc::Global;
 use std::test::Fail;
 
@@ -23,15 +23,15 @@ fn account(alloc: Global, identifier: &str) -> Result<Boxed<AccountRow>, Fail> {
 fn one_account(alloc: Global) -> Result<State, Fail>
     ensures { IfOk result IsUnmarked }
 {
-    let mut rows = Many::new(alloc);
+    let mut rows = OwnedList::new(alloc);
     rows.push((Key::Store, Value::Store(store(1)?)))?;
     rows.push((Key::Account(1), Value::Account(account(alloc, "ann@home")?)))?;
     Ok(State::of(alloc, rows)?)
 }
 
 // Puts a second account, and the store's row that counts it.
-fn second_account(alloc: Global) -> Result<Many<Change>, Fail> {
-    let mut changes = Many::new(alloc);
+fn second_account(alloc: Global) -> Result<OwnedList<Change>, Fail> {
+    let mut changes = OwnedList::new(alloc);
     changes.push(Change::Put(Row {
         key: Key::Account(2),
         value: Value::Account(account(alloc, "bo@home")?),

@@ -7,7 +7,7 @@ use Rattle.sn_account.specs.Lookups.{HasItem}
 use Rattle.sn_laws.proofs.Facts.{allowed_to, found_passes, one_there, same_text}
 use Rattle.sn_laws.specs.Lookups.{Bytes, account_for, account_of, draft_at, greatest, is_of}
 use Rattle.sn_laws.specs.Moves.{allows, body_under, sent_content}
-use Rattle.sn_laws.specs.Relation.{IsNewStamp, IsOnLast, IsSaid}
+use Rattle.sn_laws.specs.Relation.{IsNewStamp, IsOnLast, NamesSet}
 use Rattle.sn_laws.specs.declared.ideal.Account.{Account}
 use Rattle.sn_laws.specs.declared.ideal.Content.{Content}
 use Rattle.sn_laws.specs.declared.ideal.Content.TheVariants as content
@@ -46,7 +46,7 @@ abbrev pub said : ℕ → Content → Option ℕ
 said n (content.Plain text) = Some n
 said n content.Deleted = None
 
-said_so : (n : ℕ) (c : Content) → IsSaid n c (said n c)
+said_so : (n : ℕ) (c : Content) → NamesSet n c (said n c)
 said_so n (content.Plain text) = refl
 said_so n content.Deleted = refl
 

@@ -21,7 +21,7 @@ use Rattle.sn_world.specs.Calls.{AreServed, Fate, IsServed, Leads, call_steps, c
 use Rattle.sn_world.specs.Happens.{makes, serves}
 use Rattle.sn_world.specs.Holds.{Holds, TokensDiffer}
 use Rattle.sn_world.specs.Laws.{Keeps, SaysSome}
-use Rattle.sn_world.specs.Making.{Makes, MakesOf}
+use Rattle.sn_world.specs.Making.{MakesRequest, MakesOf}
 use Rattle.sn_world.specs.Serving.{SaysServed, Serves}
 use Rattle.sn_world.specs.World.{Made, World}
 
@@ -35,7 +35,7 @@ abbrev pub served_world : World → Made → List Change → World
 served_world v m changes = record { server = rows_after v.server changes; devices = v.devices; made = m ∷ v.made }
 
 pub makes_so : (v : World) (name : Bytes) (begins : Option KeySet) (r : Request) (rows : Rows) → v.devices name ≡ rows → MakesOf rows begins r
-    → Makes v (made_world v (made_of name begins r)) (made_of name begins r)
+    → MakesRequest v (made_world v (made_of name begins r)) (made_of name begins r)
 makes_so v name begins r rows device_is of =
     record { of = subst (λ (x : Rows). MakesOf x begins r) (sym device_is) of; server = refl; devices = refl; made = refl }
 

@@ -36,7 +36,7 @@ use Rattle.sn_world.specs.Committing.{MayBegin, SaysJoin}
 use Rattle.sn_world.specs.Holds.{DeviceToken, Holds, NumbersOf}
 use Rattle.sn_world.specs.Laws.{KeptBy}
 use Rattle.sn_client.specs.States.{IsFresh, IsSound, OwnerColumns}
-use Rattle.sn_client.specs.Steps.{Begins}
+use Rattle.sn_client.specs.Steps.{BeginsDevice}
 use Rattle.sn_world.specs.World.{OnDevice, World}
 
 -- an account that has a number is found by its identifier
@@ -83,7 +83,7 @@ fresh_none rows s name fresh shows = by (device_named s name) refl shows
         absurd (cc)
 
 module _ (apart : AccountsApart) (law : JoinedShows) (keeps : JoinKeeps) (secret : Bytes) (w next : World) (s : Ideal) (h : Holds secret w s) (name : Bytes)
-    (set : KeySet) (uuid token : Bytes) (changes : List Change) (fresh : IsFresh (w.devices name)) (x : Begins set uuid token changes)
+    (set : KeySet) (uuid token : Bytes) (changes : List Change) (fresh : IsFresh (w.devices name)) (x : BeginsDevice set uuid token changes)
     (may : MayBegin secret s set uuid token) (sound : IsSound (rows_after (w.devices name) (x.owner ∷ x.present ∷ []))) (on : OnDevice w next name changes) where
   abbrev rows : Rows
   rows = rows_after (w.devices name) (x.owner ∷ x.present ∷ [])

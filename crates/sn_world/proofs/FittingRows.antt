@@ -26,7 +26,7 @@ use Rattle.sn_sync.specs.declared.request.Request.TheVariants as request
 use Rattle.sn_client.specs.Laws.{FreshIsSound, StepsStaySound}
 use Rattle.sn_client.specs.Sending.{Posts}
 use Rattle.sn_client.specs.States.{Bytes, Columns, HasLocal, HasOwner, HasSet, IsFresh, IsInSlot, IsSound}
-use Rattle.sn_client.specs.Steps.{Adopts, AppliesAnswer, AppliesTo, Asks, Begins, Deletes, Forgets, Step, What, adopts, applies, asks, begins, deletes, edits, forgets, posts, puts, renews}
+use Rattle.sn_client.specs.Steps.{Adopts, AppliesAnswer, AppliesTo, Asks, BeginsDevice, Deletes, Forgets, Step, What, adopts, applies, asks, begins, deletes, edits, forgets, posts, puts, renews}
 use Rattle.sn_client.proofs.Facts.{IsKept, Parts, Stand, adopted, apply_parts, apply_stands, begin_empty, delete_parts, delete_stands, edit_parts, edit_stands, item_after, new_stands, parts_keep, past_asked, post_parts, post_stands, put_parts, renew_parts}
 use Rattle.sn_world.specs.Fitting.{FitsPasswords, FitsUuids, FitsWhat, FreshFits, StepsFit, StepsFitUuids}
 
@@ -193,7 +193,7 @@ apply_passwords rows words left (request.SignIn identifier pw) given changes fit
 apply_passwords rows words left (request.ChangePw token current pw cost nonce) given changes fits s = absurd s
 
 -- the first rows
-module _ (rows : Rows) (fresh : IsFresh rows) (set : KeySet) (account token : Bytes) (changes : List Change) (b : Begins set account token changes)
+module _ (rows : Rows) (fresh : IsFresh rows) (set : KeySet) (account token : Bytes) (changes : List Change) (b : BeginsDevice set account token changes)
     (fits : AreBytes 32 set.pw) where
   abbrev begun : Rows
   begun = rows_after rows (b.owner ∷ b.present ∷ [])

@@ -26,7 +26,7 @@ use Rattle.sn_world.proofs.Tokens.{alive_last, device_account, held_within, toke
 use Rattle.sn_world.specs.Holds.{BeginsSet, DeviceToken, HasToken, Holds, HoldsChange, HoldsSync, IsSync, TokensDiffer}
 use Rattle.sn_world.specs.Laws.{KeepsMaking}
 use Rattle.sn_world.specs.Live.{KnownBelow, LiveItems}
-use Rattle.sn_world.specs.Making.{IsSentOf, Makes, MakesChange, MakesLive, MakesOf, MakesSync}
+use Rattle.sn_world.specs.Making.{IsSentOf, MakesRequest, MakesChange, MakesLive, MakesOf, MakesSync}
 use Rattle.sn_world.specs.World.{IsMade, Made, World}
 
 one_owner : (x y : OwnerRow) (found : Option Value) → found ≡ Some (value.Owner x) → found ≡ Some (value.Owner y) → x ≡ y
@@ -142,7 +142,7 @@ module _ (apart : AccountsApart) (live_law : MakesLive) (secret : Bytes) (w : Wo
       }
 
 module _ (apart : AccountsApart) (live_law : MakesLive) (secret : Bytes) (w next : World) (s : Ideal) (m : Made) (differ : TokensDiffer secret) (h : Holds secret w s)
-    (x : Makes w next m) where
+    (x : MakesRequest w next m) where
   -- a request of the new list is an old one or this
   which : (P : Made → Type 0) → P m → ((o : Made) → IsMade w o → P o) → (o : Made) → One (λ z. z ≡ o) (m ∷ w.made) → P o
   which P new old o one = ⊎_elim (λ (e : m ≡ o). subst P e new) (λ rest. old o rest) one

@@ -2,7 +2,7 @@
 use Rattle.std.proofs.Common.{◌≡◌, ℕ, [], ◌∷◌, length, Some, refl, sym, ap, ◌∙◌, inr, subst}
 use Rattle.sn_account.specs.Incoming.{Progress, TakesNew, stamp_of}
 use Rattle.sn_account.specs.Incoming.{PutsVersion as RulePuts}
-use Rattle.sn_changed.specs.Laws.{IsRewrapped, IsSealedAgain, MeetsBehind}
+use Rattle.sn_changed.specs.Laws.{IsRewrapped, IsVersionSealedAgain, MeetsBehind}
 use Rattle.sn_changed.specs.Leaves.{ComesLast, OnlyBecomes, resealed_at, with_version}
 use Rattle.sn_laws.proofs.Facts.{last_among, one_there}
 use Rattle.sn_laws.specs.Lookups.{Bytes, greatest, last_of}
@@ -45,7 +45,7 @@ module _ (low : Below) (p q : Progress) (device : Rows) (s : Ideal) (name : Byte
     apart = apart;
     at = v.at;
     last = last;
-    again = subst (λ (b : Account). IsSealedAgain b x.version i) is_own x.again;
+    again = subst (λ (b : Account). IsVersionSealedAgain b x.version i) is_own x.again;
   }
 
   abbrev next : Ideal

@@ -25,7 +25,7 @@ use Rattle.sn_world.specs.Committing.{AreDifferent, Commits}
 use Rattle.sn_world.specs.Happens.{Happens, Trace, commits, makes, serves}
 use Rattle.sn_world.specs.Holds.{Holds, TokensDiffer}
 use Rattle.sn_world.specs.Laws.{KeepsCommitting, KeepsMaking, KeepsServing, SaysSome, SendsArePosted, ServedTells}
-use Rattle.sn_world.specs.Making.{Makes, MakesOf, SendsTokens}
+use Rattle.sn_world.specs.Making.{MakesRequest, MakesOf, SendsTokens}
 use Rattle.sn_world.specs.Rounds.{RoundsGo, posting_steps}
 use Rattle.sn_world.specs.Serving.{SaysServed, Serves}
 use Rattle.sn_world.specs.World.{Made, OnDevice, World}
@@ -86,7 +86,7 @@ module _ (laws : RoundLaws) (secret : Bytes) (differ : TokensDiffer secret) (nam
   goes_on_applied (request.Sync token items limit sync_token cursor_token) (answer.Sync conflicts cursor retrieved saved next_token) fits makes_it apart tokens rule step =
       let r : Request = request.Sync token items limit sync_token cursor_token in
       let given : Answer = answer.Sync conflicts cursor retrieved saved next_token in
-      let makes_so : Makes w (made r) (m r) = record { of = makes_it; server = refl; devices = refl; made = refl } in
+      let makes_so : MakesRequest w (made r) (m r) = record { of = makes_it; server = refl; devices = refl; made = refl } in
       let h_made : Holds secret (made r) s = laws.make secret w (made r) s (m r) differ h makes_so in
       let serves_so : Serves (made r) (served r) (m r) now changes given =
       record { made = inl refl; fits = fits; rule = rule; on = record { server = refl; devices = refl; made = refl } } in

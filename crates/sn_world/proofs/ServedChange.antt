@@ -8,7 +8,7 @@ use Rattle.sn_adopted.specs.Moves.{OlderStale}
 use Rattle.sn_changed.proofs.Facts.{is_one_of, named_one_of, was_one_of}
 use Rattle.sn_changed.specs.Laws.{ChangeServed, IsAsked, IsChanged, IsRefused, next_set}
 use Rattle.sn_changed.specs.Leaves.{ComesNext, OnlyBecomes, WasLast, with_set}
-use Rattle.sn_changed.specs.Sessions.{IsSessionBehind}
+use Rattle.sn_changed.specs.Sessions.{IsSessionAfter}
 use Rattle.sn_items.specs.declared.sealed.Sealed.{Sealed}
 use Rattle.sn_laws.proofs.Facts.{allowed_from, one_there}
 use Rattle.sn_laws.specs.Lookups.{Bytes, account_named, device_named, greatest}
@@ -130,7 +130,7 @@ module _ (low : Below) (secret : Bytes) (w next : World) (s : Ideal) (differ : T
   secret_is : store.secret ≡ secret
   secret_is = h.keeps_secret store stands
 
-  behind : (t : Bytes) (owner : ℕ) → IsSession server t owner → IsSessionBehind w.server store number a t owner
+  behind : (t : Bytes) (owner : ℕ) → IsSession server t owner → IsSessionAfter w.server store number a t owner
   behind t owner session = (low.change_sessions w.server store s token current set changes given stands y t owner).0 session
 
   -- no token that was sent is of the new set

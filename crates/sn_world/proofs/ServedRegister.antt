@@ -5,7 +5,7 @@ use Rattle.std.proofs.lemmas.List.{append-nil}
 use Rattle.std.proofs.lemmas.List.Concat.{flat_map-cons}
 use Rattle.std.specs.Prelude.{IsTrue, map}
 use Rattle.sn_account.specs.Lookups.{HasStore, IsUnknown}
-use Rattle.sn_account.specs.Rules.{Begins, Registers}
+use Rattle.sn_account.specs.Rules.{BeginsAccount, Registers}
 use Rattle.sn_account.specs.Rule.{Rule}
 use Rattle.sn_account.specs.Sessions.{IsSession, account_uuid, session_token}
 use Rattle.sn_account.specs.Sound.{IsSound as IsSoundServer, most_accounts, most_generations}
@@ -63,7 +63,7 @@ same_stamps accounts identifier set =
 
 module _ (one_token : HasOneToken) (store_law : StoreShows) (register_law : RegisteredShows) (keeps_law : RegisterKeeps) (secret : Bytes) (w next : World) (s : Ideal) (h : Holds secret w s)
     (store : StoreRow) (stands : HasStore w.server store) (params : Params) (pw : Bytes) (changes : List Change) (given : Answer)
-    (unknown : IsUnknown w.server params.identifier) (room : store.accounts < most_accounts) (x : Begins store params pw changes given)
+    (unknown : IsUnknown w.server params.identifier) (room : store.accounts < most_accounts) (x : BeginsAccount store params pw changes given)
     (set : KeySet) (params_are : params ≡ set.params) (pw_is : pw ≡ set.pw) (on : OnServer w next changes) (sound : IsSoundServer (rows_after w.server changes)) where
   abbrev identifier : Bytes
   identifier = params.identifier

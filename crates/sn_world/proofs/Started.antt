@@ -17,7 +17,7 @@ use Rattle.sn_rows.specs.declared.value.Value.{Value}
 use Rattle.sn_rows.specs.declared.value.Value.TheVariants as value
 use Rattle.sn_shows.specs.Laws.{StoreShows}
 use Rattle.sn_sync.specs.Laws.{HasOneToken}
-use Rattle.sn_shows.specs.Servers.{HasCause, ShowsStore, account_at, stamps_in}
+use Rattle.sn_shows.specs.Servers.{StandsForSome, ShowsStore, account_at, stamps_in}
 use Rattle.sn_world.proofs.Frames.{ServerFrame, same_world, server_kept}
 use Rattle.sn_world.specs.Laws.{KeptBy}
 use Rattle.sn_world.proofs.ServedSync.{one_store}
@@ -62,10 +62,10 @@ module _ (one_token : HasOneToken) (law : StoreShows) (secret : Bytes) (w next :
   nothing : (k : Key) (found : Option Value) → w.server k ≡ found → found ≡ None
   nothing k None e = refl
   nothing k (Some v) e =
-      let cause : HasCause s.accounts k = h.server.all.no_other k (subst (λ (o : Option Value). IsSome o) (sym e) refl) in
-      absurd (by k e (subst (λ (xs : List Account). HasCause xs k) empty cause))
+      let cause : StandsForSome s.accounts k = h.server.all.no_other k (subst (λ (o : Option Value). IsSome o) (sym e) refl) in
+      absurd (by k e (subst (λ (xs : List Account). StandsForSome xs k) empty cause))
     where
-      by : (at : Key) → w.server at ≡ Some v → HasCause [] at → ⊥
+      by : (at : Key) → w.server at ≡ Some v → StandsForSome [] at → ⊥
       by key.Store there c = no_store (w.server key.Store) x.none s.accounts h.server.store v there
       by (key.Account n) there c = none_there n c
       by (key.Generation n g) there c = nobody n [] c.account refl c.at

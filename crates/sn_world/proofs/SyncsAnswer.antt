@@ -42,7 +42,7 @@ use Rattle.sn_world.proofs.PlainKept.{trace_plain}
 use Rattle.sn_world.proofs.PresentSets.{unasked}
 use Rattle.sn_world.proofs.Reaching.{Reaches, Ready, over_posting, ready_at, requests_of, rounds_reach, sound_at}
 use Rattle.sn_world.proofs.RoundLemmas.{RoundLaws, sent_of}
-use Rattle.sn_world.specs.Answering.{Arrives, Behind, SyncEnds, SyncsAnswer, TracedSyncsAnswer, requests_in}
+use Rattle.sn_world.specs.Answering.{Arrives, AfterRounds, SyncEnds, SyncsAnswer, TracedSyncsAnswer, requests_in}
 use Rattle.sn_world.specs.Calls.{AreServed, Fate, crashed, rows_served, served, undelivered}
 use Rattle.sn_world.specs.Committing.{AreDifferent}
 use Rattle.sn_world.specs.Delivered.{CallsFit, FirstFits, TracesFit}
@@ -115,7 +115,7 @@ module _ (laws : RoundLaws) (keeps : Keeps) (says : SaysSome) (plainly : KeepsPl
   stops what changes halt fits (inr (inl (large, is))) = absurd (large fits)
   stops what changes halt fits (inr (inr is)) = wants halt is
 
-  module _ (b : Behind rows words acts) (x : Reaches laws keeps says plainly secret differ name first b.at b.later fates) where
+  module _ (b : AfterRounds rows words acts) (x : Reaches laws keeps says plainly secret differ name first b.at b.later fates) where
     abbrev server : Rows
     server = rows_served first x.met
 
@@ -310,7 +310,7 @@ served_answers laws keeps says plainly plain_rows rise one_stamp secret w s name
     let e : ExchangesAlone (w.devices name) words acts halt =
     synced_alone (w.devices name) words one sets acts halt (unasked (w.devices name) one sets (h.plain.unasked name) holds) syncs in
     let start : Standing = record { rows = w.devices name; words = words; last = None } in
-    let b : Behind (w.devices name) words acts = record { rounds = e.rounds; at = e.at; went = e.went; later = e.later; acts_are = e.acts_are } in
+    let b : AfterRounds (w.devices name) words acts = record { rounds = e.rounds; at = e.at; went = e.went; later = e.later; acts_are = e.acts_are } in
     let x = rounds_reach laws keeps says plainly secret differ name e.rounds start e.at e.later w s w.server fates
     (record { holds = h.holds; server_is = refl; device_is = refl }) h.plain have e.went
     (subst (λ (xs : List Act). AreServed w.server xs fates) e.acts_are over) arrive in

@@ -57,7 +57,7 @@ requests_in (committed what changes ∷ acts) = requests_in acts
 requests_in (asked r reply ∷ acts) = 1 + requests_in acts
 
 -- behind the exchanges whose answers were applied, with what is done after them
-pub record Behind (rows : Rows) (words : ChaCha) (acts : List Act) : Type 0 where
+pub record AfterRounds (rows : Rows) (words : ChaCha) (acts : List Act) : Type 0 where
   pub rounds : List Round
   pub at : Standing
   pub went : AreRounds (record { rows = rows; words = words; last = None }) rounds at
@@ -77,14 +77,14 @@ pub record Asks (at : Standing) (later : List Act) (given : Answer) : Type 0 whe
 
 -- it is answered: the last answer has no cursor, and nothing waits
 pub record IsAnswered (rows : Rows) (words : ChaCha) (acts : List Act) (halt : Halt) : Type 0 where
-  pub behind : Behind rows words acts
+  pub behind : AfterRounds rows words acts
   pub no_more : behind.later ≡ []
   pub done : IsDone behind.at.rows behind.at.last
   pub is : halt ≡ answered nothing behind.at.words
 
 -- as many requests were made as a call may make, and one more is due
 pub record UsesRounds (rows : Rows) (words : ChaCha) (acts : List Act) (halt : Halt) : Type 0 where
-  pub behind : Behind rows words acts
+  pub behind : AfterRounds rows words acts
   pub no_more : behind.later ≡ []
   pub all : requests_in acts ≡ most_exchanges
   pub due : IsDue behind.at.rows behind.at.last
@@ -93,7 +93,7 @@ pub record UsesRounds (rows : Rows) (words : ChaCha) (acts : List Act) (halt : H
 -- the last answer passes the device's checks, but at one of the versions that it tells a new row is due and the local numbers are used up, or a fresh uuid
 -- is and items have all sixteen that are drawn
 pub record RanOut (rows : Rows) (words : ChaCha) (acts : List Act) (halt : Halt) : Type 0 where
-  pub behind : Behind rows words acts
+  pub behind : AfterRounds rows words acts
   pub conflicts : List Conflict
   pub cursor : Option Bytes
   pub retrieved : List Item
@@ -110,7 +110,7 @@ pub record RanOut (rows : Rows) (words : ChaCha) (acts : List Act) (halt : Halt)
 
 -- the server refuses the last request, with the last stamp that it gave: it would accept an item of it with a stamp past the last of all
 pub record StampsUsed (server rows : Rows) (words : ChaCha) (acts : List Act) (fates : List Fate) (halt : Halt) : Type 0 where
-  pub behind : Behind rows words acts
+  pub behind : AfterRounds rows words acts
   pub met : List Fate
   pub store : StoreRow
   pub stands : HasStore (rows_served server met) store

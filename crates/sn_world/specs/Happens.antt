@@ -8,7 +8,7 @@ use Rattle.sn_rows.specs.declared.change.Change.{Change}
 use Rattle.sn_sync.specs.declared.answer.Answer.{Answer}
 use Rattle.sn_world.specs.Committing.{Commits, MayCommit, SaysCommit}
 use Rattle.sn_world.specs.First.{Starts}
-use Rattle.sn_world.specs.Making.{Makes}
+use Rattle.sn_world.specs.Making.{MakesRequest}
 use Rattle.sn_world.specs.Serving.{SaysServed, Serves}
 use Rattle.sn_client.specs.Steps.{What}
 use Rattle.sn_world.specs.World.{Made, World}
@@ -27,7 +27,7 @@ pub data Happens : Type 0 where
 -- the step leads from the one world to the other, while the ideal state is this
 abbrev pub Does : Bytes → World → Ideal → Happens → World → Type 0
 Does secret w s (starts changes true) next = Starts w next secret changes
-Does secret w s (makes m) next = Makes w next m
+Does secret w s (makes m) next = MakesRequest w next m
 Does secret w s (serves m now changes given true) next = Serves w next m now changes given
 Does secret w s (commits name what changes true) next = Commits w next name what changes × MayCommit secret w.server (w.devices name) s name what
 Does secret w s (starts changes false) next = next ≡ w

@@ -39,7 +39,7 @@ use Rattle.sn_world.specs.First.{Starts}
 use Rattle.sn_world.specs.Happens.{Does, Happens, Says, Trace}
 use Rattle.sn_world.specs.Holds.{Holds, IsSync, TokensDiffer}
 use Rattle.sn_world.specs.Applying.{Tells}
-use Rattle.sn_world.specs.Making.{HasTokens, IsSentOf, Makes, MakesChange, MakesOf, SendsPosted, SendsTokens}
+use Rattle.sn_world.specs.Making.{HasTokens, IsSentOf, MakesRequest, MakesChange, MakesOf, SendsPosted, SendsTokens}
 use Rattle.sn_world.specs.Pulled.{HasAll, StandOnLasts}
 use Rattle.sn_world.specs.Serving.{SaysServed, Serves}
 use Rattle.sn_world.specs.World.{Made, OnDevice, World, at_first}
@@ -116,7 +116,7 @@ ServedTells = (secret : Bytes) (w next : World) (s : Ideal) (m : Made) (token : 
 
 -- a request that a device's rows give, delivered or not
 abbrev pub KeepsMaking : Type 0
-KeepsMaking = (secret : Bytes) (w next : World) (s : Ideal) (m : Made) → TokensDiffer secret → Holds secret w s → Makes w next m → Holds secret next s
+KeepsMaking = (secret : Bytes) (w next : World) (s : Ideal) (m : Made) → TokensDiffer secret → Holds secret w s → MakesRequest w next m → Holds secret next s
 
 -- what a round of a device's sync posts and sends: no draft is posted twice, the request is of rows that are posted or to be sealed again, and from their
 -- tokens on, and its items have different uuids

@@ -1,7 +1,7 @@
 -- What an item of a sync may be that was made, wherever the server still takes its session token.
 use Rattle.std.specs.Prelude.{◌≡◌, ◌≢◌, ◌⊎◌, ℕ, ◌≤◌, List, Option, Some}
 use Rattle.sn_account.specs.Incoming.{Names, SameVersion}
-use Rattle.sn_changed.specs.Laws.{IsSealedAgain}
+use Rattle.sn_changed.specs.Laws.{IsVersionSealedAgain}
 use Rattle.sn_laws.specs.Each.{Each}
 use Rattle.sn_laws.specs.Lookups.{Bytes, last_of}
 use Rattle.sn_laws.specs.declared.ideal.Account.{Account}
@@ -53,7 +53,7 @@ pub record IsRewrap (accounts : List Account) (n : ℕ) (i : Item) : Type 0 wher
   pub version : Version
   pub last : last_of i.uuid account.versions ≡ Some version
   pub names : NamesStamp i version.stamp
-  pub again : IsSealedAgain account version i
+  pub again : IsVersionSealedAgain account version i
 
 -- it changes nothing, or it may be accepted as what the device has sent, or is its last version, sealed again
 abbrev pub LiveItem : Option Value → Rows → List Account → ℕ → Item → Type 0

@@ -84,7 +84,7 @@ MakesOf device begins (request.ChangePw token current pw cost nonce) = MakesChan
 MakesOf device begins (request.Sync token items limit sync_token cursor_token) = MakesSync device token items
 
 -- it joins those that were made, delivered or not
-pub record Makes (w next : World) (m : Made) : Type 0 where
+pub record MakesRequest (w next : World) (m : Made) : Type 0 where
   pub of : MakesOf (w.devices m.device) m.begins m.request
   pub server : next.server ≡ w.server
   pub devices : next.devices ≡ w.devices

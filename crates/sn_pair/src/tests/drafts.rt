@@ -7,7 +7,7 @@ use sn_http::{Carry, Incoming, read_message};
 use sn_io::MemSource;
 use sn_items::Words;
 use sn_net::MemLink;
-use sn_string::{Bytes, Many};
+use sn_string::{Bytes, OwnedList};
 use sn_sync::{Body, Item, Request, Route, read_request};
 use std::alloc::Global;
 use std::test::Fail;
@@ -66,7 +66,7 @@ pub(crate) fn sent_item(alloc: Global) -> Result<Item, Fail> {
 }
 
 // The items that a sync sends.
-fn items_of(request: Request) -> Result<Many<Item>, Fail> {
+fn items_of(request: Request) -> Result<OwnedList<Item>, Fail> {
     match request {
         Request::Sync { items, .. } => Ok(items),
         _ => Err("no sync was sent".into()),

@@ -8,7 +8,7 @@ use sn_journal::Owner;
 use sn_rows::{
     Boxed, Change, Key, LocalItem, OwnerRow, Row, RowBody, RowKind, RowStrings, SetRow, Slot, Value,
 };
-use sn_string::{Many, Text};
+use sn_string::{OwnedList, Text};
 use sn_table::{Committed, are_of, load};
 use std::alloc::Global;
 use std::test::Fail;
@@ -142,9 +142,9 @@ fn first(base: Option<u64>, stale: bool, body: Part, latest: Part, posted: Part)
 }
 
 // An account with its set, an item that stands on a version, and a new one.
-fn settled(alloc: Global) -> Result<Many<Change>, Fail> {
+fn settled(alloc: Global) -> Result<OwnedList<Change>, Fail> {
     let own = Part::Sealed(1, 1);
-    let mut rows = Many::new(alloc);
+    let mut rows = OwnedList::new(alloc);
     rows.push(owner(alloc, 3)?)?;
     rows.push(set(alloc, Slot::Present)?)?;
     rows.push(put(
@@ -156,14 +156,14 @@ fn settled(alloc: Global) -> Result<Many<Change>, Fail> {
 }
 
 // The same in a change of password.
-fn changing(alloc: Global) -> Result<Many<Change>, Fail> {
+fn changing(alloc: Global) -> Result<OwnedList<Change>, Fail> {
     let mut rows = settled(alloc)?;
     rows.push(set(alloc, Slot::Older)?)?;
     Ok(rows)
 }
 
 // The disk of a device that has these rows.
-fn disk_of(alloc: Global, changes: Many<Change>) -> Result<MemDisk, Fail> {
+fn disk_of(alloc: Global, changes: OwnedList<Change>) -> Result<MemDisk, Fail> {
     let changes = changes.into_vec();
     if !are_of(Owner::Device, &changes) {
         return Err("not a device's rows".into());
@@ -180,7 +180,7 @@ fn disk_of(alloc: Global, changes: Many<Change>) -> Result<MemDisk, Fail> {
 }
 
 // The kind of rows for which the device of these isn't loaded, or none where it is.
-fn unsound(alloc: Global, changes: Many<Change>) -> Result<Option<RowKind>, Fail> {
+fn unsound(alloc: Global, changes: OwnedList<Change>) -> Result<Option<RowKind>, Fail> {
     match Device::load(alloc, disk_of(alloc, changes)?, 1) {
         Ok(_) => Ok(None),
         Err((_, error)) => kind_told(error),
@@ -195,7 +195,11 @@ fn kind_told(error: DeviceError) -> Result<Option<RowKind>, Fail> {
 }
 
 // What is told of rows after one change more.
-fn told(alloc: Global, mut changes: Many<Change>, change: Change) -> Result<Option<RowKind>, Fail> {
+fn told(
+    alloc: Global,
+    mut changes: OwnedList<Change>,
+    change: Change,
+) -> Result<Option<RowKind>, Fail> {
     changes.push(change)?;
     unsound(alloc, changes)
 }
@@ -203,7 +207,7 @@ fn told(alloc: Global, mut changes: Many<Change>, change: Change) -> Result<Opti
 #[test]
 fn fresh_rows_are_sound(rt: HostRuntime) -> Result<(), Fail> {
     let alloc = rt.alloc();
-    assert_eq!(rt; unsound(alloc, Many::new(alloc))?, None);
+    assert_eq!(rt; unsound(alloc, OwnedList::new(alloc))?, None);
     Ok(())
 }
 
@@ -215,9 +219,9 @@ enum Before {
     Changing,
 }
 
-fn rows_before(alloc: Global, before: Before) -> Result<Many<Change>, Fail> {
+fn rows_before(alloc: Global, before: Before) -> Result<OwnedList<Change>, Fail> {
     match before {
-        Before::Nothing => Ok(Many::new(alloc)),
+        Before::Nothing => Ok(OwnedList::new(alloc)),
         Before::Settled => settled(alloc),
         Before::Changing => changing(alloc),
     }

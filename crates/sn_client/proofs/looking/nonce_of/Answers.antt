@@ -12,4 +12,4 @@ memory_of-requires c =
     (subst (λ (text : Bytes). IsRefusal text c.in-Err.error) c.as_str.ensures c.in-Err.ensures.err)
 
 pub returns-in-Ok : goal.returns-in-Ok
-returns-in-Ok c = says_nonce c.args.strings.now c.as_str.result.now _ c.twin.result c.as_str.ensures c.in-Ok.ensures.ok c.twin.ensures
+returns-in-Ok c = says_nonce c.args.strings.now c.as_str.result.now _ c.try_clone.result c.as_str.ensures c.in-Ok.ensures.ok c.try_clone.ensures

@@ -7,7 +7,7 @@ use Rattle.sn_events.proofs.devices.fresh_device.Goals as goal
 
 pub returns-in-Ok-clause-fresh : goal.returns-in-Ok-clause-fresh
 returns-in-Ok-clause-fresh c =
-    (c.in-Ok.ensures.same tt [] (fresh_each Device c.in_ok-disk.disk _ c.in_ok-disk.ensures.course c.new.ensures.items refl)).0
+    (c.in-Ok.ensures.same tt [] (fresh_each Device c.in_ok-disk.disk _ c.in_ok-disk.ensures.state c.new.ensures.items refl)).0
 
 pub returns-in-Ok-clause-disk : goal.returns-in-Ok-clause-disk
-returns-in-Ok-clause-disk c = fresh_on c.in_ok-disk.disk (device_disk c.in-Ok.device) c.in-Ok.ensures.grows (fresh_made c.in_ok-disk.disk _ c.in_ok-disk.ensures.course c.new.ensures.items)
+returns-in-Ok-clause-disk c = fresh_on c.in_ok-disk.disk (device_disk c.in-Ok.device) c.in-Ok.ensures.grows (fresh_made c.in_ok-disk.disk _ c.in_ok-disk.ensures.state c.new.ensures.items)

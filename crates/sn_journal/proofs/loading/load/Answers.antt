@@ -3,7 +3,7 @@ use Rattle.sn_disk.specs.Disk.{LeavesOnly}
 use Rattle.sn_disk.specs.Moments.{weaker}
 use Rattle.sn_journal.specs.Image.{IsImage, IsBeforeOrAfter}
 use Rattle.sn_journal.specs.Findings.{same_shown, either_shown}
-use Rattle.sn_journal.proofs.Settling.{loaded_of, same_read, either_read}
+use Rattle.sn_journal.proofs.Resting.{loaded_of, same_read, either_read}
 use Rattle.sn_journal.proofs.loading.load.Goals as goal
 
 pub returns-in-Ok-clause-loaded : goal.returns-in-Ok-clause-loaded

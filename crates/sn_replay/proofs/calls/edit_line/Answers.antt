@@ -31,7 +31,7 @@ returns-clause-told c =
     let has = c.in_ok-came_of.ensures secret w s c.as_str.result.now written c.line_words-words.result c.edit.new.words c.setting_at.result (λ given. nothing)
     c.args.replaying.ends came in
     c.in_ok-told.ensures script secret stage at.settings (line.Edit name c.args.label fates text) call c.args.replaying.ends differ is_at
-    (edit_of script secret stage at.number at.settings name c.args.label fates uuid text c.in_ok-twin.field-0 found (sym c.in_ok-twin.ensures))
+    (edit_of script secret stage at.number at.settings name c.args.label fates uuid text c.in_ok-try_clone.field-0 found (sym c.in_ok-try_clone.ensures))
     (subst (λ (k : Call). HasCame secret w s name k (words_of at.settings at.number) (setting_at at.settings fates) c.args.replaying.ends c.in_ok-came_of.field-0) same
     (has_along secret w s written c.args.replaying.ends c.in_ok-came_of.field-0 c.as_str.result.now name c.line_words-words.result (words_of at.settings at.number)
     c.setting_at.result (setting_at at.settings fates) c.as_str.ensures c.line_words-words.ensures c.setting_at.ensures has))

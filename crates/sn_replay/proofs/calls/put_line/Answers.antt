@@ -26,7 +26,7 @@ returns c =
     let came = c.in_ok-outcome.ensures.came secret w s differ is_at.stands in
     let has = c.in_ok-came_of.ensures secret w s c.as_str.result.now written c.line_words-words.result c.put.new.words c.setting_at.result a_uuid c.args.replaying.ends came in
     c.told.ensures script secret stage at.settings (line.Put name fates text) call c.args.replaying.ends differ is_at
-    (put_of script secret stage at.number at.settings name fates text c.fixed.result c.in_ok-twin.field-0 (sym c.fixed.ensures) (sym c.in_ok-twin.ensures))
+    (put_of script secret stage at.number at.settings name fates text c.fixed.result c.in_ok-try_clone.field-0 (sym c.fixed.ensures) (sym c.in_ok-try_clone.ensures))
     (subst (λ (k : Call). HasCame secret w s name k (words_of at.settings at.number) (setting_at at.settings fates) c.args.replaying.ends c.in_ok-came_of.field-0) same
     (has_along secret w s written c.args.replaying.ends c.in_ok-came_of.field-0 c.as_str.result.now name c.line_words-words.result (words_of at.settings at.number)
     c.setting_at.result (setting_at at.settings fates) c.as_str.ensures c.line_words-words.ensures c.setting_at.ensures has))

@@ -36,7 +36,7 @@ returns c =
     let has = c.in_ok-came_of.ensures secret w s c.as_str.result.now written c.line_words-words.result c.sign_in.new.words c.setting_at.result (λ given. nothing)
     c.args.replaying.ends came in
     c.told.ensures script secret stage at.settings (line.SignIn name identifier password fates) call c.args.replaying.ends differ is_at
-    (sign_in_of script secret stage at.number at.settings name identifier password fates c.in_ok-twin.field-0 (sym c.in_ok-twin.ensures) c.requires.identifier
+    (sign_in_of script secret stage at.number at.settings name identifier password fates c.in_ok-try_clone.field-0 (sym c.in_ok-try_clone.ensures) c.requires.identifier
     (subst IsUtf8 c.as_str-2.ensures c.as_str-2.utf8) of)
     (subst (λ (k : Call). HasCame secret w s name k (words_of at.settings at.number) (setting_at at.settings fates) c.args.replaying.ends c.in_ok-came_of.field-0) same
     (has_along secret w s written c.args.replaying.ends c.in_ok-came_of.field-0 c.as_str.result.now name c.line_words-words.result (words_of at.settings at.number)

@@ -1,4 +1,4 @@
-use Rattle.sn_rows.proofs.Same.{one_reading}
+use Rattle.sn_rows.proofs.EqualColumns.{one_reading}
 use Rattle.sn_rows.proofs.laws.one_reading.Goals as goal
 
 pub returns : goal.returns

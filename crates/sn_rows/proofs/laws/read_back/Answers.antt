@@ -1,4 +1,4 @@
-use Rattle.sn_rows.proofs.Same.{read_back}
+use Rattle.sn_rows.proofs.EqualColumns.{read_back}
 use Rattle.sn_rows.proofs.laws.read_back.Goals as goal
 
 pub returns : goal.returns

@@ -2,7 +2,7 @@ use Rattle.std.proofs.Common.{rules, ◌≡◌, ◌<◌, ◌+◌, ◌-◌, lengt
 use Rattle.std.proofs.lemmas.Result.{err_from_is_err_and}
 use Rattle.sn_rows.specs.Spelling.{entries_of}
 use Rattle.sn_rows.specs.Reading.{spot, payload_at}
-use Rattle.sn_rows.proofs.Loop.{goes_on, ends, is_done, some_left, none_left}
+use Rattle.sn_rows.proofs.ReadingOn.{goes_on, ends, is_done, some_left, none_left}
 use Rattle.sn_rows.proofs.reading.all_of.Goals as goal
 
 pub returns-in_err-change : goal.returns-in_err-change

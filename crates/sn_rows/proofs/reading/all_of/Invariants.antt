@@ -1,7 +1,7 @@
 use Rattle.std.proofs.Common.{◌≡◌, ◌+◌, ◌-◌, ◌≤◌, ◌<◌, ◌^◌, length}
 use Rattle.sn_rows.specs.Spelling.{entries_of}
 use Rattle.sn_rows.specs.Reading.{spot, entries_at, payload_at}
-use Rattle.sn_rows.proofs.Loop.{with_front}
+use Rattle.sn_rows.proofs.ReadingOn.{with_front}
 use Rattle.sn_rows.proofs.reading.all_of.Given as goal
 
 abbrev pub invariant-loop-rest : goal.invariant-loop-rest

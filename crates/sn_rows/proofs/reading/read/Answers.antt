@@ -1,5 +1,5 @@
 use Rattle.std.proofs.Common.{arith}
-use Rattle.sn_rows.proofs.Same.{is_found, is_only, is_refused}
+use Rattle.sn_rows.proofs.EqualColumns.{is_found, is_only, is_refused}
 use Rattle.sn_rows.proofs.reading.read.Goals as goal
 
 pub returns-clause-found : goal.returns-clause-found

@@ -2,7 +2,7 @@ use Rattle.std.proofs.Common.{◌≡◌, ◌++◌, ◌∷◌, [], List, ℕ, ap,
 use Rattle.std.specs.Int.{w64, to_be_bytes}
 use Rattle.sn_rows.specs.Cells.{counted, flag_byte}
 use Rattle.sn_rows.proofs.FormLemmas.{item_form}
-use Rattle.sn_rows.proofs.Glue.{onto, last}
+use Rattle.sn_rows.proofs.Appending.{onto, last}
 use Rattle.sn_rows.proofs.writing.put_item.Goals as goal
 
 pub returns-clause-ok : goal.returns-clause-ok

@@ -1,7 +1,7 @@
 use Rattle.std.proofs.Common.{◌≡◌, ◌++◌, [], rules, arith}
 use Rattle.std.specs.Int.{w64, to_be_bytes}
 use Rattle.sn_rows.proofs.FormLemmas.{store_form}
-use Rattle.sn_rows.proofs.Glue.{onto, last}
+use Rattle.sn_rows.proofs.Appending.{onto, last}
 use Rattle.sn_rows.proofs.writing.put_store.Goals as goal
 
 pub returns-clause-ok : goal.returns-clause-ok

@@ -1,7 +1,7 @@
 use Rattle.std.proofs.Common.{rules}
 use Rattle.sn_string.specs.Parts.{HasForms}
 use Rattle.sn_string.specs.Refusals.{IsNoParamsPart}
-use Rattle.sn_string.proofs.Places.{params_within, Refuses-params}
+use Rattle.sn_string.proofs.Places.{params_within, RefusedFor-params}
 use Rattle.sn_string.proofs.reader.read.Goals as goal
 
 pub overflow_sub-result : goal.overflow_sub-result
@@ -11,4 +11,4 @@ pub returns-in-Ok-None-clause-err : goal.returns-in-Ok-None-clause-err
 returns-in-Ok-None-clause-err c =
     let forms : HasForms c.in-Some.six = search rules in
     let none : IsNoParamsPart c.in-Some.six.params_text.now = search rules in
-    Refuses-params c.args.text.now c.in-Some.six c.in-Some.ensures.some forms none
+    RefusedFor-params c.args.text.now c.in-Some.six c.in-Some.ensures.some forms none

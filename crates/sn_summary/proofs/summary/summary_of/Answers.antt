@@ -3,7 +3,7 @@ use Rattle.std.proofs.lemmas.List.{take_all}
 use Rattle.sn_laws.specs.Runs.{Legal}
 use Rattle.sn_report.specs.declared.report.Event.{Event}
 use Rattle.sn_summary.specs.Summaries.{moves_in}
-use Rattle.sn_summary.specs.Walks.{IsBehind}
+use Rattle.sn_summary.specs.Walks.{IsAfter}
 use Rattle.sn_summary.proofs.WalkLemmas.{event_further, summed}
 use Rattle.sn_summary.proofs.summary.summary_of.Goals as goal
 
@@ -22,7 +22,7 @@ returns c legal =
       forks = c.events.walk.forks;
       drafts = c.len-2.result;
     })
-    (subst (λ (es : List Event). IsBehind c.events.walk (moves_in es))
+    (subst (λ (es : List Event). IsAfter c.events.walk (moves_in es))
     (take_all c.events.event-index c.as_slice-events.result.now (omega arith) ∙ c.as_slice-events.ensures)
     (c.events.invariant (subst (λ (es : List Event). Legal (moves_in es)) (sym c.as_slice-events.ensures) legal)))
     c.len.ensures.ordered (ap length c.as_slice-events.ensures) c.len.ensures.len refl refl c.len-2.ensures.len

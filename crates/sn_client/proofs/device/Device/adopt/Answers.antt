@@ -7,11 +7,11 @@ use Rattle.sn_client.specs.Steps.{Adopts, adopts}
 use Rattle.sn_client.specs.Syncing.{HasNoneAsked, IsOpenSince, MayHaveSince, WentBy, none_asked}
 use Rattle.sn_client.specs.declared.called.Called.TheVariants as called
 use Rattle.sn_client.specs.declared.error.ClientError.{ClientError}
-use Rattle.sn_client.specs.declared.went.Went.TheVariants.{Over}
+use Rattle.sn_client.specs.declared.piece_end.PieceEnd.TheVariants.{Over}
 use Rattle.sn_client.proofs.Moments.{committed_broken, committed_open, still_open}
 use Rattle.sn_client.proofs.SettledLemmas.{HoldsOwner, adopts_owned, adopts_settled}
 use Rattle.sn_client.proofs.SoundSteps.{steps_stay_sound}
-use Rattle.sn_client.proofs.WentLemmas.{commit_broken, commit_made, commit_refused, commits_none}
+use Rattle.sn_client.proofs.PieceLemmas.{commit_broken, commit_made, commit_refused, commits_none}
 use Rattle.sn_client.proofs.device.Device.adopt.Goals as goal
 
 pub returns-in_default-clause-went : goal.returns-in_default-clause-went
@@ -40,8 +40,8 @@ returns-in-Done-clause-owned g c =
     subst HoldsOwner (sym c.in-Done.ensures.rows)
     (adopts_owned (device_rows c.args.self) c.args.words.now c.adoption.new.words c.args.set.now c.args.token c.in-Ok.changes.items c.in-Ok.ensures.adopts)
 
-pub returns-in-Done-clause-settled : goal.returns-in-Done-clause-settled
-returns-in-Done-clause-settled g c =
+pub returns-in-Done-clause-none_asked : goal.returns-in-Done-clause-none_asked
+returns-in-Done-clause-none_asked g c =
     subst HasNoneAsked (sym c.in-Done.ensures.rows)
     (adopts_settled (device_rows c.args.self) c.args.words.now c.adoption.new.words c.args.set.now c.args.token c.in-Ok.changes.items c.in-Ok.ensures.adopts)
 

@@ -50,8 +50,8 @@ returns-after-has_cursor-clause-owned g c =
     subst HoldsOwner (sym c.in-Done.ensures.rows)
     (owned_applied (device_rows c.args.self) c.args.words.now c.changes_of.new.words c.args.request.now c.args.answer.now c.in-Ok.changes.items c.in-Ok.ensures.ok)
 
-pub returns-after-has_cursor-clause-settled : goal.returns-after-has_cursor-clause-settled
-returns-after-has_cursor-clause-settled g c = λ none.
+pub returns-after-has_cursor-clause-none_asked : goal.returns-after-has_cursor-clause-none_asked
+returns-after-has_cursor-clause-none_asked g c = λ none.
     subst HasNoneAsked (sym c.in-Done.ensures.rows)
     (settled_applied (device_rows c.args.self) c.args.words.now c.changes_of.new.words c.args.request.now c.args.answer.now c.in-Ok.changes.items
     c.in-Ok.ensures.ok none)
@@ -77,8 +77,8 @@ returns-in-Refused-clause-applied g c = λ kept opens.
 pub returns-in-Refused-clause-owned : goal.returns-in-Refused-clause-owned
 returns-in-Refused-clause-owned g c = subst HoldsOwner (sym c.in-Refused.ensures.same) c.requires.owned
 
-pub returns-in-Refused-clause-settled : goal.returns-in-Refused-clause-settled
-returns-in-Refused-clause-settled g c = λ none. subst HasNoneAsked (sym c.in-Refused.ensures.same) none
+pub returns-in-Refused-clause-none_asked : goal.returns-in-Refused-clause-none_asked
+returns-in-Refused-clause-none_asked g c = λ none. subst HasNoneAsked (sym c.in-Refused.ensures.same) none
 
 pub returns-in-Broken-clause-applied : goal.returns-in-Broken-clause-applied
 returns-in-Broken-clause-applied g c = λ kept opens.

@@ -16,7 +16,7 @@ use Rattle.sn_client.specs.declared.error.ClientError.TheVariants as refusal
 use Rattle.sn_client.proofs.ChangingLemmas.{asks_new, asks_refused, asks_used, asks_wanting, may_ask, no_link_change, only_memory}
 use Rattle.sn_client.proofs.Moments.{still_open}
 use Rattle.sn_client.proofs.RegisterLemmas.{is_new, later_nonce}
-use Rattle.sn_client.proofs.WentLemmas.{ends_at_once, went_within}
+use Rattle.sn_client.proofs.PieceLemmas.{ends_at_once, went_within}
 use Rattle.sn_client.proofs.device.Device.ask_for.Goals as goal
 
 pub returns-in-Err-clause-went : goal.returns-in-Err-clause-went
@@ -48,7 +48,7 @@ pub returns-then-made-ge-MOST_EXCHANGES-clause-went : goal.returns-then-made-ge-
 returns-then-made-ge-MOST_EXCHANGES-clause-went g c = λ kept opens.
     let may : MayAsk (device_rows c.args.self) c.in-Ok.sets =
     let begins = c.in_default.ensures.ok in
-    may_ask (device_rows c.args.self) c.in-Ok.ensures.ok.0 c.in-Ok.sets c.in-Ok.ensures.ok.1 c.requires.settled
+    may_ask (device_rows c.args.self) c.in-Ok.ensures.ok.0 c.in-Ok.sets c.in-Ok.ensures.ok.1 c.requires.none_asked
     (subst (λ (m : RowMap). NoneRuns (row_in m) c.in-Ok.sets) c.rows.ensures.rows begins.0)
     (subst (λ (m : RowMap). (number : ℕ) (local : LocalItem) → HasLocal (row_in m) number local → local.posted ≡ None) c.rows.ensures.rows begins.1) in
     let may_kept : MayAsk kept.rows c.in-Ok.sets = subst (λ (r : Rows). MayAsk r c.in-Ok.sets) opens.rows_are may in
@@ -74,7 +74,7 @@ pub ask_for_set-requires-clause-may : goal.ask_for_set-requires-clause-may
 ask_for_set-requires-clause-may g c =
     let may : MayAsk (device_rows c.args.self) c.in-Ok.sets =
     let begins = c.in_default.ensures.ok in
-    may_ask (device_rows c.args.self) c.in-Ok.ensures.ok.0 c.in-Ok.sets c.in-Ok.ensures.ok.1 c.requires.settled
+    may_ask (device_rows c.args.self) c.in-Ok.ensures.ok.0 c.in-Ok.sets c.in-Ok.ensures.ok.1 c.requires.none_asked
     (subst (λ (m : RowMap). NoneRuns (row_in m) c.in-Ok.sets) c.rows.ensures.rows begins.0)
     (subst (λ (m : RowMap). (number : ℕ) (local : LocalItem) → HasLocal (row_in m) number local → local.posted ≡ None) c.rows.ensures.rows begins.1) in
     let is : IsSetWith c.nonce-nonce.result c.as_str-identifier.result.now c.args.password.now c.args.cost c.in-Ok-new_set.set = c.in-Ok-new_set.ensures in
@@ -84,7 +84,7 @@ pub returns-clause-went : goal.returns-clause-went
 returns-clause-went g c = λ kept opens.
     let may : MayAsk (device_rows c.args.self) c.in-Ok.sets =
     let begins = c.in_default.ensures.ok in
-    may_ask (device_rows c.args.self) c.in-Ok.ensures.ok.0 c.in-Ok.sets c.in-Ok.ensures.ok.1 c.requires.settled
+    may_ask (device_rows c.args.self) c.in-Ok.ensures.ok.0 c.in-Ok.sets c.in-Ok.ensures.ok.1 c.requires.none_asked
     (subst (λ (m : RowMap). NoneRuns (row_in m) c.in-Ok.sets) c.rows.ensures.rows begins.0)
     (subst (λ (m : RowMap). (number : ℕ) (local : LocalItem) → HasLocal (row_in m) number local → local.posted ≡ None) c.rows.ensures.rows begins.1) in
     let may_kept : MayAsk kept.rows c.in-Ok.sets = subst (λ (r : Rows). MayAsk r c.in-Ok.sets) opens.rows_are may in

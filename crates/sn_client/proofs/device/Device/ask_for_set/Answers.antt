@@ -11,13 +11,13 @@ use Rattle.sn_client.specs.Syncing.{IsOpenSince, MayHaveSince, WentBy, called_pa
 use Rattle.sn_client.specs.declared.called.Called.TheVariants as called
 use Rattle.sn_client.specs.declared.error.ClientError.{ClientError}
 use Rattle.sn_client.specs.declared.error.ClientError.TheVariants as refusal
-use Rattle.sn_client.specs.declared.went.Went.TheVariants.{Over}
+use Rattle.sn_client.specs.declared.piece_end.PieceEnd.TheVariants.{Over}
 use Rattle.sn_client.proofs.AnswerLemmas.{held_by}
 use Rattle.sn_client.proofs.KeepLemmas.{keeps_on}
 use Rattle.sn_client.proofs.Moments.{committed_broken, committed_open, still_open}
 use Rattle.sn_client.proofs.SettledLemmas.{asks_holds}
 use Rattle.sn_client.proofs.SoundSteps.{steps_stay_sound}
-use Rattle.sn_client.proofs.WentLemmas.{commit_behind, commit_broken, commit_refused, commits_none, then_over}
+use Rattle.sn_client.proofs.PieceLemmas.{commit_behind, commit_broken, commit_refused, commits_none, then_over}
 use Rattle.sn_client.proofs.device.Device.ask_for_set.Goals as goal
 
 pub returns-in_default-clause-went : goal.returns-in_default-clause-went

@@ -7,7 +7,7 @@ use Rattle.sn_io.specs.Causes.{Rose}
 use Rattle.sn_client.specs.Calls.{IsOpen, MayHave, StandsOrHas, called_disk, device_disk, device_rows}
 use Rattle.sn_client.specs.Runs.{nothing}
 use Rattle.sn_client.specs.States.{IsFresh}
-use Rattle.sn_client.specs.Steps.{Begins, begins}
+use Rattle.sn_client.specs.Steps.{BeginsDevice, begins}
 use Rattle.sn_client.proofs.AccountLemmas.{gets_none, is_fresh, keeps_it, no_link_fault, stands_or_has, still_stands}
 use Rattle.sn_client.proofs.SoundSteps.{steps_stay_sound}
 use Rattle.sn_client.proofs.device.Device.begin.Goals as goal
@@ -31,9 +31,9 @@ returns-in-Ok-clause-any_moment g c = λ told kept opens.
     let k = c.in-Ok.ensures.ok in
     weaker g.D.Disk.moment g.D.Disk.left_since (device_disk c.args.self) (called_disk device_disk c.answer.result)
     (IsAllOrNothing DeviceOwner kept.batches c.in-Ok.changes.items)
-    (StandsOrHas kept.batches (λ changes. (uuid : List ℕ) × (token : List ℕ) × Begins c.args.set uuid token changes))
+    (StandsOrHas kept.batches (λ changes. (uuid : List ℕ) × (token : List ℕ) × BeginsDevice c.args.set uuid token changes))
     (c.answer.ensures.any_moment told kept opens)
-    (λ f is. stands_or_has kept.batches c.in-Ok.changes.items (λ changes. (uuid : List ℕ) × (token : List ℕ) × Begins c.args.set uuid token changes) f (k.0, k.1, k.3) is)
+    (λ f is. stands_or_has kept.batches c.in-Ok.changes.items (λ changes. (uuid : List ℕ) × (token : List ℕ) × BeginsDevice c.args.set uuid token changes) f (k.0, k.1, k.3) is)
 
 pub returns-in-Ok-clause-link_fault : goal.returns-in-Ok-clause-link_fault
 returns-in-Ok-clause-link_fault g c =
@@ -46,5 +46,5 @@ returns-in-Err-clause-runs g c = λ kept words opens.
 
 pub returns-in-Err-clause-any_moment : goal.returns-in-Err-clause-any_moment
 returns-in-Err-clause-any_moment g c = λ told kept opens.
-    still_stands c.args.self.table kept.batches (λ changes. (uuid : List ℕ) × (token : List ℕ) × Begins c.args.set uuid token changes)
+    still_stands c.args.self.table kept.batches (λ changes. (uuid : List ℕ) × (token : List ℕ) × BeginsDevice c.args.set uuid token changes)
     (g.met.D.Disk.only_now told) c.args.self.owner (opens.stands told)

@@ -3,17 +3,17 @@ use Rattle.sn_sets.proofs.Facts.{later_again}
 use Rattle.sn_client.specs.Calls.{device_rows, kept_done}
 use Rattle.sn_client.specs.Runs.{Exchanges, Resolves, SyncsUnder, Then}
 use Rattle.sn_client.specs.Syncing.{IsOpenSince, MayHaveSince, WentBy, called_past}
-use Rattle.sn_client.specs.declared.went.Went.TheVariants.{On, Over}
+use Rattle.sn_client.specs.declared.piece_end.PieceEnd.TheVariants.{On, Over}
 use Rattle.sn_client.proofs.KeepLemmas.{keeps_on, link_rises}
 use Rattle.sn_client.proofs.SettledLemmas.{asks_nothing, asks_set, is_nothing}
-use Rattle.sn_client.proofs.WentLemmas.{goes_behind, then_over, went_within}
+use Rattle.sn_client.proofs.PieceLemmas.{goes_behind, then_over, went_within}
 use Rattle.sn_client.proofs.device.Device.bring_together.Goals as goal
 
 pub exchanges-requires-clause-owned : goal.exchanges-requires-clause-owned
 exchanges-requires-clause-owned g c = (c.requires.holds.0, c.requires.holds.1.owned)
 
-pub exchanges-requires-clause-settled : goal.exchanges-requires-clause-settled
-exchanges-requires-clause-settled g c =
+pub exchanges-requires-clause-none_asked : goal.exchanges-requires-clause-none_asked
+exchanges-requires-clause-none_asked g c =
     asks_nothing (device_rows c.args.self) c.requires.holds.0 c.args.sets.now c.requires.holds.1 (is_nothing c.args.sets.now.asked c.in_default.not-Some)
 
 pub returns-in_default-clause-went : goal.returns-in_default-clause-went
@@ -64,8 +64,8 @@ exchanges-requires-in-On-clause-sound g c = c.in-On.ensures.device.sound
 pub exchanges-requires-in-On-clause-owned : goal.exchanges-requires-in-On-clause-owned
 exchanges-requires-in-On-clause-owned g c = c.in-On.ensures.owned
 
-pub exchanges-requires-in-On-clause-settled : goal.exchanges-requires-in-On-clause-settled
-exchanges-requires-in-On-clause-settled g c = c.in-On.ensures.settled
+pub exchanges-requires-in-On-clause-none_asked : goal.exchanges-requires-in-On-clause-none_asked
+exchanges-requires-in-On-clause-none_asked g c = c.in-On.ensures.none_asked
 
 pub exchanges-requires-in-On-clause-few : goal.exchanges-requires-in-On-clause-few
 exchanges-requires-in-On-clause-few g c = c.in-On.ensures.few

@@ -2,9 +2,9 @@ use Rattle.sn_sets.proofs.Facts.{later_again}
 use Rattle.sn_client.specs.Calls.{kept_done}
 use Rattle.sn_client.specs.Runs.{AsksFor, Exchanges}
 use Rattle.sn_client.specs.Syncing.{IsOpenSince, MayHaveSince, WentBy, called_past}
-use Rattle.sn_client.specs.declared.went.Went.TheVariants.{On}
+use Rattle.sn_client.specs.declared.piece_end.PieceEnd.TheVariants.{On}
 use Rattle.sn_client.proofs.KeepLemmas.{keeps_on, link_rises}
-use Rattle.sn_client.proofs.WentLemmas.{goes_behind, then_over}
+use Rattle.sn_client.proofs.PieceLemmas.{goes_behind, then_over}
 use Rattle.sn_client.proofs.device.Device.change.Goals as goal
 
 pub returns-in-On-clause-went : goal.returns-in-On-clause-went
@@ -41,8 +41,8 @@ exchanges-requires-clause-sound g c = c.in-On.ensures.device.sound
 pub exchanges-requires-clause-owned : goal.exchanges-requires-clause-owned
 exchanges-requires-clause-owned g c = c.in-On.ensures.owned
 
-pub exchanges-requires-clause-settled : goal.exchanges-requires-clause-settled
-exchanges-requires-clause-settled g c = c.in-On.ensures.settled
+pub exchanges-requires-clause-none_asked : goal.exchanges-requires-clause-none_asked
+exchanges-requires-clause-none_asked g c = c.in-On.ensures.none_asked
 
 pub exchanges-requires-clause-few : goal.exchanges-requires-clause-few
 exchanges-requires-clause-few g c = c.in-On.ensures.few

@@ -14,7 +14,7 @@ use Rattle.sn_client.proofs.Moments.{still_open}
 use Rattle.sn_sets.proofs.Facts.{later_at_once}
 use Rattle.sn_io.specs.Causes.{Rose}
 use Rattle.sn_client.proofs.KeepLemmas.{never_made, never_on, no_link_rises}
-use Rattle.sn_client.proofs.WentLemmas.{asks_none, fewer_heard, hears_ill, hears_still, went_within}
+use Rattle.sn_client.proofs.PieceLemmas.{asks_none, fewer_heard, hears_ill, hears_still, went_within}
 use Rattle.sn_client.proofs.device.Device.change_again.Goals as goal
 
 pub returns-in_default-clause-went : goal.returns-in_default-clause-went
@@ -52,8 +52,8 @@ pub returns-in-Ok-Refused-clause-owned : goal.returns-in-Ok-Refused-clause-owned
 returns-in-Ok-Refused-clause-owned g c =
     never_on c.drop_asked.result (λ device. (owner : OwnerRow) × HasOwner (device_rows device) owner) c.drop_asked.ensures.over
 
-pub returns-in-Ok-Refused-clause-settled : goal.returns-in-Ok-Refused-clause-settled
-returns-in-Ok-Refused-clause-settled g c = never_on c.drop_asked.result (λ device. HasNoneAsked (device_rows device)) c.drop_asked.ensures.over
+pub returns-in-Ok-Refused-clause-none_asked : goal.returns-in-Ok-Refused-clause-none_asked
+returns-in-Ok-Refused-clause-none_asked g c = never_on c.drop_asked.result (λ device. HasNoneAsked (device_rows device)) c.drop_asked.ensures.over
 
 pub returns-in-Ok-Refused-clause-few : goal.returns-in-Ok-Refused-clause-few
 returns-in-Ok-Refused-clause-few g c = never_made c.drop_asked.result c.drop_asked.ensures.over

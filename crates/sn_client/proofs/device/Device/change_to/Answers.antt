@@ -2,10 +2,10 @@ use Rattle.sn_sets.proofs.Facts.{later_again}
 use Rattle.sn_client.specs.Calls.{kept_done}
 use Rattle.sn_client.specs.Runs.{AsksFor, Exchanges, SyncsUnder, Then}
 use Rattle.sn_client.specs.Syncing.{IsOpenSince, MayHaveSince, WentBy, called_past}
-use Rattle.sn_client.specs.declared.went.Went.TheVariants.{On}
+use Rattle.sn_client.specs.declared.piece_end.PieceEnd.TheVariants.{On}
 use Rattle.sn_client.proofs.KeepLemmas.{keeps_on, link_rises}
 use Rattle.sn_client.proofs.SyncRuns.{taken_cost}
-use Rattle.sn_client.proofs.WentLemmas.{goes_behind, then_over}
+use Rattle.sn_client.proofs.PieceLemmas.{goes_behind, then_over}
 use Rattle.sn_client.proofs.device.Device.change_to.Goals as goal
 
 pub change-requires-clause-cost : goal.change-requires-clause-cost
@@ -45,8 +45,8 @@ change-requires-clause-sound g c = c.in-On.ensures.device.sound
 pub change-requires-clause-owned : goal.change-requires-clause-owned
 change-requires-clause-owned g c = c.in-On.ensures.owned
 
-pub change-requires-clause-settled : goal.change-requires-clause-settled
-change-requires-clause-settled g c = c.in-On.ensures.settled
+pub change-requires-clause-none_asked : goal.change-requires-clause-none_asked
+change-requires-clause-none_asked g c = c.in-On.ensures.none_asked
 
 pub change-requires-clause-few : goal.change-requires-clause-few
 change-requires-clause-few g c = c.in-On.ensures.few

@@ -11,10 +11,10 @@ use Rattle.sn_client.specs.Syncing.{IsOpenSince, MayHaveSince, WentBy, none_aske
 use Rattle.sn_client.specs.declared.called.Called.TheVariants as called
 use Rattle.sn_client.specs.declared.error.ClientError.{ClientError}
 use Rattle.sn_client.specs.declared.error.ClientError.TheVariants as refusal
-use Rattle.sn_client.specs.declared.went.Went.TheVariants.{Over}
+use Rattle.sn_client.specs.declared.piece_end.PieceEnd.TheVariants.{Over}
 use Rattle.sn_client.proofs.Moments.{committed_broken, committed_open, still_open}
 use Rattle.sn_client.proofs.SoundSteps.{steps_stay_sound}
-use Rattle.sn_client.proofs.WentLemmas.{commit_and_refused, commit_broken, commit_refused, commits_none, then_over}
+use Rattle.sn_client.proofs.PieceLemmas.{commit_and_refused, commit_broken, commit_refused, commits_none, then_over}
 use Rattle.sn_client.proofs.device.Device.drop_asked.Goals as goal
 
 pub returns-in_default-clause-went : goal.returns-in_default-clause-went

@@ -3,7 +3,7 @@ use Rattle.sn_client.specs.Runs.{Drops, DropsOrKeeps}
 use Rattle.sn_client.specs.Syncing.{IsOpenSince, MayHaveSince, none_asked}
 use Rattle.sn_client.specs.declared.error.ClientError.TheVariants as refusal
 use Rattle.sn_client.proofs.Moments.{still_open}
-use Rattle.sn_client.proofs.WentLemmas.{ends_at_once, went_within}
+use Rattle.sn_client.proofs.PieceLemmas.{ends_at_once, went_within}
 use Rattle.sn_client.proofs.device.Device.drop_or_keep.Goals as goal
 
 pub returns-then-status-eq401-clause-went : goal.returns-then-status-eq401-clause-went

@@ -83,9 +83,9 @@ returns-in-Done-clause-device g c =
     keeps_on c.args.self c.in-Done.device (called_of c.ask_and_apply-in-Done.result) g.met.D.Disk.growing c.in-Done.ensures.least.0 c.in-Done.ensures.grows
     c.in-Done.ensures.later c.ask_and_apply-in-Done.ensures.device
 
-pub returns-in-Done-clause-settled : goal.returns-in-Done-clause-settled
-returns-in-Done-clause-settled g c = λ none.
-    c.ask_and_apply-in-Done.ensures.settled
+pub returns-in-Done-clause-none_asked : goal.returns-in-Done-clause-none_asked
+returns-in-Done-clause-none_asked g c = λ none.
+    c.ask_and_apply-in-Done.ensures.none_asked
     (subst HasNoneAsked (sym c.in-Done.ensures.rows)
     (settled_posted (device_rows c.args.self) c.in-Ok.sending.numbers.items c.in-Ok.sending.changes.items c.in-Ok.ensures.sends.1.posts_them c.requires.owned none))
 
@@ -105,8 +105,8 @@ returns-in-Refused-clause-exchanged g c = λ kept last opens due.
 pub returns-in-Refused-clause-owned : goal.returns-in-Refused-clause-owned
 returns-in-Refused-clause-owned g c = subst HoldsOwner (sym c.in-Refused.ensures.same) c.requires.owned
 
-pub returns-in-Refused-clause-settled : goal.returns-in-Refused-clause-settled
-returns-in-Refused-clause-settled g c = λ none. subst HasNoneAsked (sym c.in-Refused.ensures.same) none
+pub returns-in-Refused-clause-none_asked : goal.returns-in-Refused-clause-none_asked
+returns-in-Refused-clause-none_asked g c = λ none. subst HasNoneAsked (sym c.in-Refused.ensures.same) none
 
 pub returns-clause-exchanged : goal.returns-clause-exchanged
 returns-clause-exchanged g c = λ kept last opens due.

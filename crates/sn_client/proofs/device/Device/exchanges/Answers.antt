@@ -26,7 +26,7 @@ exchanges-init g c = record {
   within = c.requires.few;
   sound = c.requires.sound;
   owned = c.requires.owned;
-  settled = c.requires.settled;
+  none_asked = c.requires.none_asked;
   words = later_at_once c.args.words.now;
   least = refl;
   aimed = refl;
@@ -53,7 +53,7 @@ exchanges-preserved g c = record {
   within = omega (arith, c.exchanges-test.true);
   sound = c.in-Applied-default-true.ensures.device.sound;
   owned = c.in-Applied-default-true.ensures.owned;
-  settled = c.in-Applied-default-true.ensures.settled c.exchanges.invariant.settled;
+  none_asked = c.in-Applied-default-true.ensures.none_asked c.exchanges.invariant.none_asked;
   words = later_again c.args.words.now c.exchanges.words c.exchange.new.words c.exchanges.invariant.words c.exchange.ensures.words;
   least = c.in-Applied-default-true.ensures.device.least ∙ c.exchanges.invariant.least;
   aimed = c.exchange.ensures.aimed ∙ c.exchanges.invariant.aimed;
@@ -88,8 +88,8 @@ returns-in-Applied-default-false-clause-device g c =
 pub returns-in-Applied-default-false-clause-owned : goal.returns-in-Applied-default-false-clause-owned
 returns-in-Applied-default-false-clause-owned g c = c.in-Applied-default-false.ensures.owned
 
-pub returns-in-Applied-default-false-clause-settled : goal.returns-in-Applied-default-false-clause-settled
-returns-in-Applied-default-false-clause-settled g c = c.in-Applied-default-false.ensures.settled c.exchanges.invariant.settled
+pub returns-in-Applied-default-false-clause-none_asked : goal.returns-in-Applied-default-false-clause-none_asked
+returns-in-Applied-default-false-clause-none_asked g c = c.in-Applied-default-false.ensures.none_asked c.exchanges.invariant.none_asked
 
 pub returns-in-Applied-default-false-clause-words : goal.returns-in-Applied-default-false-clause-words
 returns-in-Applied-default-false-clause-words g c =

@@ -19,7 +19,7 @@ invariant-exchanges g l = record {
   within : l.count ≤ most_exchanges;
   sound : IsSound (device_rows l.device);
   owned : (owner : OwnerRow) × HasOwner (device_rows l.device) owner;
-  settled : HasNoneAsked (device_rows l.device);
+  none_asked : HasNoneAsked (device_rows l.device);
   words : IsLater l.initial.words l.words;
   least : l.device.least_cost ≡ l.initial.device.least_cost;
   aimed : g.L.Link.aimed l.link ≡ g.L.Link.aimed l.initial.link;

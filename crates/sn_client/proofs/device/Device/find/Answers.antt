@@ -9,7 +9,7 @@ use Rattle.sn_client.specs.Runs.{DropsOrKeeps, Finds, FindsParams}
 use Rattle.sn_client.specs.States.{HasOwner}
 use Rattle.sn_client.specs.Syncing.{HasNoneAsked, IsOpenSince, MayHaveSince, WentBy, called_past}
 use Rattle.sn_client.proofs.KeepLemmas.{never_made, never_on, no_link_rises}
-use Rattle.sn_client.proofs.WentLemmas.{went_within, went_quietly}
+use Rattle.sn_client.proofs.PieceLemmas.{went_within, went_quietly}
 use Rattle.sn_client.proofs.device.Device.find.Goals as goal
 
 pub returns-in-Params-clause-went : goal.returns-in-Params-clause-went
@@ -30,8 +30,8 @@ pub returns-in-Refused-clause-owned : goal.returns-in-Refused-clause-owned
 returns-in-Refused-clause-owned g c =
     never_on c.drop_or_keep.result (λ device. (owner : OwnerRow) × HasOwner (device_rows device) owner) c.drop_or_keep.ensures.over
 
-pub returns-in-Refused-clause-settled : goal.returns-in-Refused-clause-settled
-returns-in-Refused-clause-settled g c = never_on c.drop_or_keep.result (λ device. HasNoneAsked (device_rows device)) c.drop_or_keep.ensures.over
+pub returns-in-Refused-clause-none_asked : goal.returns-in-Refused-clause-none_asked
+returns-in-Refused-clause-none_asked g c = never_on c.drop_or_keep.result (λ device. HasNoneAsked (device_rows device)) c.drop_or_keep.ensures.over
 
 pub returns-in-Refused-clause-few : goal.returns-in-Refused-clause-few
 returns-in-Refused-clause-few g c = never_made c.drop_or_keep.result c.drop_or_keep.ensures.over

@@ -9,7 +9,7 @@ use Rattle.sn_client.specs.States.{HasOwner}
 use Rattle.sn_client.specs.Syncing.{HasNoneAsked, IsOpenSince, MayHaveSince, called_past}
 use Rattle.sn_client.specs.declared.error.ClientError.{ClientError}
 use Rattle.sn_client.proofs.KeepLemmas.{never_made, never_on, no_link_rises}
-use Rattle.sn_client.proofs.WentLemmas.{went_within, went_quietly}
+use Rattle.sn_client.proofs.PieceLemmas.{went_within, went_quietly}
 use Rattle.sn_client.proofs.device.Device.find_params.Goals as goal
 
 pub returns-then-same-clause-went : goal.returns-then-same-clause-went
@@ -40,8 +40,8 @@ pub returns-clause-owned : goal.returns-clause-owned
 returns-clause-owned g c =
     never_on c.drop_asked.result (λ device. (owner : OwnerRow) × HasOwner (device_rows device) owner) c.drop_asked.ensures.over
 
-pub returns-clause-settled : goal.returns-clause-settled
-returns-clause-settled g c = never_on c.drop_asked.result (λ device. HasNoneAsked (device_rows device)) c.drop_asked.ensures.over
+pub returns-clause-none_asked : goal.returns-clause-none_asked
+returns-clause-none_asked g c = never_on c.drop_asked.result (λ device. HasNoneAsked (device_rows device)) c.drop_asked.ensures.over
 
 pub returns-clause-few : goal.returns-clause-few
 returns-clause-few g c = never_made c.drop_asked.result c.drop_asked.ensures.over

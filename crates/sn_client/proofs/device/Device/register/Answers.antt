@@ -4,7 +4,7 @@ use Rattle.sn_rows.specs.declared.change.Change.{Change}
 use Rattle.sn_string.specs.declared.params.KeySet.{KeySet}
 use Rattle.sn_client.specs.Calls.{IsOpen, MayHave, StandsOrHas, called_disk, device_disk, device_rows}
 use Rattle.sn_client.specs.Runs.{IsNewSet, nothing, register}
-use Rattle.sn_client.specs.Steps.{Begins}
+use Rattle.sn_client.specs.Steps.{BeginsDevice}
 use Rattle.sn_client.specs.declared.error.ClientError.TheVariants as refusal
 use Rattle.sn_client.proofs.AccountLemmas.{stands_weaker, still_stands}
 use Rattle.sn_client.proofs.RegisterLemmas.{goes_register, is_new, later_nonce, refused_call, refused_register}
@@ -19,7 +19,7 @@ returns-in-Some-clause-runs g c = λ kept opens.
 pub returns-in-Some-clause-any_moment : goal.returns-in-Some-clause-any_moment
 returns-in-Some-clause-any_moment g c = λ told kept opens.
     still_stands c.args.self.table kept.batches (λ changes. (set : KeySet) × (uuid : List ℕ) × (token : List ℕ)
-    × IsNewSet c.args.words.now c.args.identifier.now c.args.password.now c.args.cost set c.args.words.now × Begins set uuid token changes)
+    × IsNewSet c.args.words.now c.args.identifier.now c.args.password.now c.args.cost set c.args.words.now × BeginsDevice set uuid token changes)
     (g.met.D.Disk.only_now told) c.args.self.owner (opens.stands told)
 
 pub returns-in_default-registration-clause-runs : goal.returns-in_default-registration-clause-runs
@@ -31,7 +31,7 @@ returns-in_default-registration-clause-runs g c = λ kept opens.
 pub returns-in_default-registration-clause-any_moment : goal.returns-in_default-registration-clause-any_moment
 returns-in_default-registration-clause-any_moment g c = λ told kept opens.
     still_stands c.args.self.table kept.batches (λ changes. (set : KeySet) × (uuid : List ℕ) × (token : List ℕ)
-    × IsNewSet c.args.words.now c.args.identifier.now c.args.password.now c.args.cost set c.nonce-nonce.new.self × Begins set uuid token changes)
+    × IsNewSet c.args.words.now c.args.identifier.now c.args.password.now c.args.cost set c.nonce-nonce.new.self × BeginsDevice set uuid token changes)
     (g.met.D.Disk.only_now told) c.args.self.owner (opens.stands told)
 
 pub returns-in_default-registration-clause-words : goal.returns-in_default-registration-clause-words
@@ -49,9 +49,9 @@ pub returns-clause-any_moment : goal.returns-clause-any_moment
 returns-clause-any_moment g c = λ told kept opens.
     let new = is_new c.args.words.now c.nonce-nonce.new.self c.nonce-nonce.result c.args.identifier.now c.args.password.now c.args.cost c.in-Ok.set c.nonce-nonce.ensures
     c.in-Ok.ensures.set in
-    let P : (List Change → Type 0) = λ changes. (uuid : List ℕ) × (token : List ℕ) × Begins c.in-Ok.set uuid token changes in
+    let P : (List Change → Type 0) = λ changes. (uuid : List ℕ) × (token : List ℕ) × BeginsDevice c.in-Ok.set uuid token changes in
     let Q : (List Change → Type 0) = λ changes. (set : KeySet) × (uuid : List ℕ) × (token : List ℕ)
-    × IsNewSet c.args.words.now c.args.identifier.now c.args.password.now c.args.cost set c.nonce-nonce.new.self × Begins set uuid token changes in
+    × IsNewSet c.args.words.now c.args.identifier.now c.args.password.now c.args.cost set c.nonce-nonce.new.self × BeginsDevice set uuid token changes in
     weaker g.D.Disk.moment g.D.Disk.left_since (device_disk c.args.self) (called_disk device_disk c.begin.result) (StandsOrHas kept.batches P) (StandsOrHas kept.batches Q)
     (c.begin.ensures.any_moment told kept opens)
     (λ f is. stands_weaker kept.batches P Q f (λ changes has. (c.in-Ok.set, has.0, has.1, new, has.2)) is)

@@ -10,7 +10,7 @@ use Rattle.sn_client.specs.States.{HasOwner}
 use Rattle.sn_client.specs.Syncing.{IsOpenSince, MayHaveSince, called_past}
 use Rattle.sn_client.proofs.KeepLemmas.{link_rises}
 use Rattle.sn_client.proofs.Moments.{still_open}
-use Rattle.sn_client.proofs.WentLemmas.{asks_none, fewer_heard, hears_ill, hears_well}
+use Rattle.sn_client.proofs.PieceLemmas.{asks_none, fewer_heard, hears_ill, hears_well}
 use Rattle.sn_client.proofs.device.Device.resolve.Goals as goal
 
 pub returns-in_default-clause-went : goal.returns-in_default-clause-went

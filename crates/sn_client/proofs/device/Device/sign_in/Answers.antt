@@ -6,7 +6,7 @@ use Rattle.sn_client.specs.Calls.{IsOpen, MayHave, StandsOrHas, called_disk, dev
 use Rattle.sn_client.specs.Going.{MayWant}
 use Rattle.sn_client.specs.Runs.{IsOrMayBe, Run, SignsInWith, nothing, refused, sign_in}
 use Rattle.sn_client.specs.Signing.{MadeBySignIn}
-use Rattle.sn_client.specs.Steps.{Adopts, Begins, Renews}
+use Rattle.sn_client.specs.Steps.{Adopts, BeginsDevice, Renews}
 use Rattle.sn_client.proofs.AccountLemmas.{stands_weaker, still_stands}
 use Rattle.sn_client.proofs.RegisterLemmas.{refused_call}
 use Rattle.sn_client.proofs.SignLemmas.{goes_at, goes_sign_in, keys_may_be, keys_refused, made_by, other_refused}
@@ -44,7 +44,7 @@ returns-in-Ok-clause-runs g c = λ kept opens.
 
 pub returns-in-Ok-clause-any_moment : goal.returns-in-Ok-clause-any_moment
 returns-in-Ok-clause-any_moment g c = λ told kept opens.
-    let P : (List Change → Type 0) = λ changes. (uuid : List ℕ) × (token : List ℕ) × (Begins c.in-Ok.set uuid token changes
+    let P : (List Change → Type 0) = λ changes. (uuid : List ℕ) × (token : List ℕ) × (BeginsDevice c.in-Ok.set uuid token changes
     ⊎ (Renews kept.rows token changes ⊎ Adopts kept.rows c.args.words.now c.in-Ok.set token changes c.sign_in_with.new.words)) in
     let Q : (List Change → Type 0) = λ changes.
     MadeBySignIn kept.rows c.args.words.now c.args.identifier.now c.args.password.now changes c.sign_in_with.new.words in

@@ -7,7 +7,7 @@ use Rattle.sn_client.specs.Going.{MayWant}
 use Rattle.sn_client.specs.Runs.{AsksAccount, SignsInWith, nothing}
 use Rattle.sn_client.specs.Signing.{JoinsBy, RefusesWith}
 use Rattle.sn_client.specs.States.{HasNoAccount}
-use Rattle.sn_client.specs.Steps.{Adopts, Begins, Renews, adopts, begins, renews}
+use Rattle.sn_client.specs.Steps.{Adopts, BeginsDevice, Renews, adopts, begins, renews}
 use Rattle.sn_client.specs.declared.error.ClientError.TheVariants as refusal
 use Rattle.sn_client.specs.declared.signing.Joining.{Joining}
 use Rattle.sn_client.proofs.AccountLemmas.{refuses_first, stands_weaker, still_stands}
@@ -25,7 +25,7 @@ returns-in-Err-clause-runs g c = λ kept opens.
 pub returns-in-Err-clause-any_moment : goal.returns-in-Err-clause-any_moment
 returns-in-Err-clause-any_moment g c = λ told kept opens.
     let Q : (List Change → Type 0) = λ changes. (uuid : List ℕ) × (token : List ℕ)
-    × (Begins c.args.set uuid token changes ⊎ (Renews kept.rows token changes ⊎ Adopts kept.rows c.args.words.now c.args.set token changes c.args.words.now)) in
+    × (BeginsDevice c.args.set uuid token changes ⊎ (Renews kept.rows token changes ⊎ Adopts kept.rows c.args.words.now c.args.set token changes c.args.words.now)) in
     still_stands c.args.self.table kept.batches Q (g.met.D.Disk.only_now told) c.args.self.owner (opens.stands told)
 
 pub returns-in_default-clause-runs : goal.returns-in_default-clause-runs
@@ -37,7 +37,7 @@ returns-in_default-clause-runs g c = λ kept opens.
 pub returns-in_default-clause-any_moment : goal.returns-in_default-clause-any_moment
 returns-in_default-clause-any_moment g c = λ told kept opens.
     let Q : (List Change → Type 0) = λ changes. (uuid : List ℕ) × (token : List ℕ)
-    × (Begins c.args.set uuid token changes ⊎ (Renews kept.rows token changes ⊎ Adopts kept.rows c.args.words.now c.args.set token changes c.args.words.now)) in
+    × (BeginsDevice c.args.set uuid token changes ⊎ (Renews kept.rows token changes ⊎ Adopts kept.rows c.args.words.now c.args.set token changes c.args.words.now)) in
     still_stands c.args.self.table kept.batches Q (g.met.D.Disk.only_now told) c.args.self.owner (opens.stands told)
 
 pub begin-requires-clause-none : goal.begin-requires-clause-none
@@ -59,9 +59,9 @@ returns-in-Begins-clause-runs g c = λ kept opens.
 
 pub returns-in-Begins-clause-any_moment : goal.returns-in-Begins-clause-any_moment
 returns-in-Begins-clause-any_moment g c = λ told kept opens.
-    let P : (List Change → Type 0) = λ changes. (uuid : List ℕ) × (token : List ℕ) × Begins c.args.set uuid token changes in
+    let P : (List Change → Type 0) = λ changes. (uuid : List ℕ) × (token : List ℕ) × BeginsDevice c.args.set uuid token changes in
     let Q : (List Change → Type 0) = λ changes. (uuid : List ℕ) × (token : List ℕ)
-    × (Begins c.args.set uuid token changes ⊎ (Renews kept.rows token changes ⊎ Adopts kept.rows c.args.words.now c.args.set token changes c.args.words.now)) in
+    × (BeginsDevice c.args.set uuid token changes ⊎ (Renews kept.rows token changes ⊎ Adopts kept.rows c.args.words.now c.args.set token changes c.args.words.now)) in
     weaker g.D.Disk.moment g.D.Disk.left_since (device_disk c.args.self) (called_disk device_disk c.begin.result) (StandsOrHas kept.batches P) (StandsOrHas kept.batches Q)
     (c.begin.ensures.any_moment told kept opens)
     (λ f is. stands_weaker kept.batches P Q f (λ changes has. (has.0, has.1, inl has.2)) is)
@@ -89,7 +89,7 @@ pub returns-in-Renews-clause-any_moment : goal.returns-in-Renews-clause-any_mome
 returns-in-Renews-clause-any_moment g c = λ told kept opens.
     let P : (List Change → Type 0) = λ changes. (token : List ℕ) × Renews kept.rows token changes in
     let Q : (List Change → Type 0) = λ changes. (uuid : List ℕ) × (token : List ℕ)
-    × (Begins c.args.set uuid token changes ⊎ (Renews kept.rows token changes ⊎ Adopts kept.rows c.args.words.now c.args.set token changes c.args.words.now)) in
+    × (BeginsDevice c.args.set uuid token changes ⊎ (Renews kept.rows token changes ⊎ Adopts kept.rows c.args.words.now c.args.set token changes c.args.words.now)) in
     weaker g.D.Disk.moment g.D.Disk.left_since (device_disk c.args.self) (called_disk device_disk c.renew.result) (StandsOrHas kept.batches P) (StandsOrHas kept.batches Q)
     (c.renew.ensures.any_moment told kept opens)
     (λ f is. stands_weaker kept.batches P Q f (λ changes has. ([], has.0, inr (inl has.1))) is)
@@ -117,7 +117,7 @@ pub returns-in-Adopts-clause-any_moment : goal.returns-in-Adopts-clause-any_mome
 returns-in-Adopts-clause-any_moment g c = λ told kept opens.
     let P : (List Change → Type 0) = λ changes. (token : List ℕ) × Adopts kept.rows c.args.words.now c.args.set token changes c.adopt_account.new.words in
     let Q : (List Change → Type 0) = λ changes. (uuid : List ℕ) × (token : List ℕ)
-    × (Begins c.args.set uuid token changes ⊎ (Renews kept.rows token changes ⊎ Adopts kept.rows c.args.words.now c.args.set token changes c.adopt_account.new.words)) in
+    × (BeginsDevice c.args.set uuid token changes ⊎ (Renews kept.rows token changes ⊎ Adopts kept.rows c.args.words.now c.args.set token changes c.adopt_account.new.words)) in
     weaker g.D.Disk.moment g.D.Disk.left_since (device_disk c.args.self) (called_disk device_disk c.adopt_account.result) (StandsOrHas kept.batches P)
     (StandsOrHas kept.batches Q) (c.adopt_account.ensures.any_moment told kept opens)
     (λ f is. stands_weaker kept.batches P Q f (λ changes has. ([], has.0, inr (inr has.1))) is)

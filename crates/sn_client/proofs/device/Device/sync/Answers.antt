@@ -6,7 +6,7 @@ use Rattle.sn_client.specs.States.{HasNoAccount, HasSets}
 use Rattle.sn_client.specs.Syncing.{IsOpenSince, MayHaveSince, gives_nothing}
 use Rattle.sn_client.specs.declared.called.Called.TheVariants as called
 use Rattle.sn_client.specs.declared.error.ClientError.TheVariants as refusal
-use Rattle.sn_client.specs.declared.went.Went.TheVariants.{On, Over}
+use Rattle.sn_client.specs.declared.piece_end.PieceEnd.TheVariants.{On, Over}
 use Rattle.sn_client.proofs.Moments.{calls_over, moments_over, still_open}
 use Rattle.sn_client.proofs.RegisterLemmas.{refused_call}
 use Rattle.sn_client.proofs.SyncRuns.{sync_unowned, sync_wanting, syncs_goes}

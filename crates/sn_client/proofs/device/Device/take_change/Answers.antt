@@ -9,7 +9,7 @@ use Rattle.sn_client.specs.Runs.{AnswersChange, CommitsStep}
 use Rattle.sn_client.specs.Steps.{adopts}
 use Rattle.sn_client.specs.Syncing.{IsOpenSince, MayHaveSince, WentBy, called_past}
 use Rattle.sn_client.proofs.KeepLemmas.{no_link_rises}
-use Rattle.sn_client.proofs.WentLemmas.{went_within, went_quietly}
+use Rattle.sn_client.proofs.PieceLemmas.{went_within, went_quietly}
 use Rattle.sn_client.proofs.device.Device.take_change.Goals as goal
 
 pub returns-in-Account-clause-went : goal.returns-in-Account-clause-went

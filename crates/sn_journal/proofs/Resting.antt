@@ -1,10 +1,10 @@
--- A journal that was opened is settled.
+-- A journal that was opened is at rest.
 use Rattle.std.proofs.Common.{◌≡◌, ◌⊎◌, inl, inr, ℕ, List, [], ◌∷◌, ◌++◌, length, sym, ◌∙◌, ap, subst}
 use Rattle.sn_disk.specs.Disk.{Only}
 use Rattle.sn_disk.specs.declared.disk.Disk.{Ghosts}
 use Rattle.sn_journal.specs.Image.{front, IsChain, IsImage, IsBeforeOrAfter}
 use Rattle.sn_journal.specs.Opening.{IsOpened}
-use Rattle.sn_journal.specs.Settled.{IsSettled, IsRead, IsLoaded}
+use Rattle.sn_journal.specs.AtRest.{HasDurably, IsRead, IsLoaded}
 use Rattle.sn_journal.specs.Findings.{one_image, either_list}
 use Rattle.sn_journal.specs.declared.owner.Owner.{Owner}
 use Rattle.sn_journal.specs.declared.journal.Journal.{Journal}
@@ -13,7 +13,7 @@ use Rattle.sn_journal.specs.declared.loading.Opened.{Opened}
 module _ {D : Type 0} {g : Ghosts D} (owner : Owner) (journal : Journal D g) (old new : D) (opened : Opened) where
   read_of : (o : IsOpened g.seen g.may_leave owner old new opened) → journal.disk ≡ new → journal.owner ≡ owner → journal.gate ≡ opened.gate → journal.count ≡ opened.count → IsRead journal opened.batches o.payloads
   read_of o disk owned gate count = record {
-    settled = record {
+    durably = record {
       chain = subst (λ (d : D). IsChain journal.owner (g.seen d) o.payloads) (sym disk) (subst (λ (w : Owner). IsChain w (g.seen new) o.payloads) (sym owned) o.chain);
       place = gate ∙ o.gate_is ∙ ap (λ (w : Owner). length (front w o.payloads)) (sym owned);
       count = count ∙ o.count_is;

@@ -24,8 +24,8 @@ use Rattle.sn_client.specs.declared.called.Called.TheVariants as called
 use Rattle.sn_client.specs.declared.device.Device.{Device}
 use Rattle.sn_client.specs.declared.error.ClientError.{ClientError}
 use Rattle.sn_client.specs.declared.error.ClientError.TheVariants as refusal
-use Rattle.sn_client.specs.declared.went.Went.{Went}
-use Rattle.sn_client.specs.declared.went.Went.TheVariants.{On, Over}
+use Rattle.sn_client.specs.declared.piece_end.PieceEnd.{PieceEnd}
+use Rattle.sn_client.specs.declared.piece_end.PieceEnd.TheVariants.{On, Over}
 use Rattle.sn_client.proofs.CallLemmas.{stops_refused}
 use Rattle.sn_client.proofs.Moments.{ends_as, may_on, open_on}
 use Rattle.sn_client.proofs.SyncLemmas.{ends_behind, exchanges_append, kept_append}
@@ -85,7 +85,7 @@ module _ {S D T : Type 0} (is_open : S → Kept → Type 0) (may_have : D → Ke
       record { acts = []; halt = refused why; so = so; exchanges = []; are = refl; asked_so = none; ends = (refl, opens) }
 
   -- a piece that asks nothing, where nothing is asked
-  pub went_quietly : (piece : Point → List Act → Turn → Type 0) (p : Point) (kept : Kept) (host : Bytes) (left : ChaCha) (result : Went S D T)
+  pub went_quietly : (piece : Point → List Act → Turn → Type 0) (p : Point) (kept : Kept) (host : Bytes) (left : ChaCha) (result : PieceEnd S D T)
       (asks : List Exchange → Type 0) → asks [] → WentBy is_open may_have piece p kept host none_asked left result
       → WentBy is_open may_have piece p kept host asks left result
   went_quietly piece p kept host left (On device made) asks none w = record {
@@ -109,7 +109,7 @@ module _ {S D T : Type 0} (is_open : S → Kept → Type 0) (may_have : D → Ke
   -- ---- a piece that is part of another
 
   pub went_within : (part whole : Point → List Act → Turn → Type 0) (p q : Point) (kept : Kept) (host : Bytes) (asks : List Exchange → Type 0) (left : ChaCha)
-      (result : Went S D T) → ((acts : List Act) (turn : Turn) → part p acts turn → whole q acts turn)
+      (result : PieceEnd S D T) → ((acts : List Act) (turn : Turn) → part p acts turn → whole q acts turn)
       → WentBy is_open may_have part p kept host asks left result → WentBy is_open may_have whole q kept host asks left result
   went_within part whole p q kept host asks left (On device made) within w = record {
     acts = w.acts;
@@ -159,7 +159,7 @@ module _ {S D T : Type 0} (is_open : S → Kept → Type 0) (may_have : D → Ke
     }
 
     -- an answer came, and behind it the call went so
-    behind_said : (earlier since all : List Exchange → Type 0) (left : ChaCha) (given : Answer) (result : Went S D T)
+    behind_said : (earlier since all : List Exchange → Type 0) (left : ChaCha) (given : Answer) (result : PieceEnd S D T)
         → ((xs ys : List Exchange) → earlier xs → since ys → all (xs ++ ys)) → made < most_exchanges → AsksOnce earlier host r (said given)
         → WentBy is_open may_have (next given) (record { made = suc made; rows = kept.rows; words = words }) kept host since left result
         → WentBy is_open may_have (AsksHost r next) (stood_at made kept words) kept host all left result
@@ -181,7 +181,7 @@ module _ {S D T : Type 0} (is_open : S → Kept → Type 0) (may_have : D → Ke
       ends = ends_behind is_open may_have kept (asked r (said given) ∷ []) w.acts w.halt left result w.ends;
     }
 
-    pub hears_well : (earlier since all : List Exchange → Type 0) (left : ChaCha) (given : Answer) (there : Bytes) (count : ℕ) (result : Went S D T)
+    pub hears_well : (earlier since all : List Exchange → Type 0) (left : ChaCha) (given : Answer) (there : Bytes) (count : ℕ) (result : PieceEnd S D T)
         → ((xs ys : List Exchange) → earlier xs → since ys → all (xs ++ ys)) → there ≡ host → count ≡ suc made
         → IsHeardBehind made earlier host r (Ok given)
         → WentBy is_open may_have (next given) (record { made = count; rows = kept.rows; words = words }) kept there since left result
@@ -195,7 +195,7 @@ module _ {S D T : Type 0} (is_open : S → Kept → Type 0) (may_have : D → Ke
         aimed w))
 
     -- an answer came, and behind it no more was asked
-    pub hears_still : (asks : List Exchange → Type 0) (left : ChaCha) (given : Answer) (count : ℕ) (result : Went S D T) → count ≡ suc made
+    pub hears_still : (asks : List Exchange → Type 0) (left : ChaCha) (given : Answer) (count : ℕ) (result : PieceEnd S D T) → count ≡ suc made
         → IsHeardBehind made asks host r (Ok given)
         → WentBy is_open may_have (next given) (record { made = count; rows = kept.rows; words = words }) kept host (λ xs. xs ≡ []) left result
         → WentBy is_open may_have (AsksHost r next) (stood_at made kept words) kept host asks left result
@@ -253,7 +253,7 @@ module _ {S D T : Type 0} (is_open : S → Kept → Type 0) (may_have : D → Ke
 
     -- and then the next piece
     module _ (changes : List Change) (after : ChaCha) (step : Step kept.rows words what changes after) (next : Point → List Act → Turn → Type 0) where
-      pub commit_then : (result : Went S D T) → IsBatch changes → WentBy is_open may_have next (stood_at made (with_batch kept changes) after) (with_batch kept changes) host asks left result
+      pub commit_then : (result : PieceEnd S D T) → IsBatch changes → WentBy is_open may_have next (stood_at made (with_batch kept changes) after) (with_batch kept changes) host asks left result
           → WentBy is_open may_have (Then (CommitsStep what) next) (stood_at made kept words) kept host asks left result
       commit_then (On last count) fits w = record {
         acts = commits what changes ∷ w.acts;
@@ -290,7 +290,7 @@ module _ {S D T : Type 0} (is_open : S → Kept → Type 0) (may_have : D → Ke
     }
 
     -- the call goes on behind it
-    pub then_on : (earlier since all : List Exchange → Type 0) (between left : ChaCha) (device : S) (made : ℕ) (result : Went S D T)
+    pub then_on : (earlier since all : List Exchange → Type 0) (between left : ChaCha) (device : S) (made : ℕ) (result : PieceEnd S D T)
         → ((xs ys : List Exchange) → earlier xs → since ys → all (xs ++ ys))
         → (one : WentBy {T = T} is_open may_have first p kept host earlier between (On device made))
         → WentBy is_open may_have next (record { made = made; rows = (kept_done kept one.acts).rows; words = between }) (kept_done kept one.acts) host since
@@ -323,7 +323,7 @@ module _ {S D T : Type 0} (is_open : S → Kept → Type 0) (may_have : D → Ke
   -- ---- the end as a call
 
   pub answers_over : (piece : Point → List Act → Turn → Type 0) (p : Point) (kept : Kept) (host : Bytes) (asks : List Exchange → Type 0) (left : ChaCha)
-      (went : Went S D T) (result : Called S D T) → IsAnsweredPast went result → WentBy is_open may_have piece p kept host asks left went
+      (went : PieceEnd S D T) (result : Called S D T) → IsAnsweredPast went result → WentBy is_open may_have piece p kept host asks left went
       → GoesOver is_open may_have gives_nothing (AnswersNothing piece p) asks host kept left result
   answers_over piece p kept host asks left (On device made) result (given, is) w =
       let over : GoesOver is_open may_have gives_nothing (AnswersNothing piece p) asks host kept left (called.Done device given) =
@@ -357,7 +357,7 @@ module _ {S D T : Type 0} (is_open : S → Kept → Type 0) (may_have : D → Ke
 module _ {S D T : Type 0} (P Q : S → Kept → Type 0) (M N : D → Kept → List Change → Type 0) (kept : Kept)
     (opens : (device : S) (acts : List Act) → P device (kept_done kept acts) → Q device (kept_done kept acts))
     (may : (disk : D) (acts : List Act) (changes : List Change) → M disk (kept_done kept acts) changes → N disk (kept_done kept acts) changes) where
-  pub went_as : (piece : Point → List Act → Turn → Type 0) (p : Point) (host : Bytes) (asks : List Exchange → Type 0) (left : ChaCha) (result : Went S D T)
+  pub went_as : (piece : Point → List Act → Turn → Type 0) (p : Point) (host : Bytes) (asks : List Exchange → Type 0) (left : ChaCha) (result : PieceEnd S D T)
       → WentBy P M piece p kept host asks left result → WentBy Q N piece p kept host asks left result
   went_as piece p host asks left (On device made) w = record {
     acts = w.acts;
@@ -380,7 +380,7 @@ module _ {S D T : Type 0} (P Q : S → Kept → Type 0) (M N : D → Kept → Li
 module _ {D T : Type 0} {g : Ghosts D} (old : Device D g) (kept : Kept) (first next : Point → List Act → Turn → Type 0) (p : Point) (host : Bytes) where
   -- one piece behind another, on the device that the first one left
   pub goes_behind : (earlier since all : List Exchange → Type 0) (between left : ChaCha) (device : Device D g) (made : ℕ) (there : Bytes)
-      (result : Went (Device D g) D T) → ((xs ys : List Exchange) → earlier xs → since ys → all (xs ++ ys)) → there ≡ host
+      (result : PieceEnd (Device D g) D T) → ((xs ys : List Exchange) → earlier xs → since ys → all (xs ++ ys)) → there ≡ host
       → (one : WentBy {T = T} (IsOpenSince old kept) (MayHaveSince old kept) first p kept host earlier between (On device made))
       → WentBy (IsOpenSince device (kept_done kept one.acts)) (MayHaveSince device (kept_done kept one.acts)) next
       (record { made = made; rows = (kept_done kept one.acts).rows; words = between }) (kept_done kept one.acts) there since left result
@@ -397,7 +397,7 @@ module _ {D T : Type 0} {g : Ghosts D} (old : Device D g) (kept : Kept) (what : 
     (host : Bytes) (asks : List Exchange → Type 0) (left : ChaCha) where
   -- one piece behind a commit, on the device that has it
   pub commit_behind : (changes : List Change) (after : ChaCha) (step : Step kept.rows words what changes after) (device : Device D g)
-      (result : Went (Device D g) D T) → IsBatch changes → IsOpenSince old kept device (with_batch kept changes)
+      (result : PieceEnd (Device D g) D T) → IsBatch changes → IsOpenSince old kept device (with_batch kept changes)
       → WentBy (IsOpenSince device (with_batch kept changes)) (MayHaveSince device (with_batch kept changes)) next
       (record { made = made; rows = (with_batch kept changes).rows; words = after }) (with_batch kept changes) host asks left result
       → WentBy (IsOpenSince old kept) (MayHaveSince old kept) (Then (CommitsStep what) next) (record { made = made; rows = kept.rows; words = words }) kept host

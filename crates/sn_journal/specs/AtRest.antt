@@ -19,26 +19,26 @@ module _ {D : Type 0} {g : Ghosts D} where
   owner_of journal = journal.owner
 
   -- its disk has these batches, also after a crash
-  pub record IsSettled (journal : Journal D g) (payloads : List (List ℕ)) : Type 0 where
+  pub record HasDurably (journal : Journal D g) (payloads : List (List ℕ)) : Type 0 where
     pub chain : IsChain journal.owner (g.seen journal.disk) payloads
     pub place : journal.gate ≡ length (front journal.owner payloads)
     pub count : journal.count ≡ length payloads
     pub durable : Only (g.seen journal.disk) (g.may_leave journal.disk)
 
-  -- settled, and these bytes read as its payloads
+  -- at rest, and these bytes read as its payloads
   pub record IsRead (journal : Journal D g) (bytes : List ℕ) (payloads : List (List ℕ)) : Type 0 where
-    pub settled : IsSettled journal payloads
+    pub durably : HasDurably journal payloads
     pub read : AreIn bytes payloads
 
-  -- settled with the batches that this file stands for
+  -- at rest with the batches that this file stands for
   pub record IsLoaded (owner : Owner) (file : List ℕ) (journal : Journal D g) (bytes : List ℕ) : Type 0 where
     pub payloads : List (List ℕ)
     pub read : IsRead journal bytes payloads
     pub image : IsImage owner file payloads
 
   -- a crash leaves its batches
-  pub settled_each : (journal : Journal D g) (payloads : List (List ℕ)) → IsSettled journal payloads → (c : List ℕ) → g.may_leave (disk_of journal) c → IsImage (owner_of journal) c payloads
-  settled_each journal payloads s c left = inl (subst (λ (f : List ℕ). IsChain journal.owner f payloads) (sym (s.durable c left)) s.chain)
+  pub durable_each : (journal : Journal D g) (payloads : List (List ℕ)) → HasDurably journal payloads → (c : List ℕ) → g.may_leave (disk_of journal) c → IsImage (owner_of journal) c payloads
+  durable_each journal payloads s c left = inl (subst (λ (f : List ℕ). IsChain journal.owner f payloads) (sym (s.durable c left)) s.chain)
 
   -- the disk that an append hands on
   abbrev pub disk_after : Result (Journal D g) (AppendError D g) → D

@@ -7,38 +7,38 @@ use std::marker::Model;
 
 /// An owned list. A contract sees its elements.
 #[derive(Drop)]
-pub struct Many<T> {
+pub struct OwnedList<T> {
     elements: Vec<T>,
 }
 
-impl<T> Model for Many<T> {
+impl<T> Model for OwnedList<T> {
     ghost Value = { List T };
 
     ghost view = { λ m. m.elements.items };
 }
 
-impl<T: Drop> Many<T> {
+impl<T: Drop> OwnedList<T> {
     /// The list without elements. Takes no memory.
-    pub fn new(alloc: Global) -> Many<T>
+    pub fn new(alloc: Global) -> OwnedList<T>
         ensures { result ≡ [] }
     {
-        Many {
+        OwnedList {
             elements: Vec::new(alloc),
         }
     }
 
     /// The vector as a list. Takes no memory.
-    pub fn of_vec(elements: Vec<T>) -> Many<T>
+    pub fn of_vec(elements: Vec<T>) -> OwnedList<T>
         ensures { result ≡ elements.items }
     {
-        Many { elements }
+        OwnedList { elements }
     }
 
     /// The list as a vector. Takes no memory.
     pub fn into_vec(self) -> Vec<T>
         ensures { result.items ≡ self }
     {
-        let Many { elements } = self;
+        let OwnedList { elements } = self;
         elements
     }
 

@@ -1,6 +1,6 @@
 use Rattle.std.proofs.Common.{◌∙◌}
-use Rattle.sn_rows.proofs.Same.{item_same}
-use Rattle.sn_rows.proofs.server_rows.ItemRowTwin.twin.Goals as goal
+use Rattle.sn_rows.proofs.EqualColumns.{item_same}
+use Rattle.sn_rows.proofs.server_rows.ItemRowTryClone.try_clone.Goals as goal
 
 pub returns : goal.returns
 returns c =
