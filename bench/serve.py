@@ -2,7 +2,8 @@
 """Times `sn serve` over loopback, with its commits on a real disk, and puts the figures into RESULTS.md.
 
 A request with a commit syncs its file twice. So beside it stands what two `fdatasync` cost on the same file system, each
-after a write of as many bytes, measured in turn with it. Times are by the clock.
+after a write of as many bytes, measured in turn with it; and what a C program costs that does for a request what any server
+must, and nothing besides (`bare_server.c`), asked by the same client. Times are by the clock.
 """
 
 import argparse
@@ -11,7 +12,9 @@ import json
 import os
 import pathlib
 import random
+import shutil
 import socket
+import subprocess
 import sys
 import tempfile
 import time
@@ -26,12 +29,15 @@ sys.path.insert(0, str(pathlib.Path(__file__).resolve().parent.parent / "tests")
 import serving  # noqa: E402
 
 TITLE = "## The server"
+HERE = pathlib.Path(__file__).resolve().parent
 
 PW = "11" * 32
 BAR = 1.3
 SIZES = (10_000, 100_000)
 # About what the two strings of an item have in these requests.
 ITEM_BYTES = 1_000
+# About what the body of an answer to one item has.
+BARE_ANSWER = 300
 
 drawn = random.Random(20261127)
 
@@ -97,6 +103,26 @@ def timed_syncs(client, folder, requests, count):
     return asked / requests, bare / requests
 
 
+def timed_bare(folder, requests, written):
+    """Seconds a request, and seconds of two bare syncs, of a program that reads a request, writes and syncs twice, and sends
+    an answer of as many bytes; nothing where there is no C compiler."""
+    if shutil.which("cc") is None:
+        print("bench: the bare server is skipped, since there is no C compiler", file=sys.stderr)
+        return None
+    program = os.path.join(folder, "bare_server")
+    subprocess.run(["cc", "-O2", "-o", program, str(HERE / "bare_server.c")], check=True)
+    sent = request("POST", "/items/sync", "0" * 64, json.dumps({"api": "20190520", "items": new_items(1), "sync_token": "0" * 24}).encode())
+    asked, bare = 0.0, 0.0
+    command = [program, os.path.join(folder, "bare-store"), str(written), str(BARE_ANSWER)]
+    with subprocess.Popen(command, stdout=subprocess.PIPE, text=True) as server:
+        with socket.create_connection(("127.0.0.1", int(server.stdout.readline()))) as connection:
+            connection.setsockopt(socket.IPPROTO_TCP, socket.TCP_NODELAY, 1)
+            for _ in range(requests):
+                asked += exchanged(connection, sent)[0]
+                bare += two_syncs(folder, written)
+    return asked / requests, bare / requests
+
+
 def timed_reads(client, requests):
     took = 0.0
     with socket.create_connection(("127.0.0.1", client.port)) as connection:
@@ -135,6 +161,11 @@ def measured(folder, requests):
             met = "≤ %.1f, %s" % (BAR, "met" if asked / bare <= BAR else "not met")
             row = (count, asked * 1e3, 1 / asked, bare * 1e3, asked / bare, met if count == 1 else "")
             lines.append("| a sync of %d new items | %.2f | %.0f | %.2f | %.2f | %s |" % row)
+        least = timed_bare(folder, requests, ITEM_BYTES)
+        if least:
+            asked, bare = least
+            row = (asked * 1e3, 1 / asked, bare * 1e3, asked / bare)
+            lines.append("| a C program that answers nothing, the calls of a sync of 1 item alone | %.2f | %.0f | %.2f | %.2f | |" % row)
         read = timed_reads(client, 10 * requests)
         lines.append("| parameters, without a commit | %.2f | %.0f | | | |" % (read * 1e3, 1 / read))
     for name in calendars.installed():
