@@ -1,11 +1,16 @@
 //! A server without accounts, and accounts' uuids. The token is by an independent implementation: Python's `hmac`.
 
+ghost use Rattle.sn_account.specs.Sound.{IsSound};
+ghost use Rattle.sn_account.specs.States.{IsUnmarked, state_rows};
+
+use crate::checks::{are_bytes, holds, is_text};
 use crate::telling::told;
-use sn_account::{Ruled, account_uuid, first_state, parameters, register, sign_in};
+use sn_account::{Ruled, State, account_uuid, first_state, parameters, register, sign_in};
 use sn_string::{Params, Text, uuid_text};
 use sn_sync::Answer;
 use std::alloc::Global;
 use std::test::Fail;
+use uuid::Uuid;
 
 const TOKEN: &str =
     "00000000-0000-8000-8000-000000000001.be883f77f40967be90508f28969d76611aa7008fa35f11eb523a0215d46bf63f";
@@ -21,23 +26,40 @@ pub(crate) fn alice(alloc: Global) -> Result<Params, Fail> {
 
 #[test]
 fn begins_the_first_account(rt: HostRuntime) -> Result<(), Fail> {
-    let alloc = rt.alloc();
-    let state = first_state(alloc, [0; 32])?;
+    let state = first_state(rt.alloc(), [0; 32])?;
+    begins(rt.alloc(), &state)
+}
+
+fn begins(alloc: Global, state: &State) -> Result<(), Fail>
+    requires unmarked { IsUnmarked state.now }
+    requires sound { IsSound (state_rows state.now) }
+{
     let params = alice(alloc)?;
-    let Ruled { changes, answer } = register(alloc, &state, &params, &[7; 32])?;
-    assert_eq!(rt; changes.len(), 3);
-    let Answer::Account {
-        token,
-        identifier,
-        uuid,
-    } = answer
-    else {
-        return Err("refused".into());
-    };
-    assert_eq!(rt; token.as_str(), TOKEN);
-    assert_eq!(rt; identifier.as_str(), "alice@example.org");
-    assert_eq!(rt; uuid.as_bytes().as_slice(), UUID.as_slice());
-    Ok(())
+    is_begun(&register(alloc, state, &params, &[7; 32])?)
+}
+
+fn is_begun(ruled: &Ruled) -> Result<(), Fail> {
+    holds(ruled.changes.len() == 3, "three changes")?;
+    is_first_account(&ruled.answer)
+}
+
+fn is_first_account(answer: &Answer) -> Result<(), Fail> {
+    match answer {
+        Answer::Account {
+            token,
+            identifier,
+            uuid,
+        } => {
+            is_text(token.as_str(), TOKEN)?;
+            is_text(identifier.as_str(), "alice@example.org")?;
+            are_bytes(uuid.as_bytes(), UUID, "the first uuid")
+        }
+        _ => Err("refused".into()),
+    }
+}
+
+fn is_told(alloc: Global, answer: &Answer, expected: &str) -> Result<(), Fail> {
+    is_text(told(alloc, answer)?.as_str(), expected)
 }
 
 #[test]
@@ -45,8 +67,7 @@ fn tells_nothing_of_an_unknown_identifier(rt: HostRuntime) -> Result<(), Fail> {
     let alloc = rt.alloc();
     let state = first_state(alloc, [0; 32])?;
     let answer = parameters(alloc, &state, "alice@example.org")?;
-    assert_eq!(rt; told(alloc, &answer)?.as_str(), "404 unknown");
-    Ok(())
+    is_told(alloc, &answer, "404 unknown")
 }
 
 #[test]
@@ -54,18 +75,29 @@ fn admits_no_unknown_identifier(rt: HostRuntime) -> Result<(), Fail> {
     let alloc = rt.alloc();
     let state = first_state(alloc, [0; 32])?;
     let answer = sign_in(alloc, &state, "alice@example.org", &[7; 32])?;
-    assert_eq!(rt; told(alloc, &answer)?.as_str(), "404 unknown");
-    Ok(())
+    is_told(alloc, &answer, "404 unknown")
 }
 
 #[test]
 fn numbers_uuids(rt: HostRuntime) -> Result<(), Fail> {
-    for (number, text) in [
-        (1, "00000000-0000-8000-8000-000000000001"),
-        (255, "00000000-0000-8000-8000-0000000000ff"),
-        (1_000_000, "00000000-0000-8000-8000-0000000f4240"),
-    ] {
-        assert_eq!(rt; uuid_text(rt.alloc(), account_uuid(number))?.as_str(), text);
-    }
-    Ok(())
+    let alloc = rt.alloc();
+    is_spelled(
+        alloc,
+        account_uuid(1),
+        "00000000-0000-8000-8000-000000000001",
+    )?;
+    is_spelled(
+        alloc,
+        account_uuid(255),
+        "00000000-0000-8000-8000-0000000000ff",
+    )?;
+    is_spelled(
+        alloc,
+        account_uuid(1_000_000),
+        "00000000-0000-8000-8000-0000000f4240",
+    )
+}
+
+fn is_spelled(alloc: Global, uuid: Uuid, expected: &str) -> Result<(), Fail> {
+    is_text(uuid_text(alloc, uuid)?.as_str(), expected)
 }

@@ -7,6 +7,8 @@ mod accounts;
 #[cfg(test)]
 mod changes;
 #[cfg(test)]
+mod checks;
+#[cfg(test)]
 mod parts;
 #[cfg(test)]
 mod passwords;

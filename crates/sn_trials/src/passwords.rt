@@ -7,11 +7,12 @@ ghost use Rattle.sn_account.specs.States.{IsUnmarked, state_rows};
 ghost use Rattle.sn_string.specs.Bounds.{IsNonce};
 
 use crate::accounts::alice;
+use crate::checks::{holds, is_text};
 use crate::parts::{ALICE, ALICE_LATER};
 use crate::telling::told;
 use crate::turns::with_alice;
-use sn_account::{State, change_password, parameters, register, sign_in};
-use sn_string::Text;
+use sn_account::{Ruled, State, change_password, parameters, register, sign_in};
+use sn_string::{Params, Text};
 use sn_sync::Answer;
 use std::alloc::{AllocError, Global};
 use std::test::Fail;
@@ -24,36 +25,62 @@ fn admission(alloc: Global, answer: &Answer) -> Result<String, AllocError> {
     }
 }
 
+fn is_admission(alloc: Global, answer: &Answer, expected: &str) -> Result<(), Fail> {
+    is_text(admission(alloc, answer)?.as_str(), expected)
+}
+
 #[test]
 fn begins_no_second_account_of_an_identifier(rt: HostRuntime) -> Result<(), Fail> {
-    let alloc = rt.alloc();
-    let state = with_alice(alloc)?;
-    let again = register(alloc, &state, &alice(alloc)?, &[7; 32])?;
-    assert_eq!(rt; admission(alloc, &again.answer)?.as_str(), "409 taken");
-    assert_eq!(rt; again.changes.len(), 0);
-    Ok(())
+    let state = with_alice(rt.alloc())?;
+    begins_no_second(rt.alloc(), &state)
+}
+
+fn begins_no_second(alloc: Global, state: &State) -> Result<(), Fail>
+    requires unmarked { IsUnmarked state.now }
+    requires sound { IsSound (state_rows state.now) }
+{
+    let params = alice(alloc)?;
+    is_taken(alloc, &register(alloc, state, &params, &[7; 32])?)
+}
+
+fn is_taken(alloc: Global, ruled: &Ruled) -> Result<(), Fail> {
+    is_admission(alloc, &ruled.answer, "409 taken")?;
+    holds(ruled.changes.len() == 0, "no change")
 }
 
 #[test]
 fn admits_to_an_account(rt: HostRuntime) -> Result<(), Fail> {
     let alloc = rt.alloc();
     let state = with_alice(alloc)?;
-    let admitted = sign_in(alloc, &state, "alice@example.org", &[7; 32])?;
-    assert_eq!(rt; admission(alloc, &admitted)?.as_str(), ALICE);
-    let rejected = sign_in(alloc, &state, "alice@example.org", &[8; 32])?;
-    assert_eq!(rt; admission(alloc, &rejected)?.as_str(), "401 bad-auth");
-    Ok(())
+    admits(alloc, &state, 7, ALICE)?;
+    admits(alloc, &state, 8, "401 bad-auth")
+}
+
+fn admits(alloc: Global, state: &State, byte: u8, expected: &str) -> Result<(), Fail>
+    requires unmarked { IsUnmarked state.now }
+    requires sound { IsSound (state_rows state.now) }
+{
+    let answer = sign_in(alloc, state, "alice@example.org", &[byte; 32])?;
+    is_admission(alloc, &answer, expected)
 }
 
 #[test]
 fn tells_the_parameters_of_an_account(rt: HostRuntime) -> Result<(), Fail> {
-    let alloc = rt.alloc();
-    let state = with_alice(alloc)?;
-    let Answer::Params(params) = parameters(alloc, &state, "alice@example.org")? else {
-        return Err("refused".into());
-    };
-    assert!(rt; params.same(&alice(alloc)?));
-    Ok(())
+    let state = with_alice(rt.alloc())?;
+    let answer = parameters(rt.alloc(), &state, "alice@example.org")?;
+    are_alices(rt.alloc(), &answer)
+}
+
+fn are_alices(alloc: Global, answer: &Answer) -> Result<(), Fail> {
+    let params = alice(alloc)?;
+    are_parameters(answer, &params)
+}
+
+fn are_parameters(answer: &Answer, expected: &Params) -> Result<(), Fail> {
+    match answer {
+        Answer::Params(params) => holds(params.same(expected), "the parameters"),
+        _ => Err("refused".into()),
+    }
 }
 
 struct Change {
@@ -123,12 +150,19 @@ fn nonce_of(alloc: Global, nonce: &str) -> Result<Text, Fail>
     Ok(Text::of(alloc, nonce)?)
 }
 
+fn changes(alloc: Global, state: &State, change: &Change) -> Result<(), Fail>
+    requires unmarked { IsUnmarked state.now }
+    requires sound { IsSound (state_rows state.now) }
+{
+    let told = change_told(alloc, state, change)?;
+    is_text(told.as_str(), change.told)
+}
+
 #[test]
 fn changes_a_password(rt: HostRuntime) -> Result<(), Fail> {
     let state = with_alice(rt.alloc())?;
     for change in &CHANGES {
-        let told = change_told(rt.alloc(), &state, change)?;
-        assert_eq!(rt; told.as_str(), change.told);
+        changes(rt.alloc(), &state, change)?;
     }
     Ok(())
 }

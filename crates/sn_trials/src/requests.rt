@@ -78,88 +78,179 @@ pub(crate) fn text_of(alloc: Global, asked: &Asked) -> Result<String, AllocError
 
 fn registration_text(alloc: Global, identifier: &str, nonce: &str) -> Result<String, AllocError> {
     let pw = pw_text(alloc, "07")?;
-    format!(in alloc;
-        "{{\"email\":\"{identifier}\",\"password\":\"{pw}\",\"pw_cost\":110000,\"pw_nonce\":\"{nonce}\",\"version\":\"003\"}}"
+    joined(
+        alloc,
+        &[
+            "{\"email\":\"",
+            identifier,
+            "\",\"password\":\"",
+            pw.as_str(),
+            "\",\"pw_cost\":110000,\"pw_nonce\":\"",
+            nonce,
+            "\",\"version\":\"003\"}",
+        ],
     )
 }
 
 fn sign_in_text(alloc: Global, identifier: &str, password: &str) -> Result<String, AllocError> {
     let pw = pw_text(alloc, password)?;
-    format!(in alloc; "{{\"email\":\"{identifier}\",\"password\":\"{pw}\"}}")
+    joined(
+        alloc,
+        &[
+            "{\"email\":\"",
+            identifier,
+            "\",\"password\":\"",
+            pw.as_str(),
+            "\"}",
+        ],
+    )
 }
 
 fn change_text(alloc: Global, current: &str, new: &str, nonce: &str) -> Result<String, AllocError> {
     let current = pw_text(alloc, current)?;
     let new = pw_text(alloc, new)?;
-    format!(in alloc;
-        "{{\"current_password\":\"{current}\",\"new_password\":\"{new}\",\"pw_cost\":110000,\"pw_nonce\":\"{nonce}\",\"version\":\"003\"}}"
+    joined(
+        alloc,
+        &[
+            "{\"current_password\":\"",
+            current.as_str(),
+            "\",\"new_password\":\"",
+            new.as_str(),
+            "\",\"pw_cost\":110000,\"pw_nonce\":\"",
+            nonce,
+            "\",\"version\":\"003\"}",
+        ],
     )
 }
 
-// 32 times the same byte in hex.
-fn pw_text(alloc: Global, byte: &str) -> Result<String, AllocError> {
+/// These pieces, one behind the other.
+pub(crate) fn joined(alloc: Global, pieces: &[&str]) -> Result<String, AllocError> {
     let mut text = String::new(alloc);
-    for _ in 0..32 {
-        text.push_str(byte)?;
+    for piece in pieces {
+        text.push_str(piece)?;
     }
     Ok(text)
 }
 
+// So many times this piece.
+fn repeated(alloc: Global, piece: &str, count: u32) -> Result<String, AllocError> {
+    let mut text = String::new(alloc);
+    for _ in 0..count {
+        text.push_str(piece)?;
+    }
+    Ok(text)
+}
+
+// 32 times the same byte in hex.
+fn pw_text(alloc: Global, byte: &str) -> Result<String, AllocError> {
+    repeated(alloc, byte, 32)
+}
+
 fn sync_text(alloc: Global, item: &Option<Sent>, members: &str) -> Result<String, AllocError> {
-    let item = match item {
-        Some(sent) => item_text(alloc, sent)?,
-        None => String::new(alloc),
-    };
-    format!(in alloc; "{{\"api\":\"20190520\",\"items\":[{item}]{members}}}")
+    match item {
+        Some(sent) => items_text(alloc, item_text(alloc, sent)?.as_str(), members),
+        None => items_text(alloc, "", members),
+    }
+}
+
+// A sync of these items, with the members that follow them.
+fn items_text(alloc: Global, items: &str, members: &str) -> Result<String, AllocError> {
+    joined(
+        alloc,
+        &[
+            "{\"api\":\"20190520\",\"items\":[",
+            items,
+            "]",
+            members,
+            "}",
+        ],
+    )
 }
 
 fn item_text(alloc: Global, sent: &Sent) -> Result<String, AllocError> {
     let uuid = format!(in alloc; "00000000-0000-4000-8000-0000000000{:02}", sent.number)?;
     let sealed = sealed_text(alloc, uuid.as_str(), sent.part)?;
-    let deleted = sent.part.is_empty();
-    let known = sent.known;
-    format!(in alloc;
-        "{{\"uuid\":\"{uuid}\",\"content_type\":\"Note\",\"content\":\"{sealed}\",\"enc_item_key\":\"{sealed}\",\"deleted\":{deleted},\"updated_at\":{known}}}"
+    note_text(
+        alloc,
+        uuid.as_str(),
+        sealed.as_str(),
+        deleted_text(sent.part),
+        sent.known,
     )
 }
 
+fn deleted_text(part: &str) -> &'static str {
+    if part.is_empty() { "true" } else { "false" }
+}
+
+// A note whose strings are both this one.
+fn note_text(
+    alloc: Global,
+    uuid: &str,
+    sealed: &str,
+    deleted: &str,
+    known: &str,
+) -> Result<String, AllocError> {
+    joined(
+        alloc,
+        &[
+            "{\"uuid\":\"",
+            uuid,
+            "\",\"content_type\":\"Note\",\"content\":\"",
+            sealed,
+            "\",\"enc_item_key\":\"",
+            sealed,
+            "\",\"deleted\":",
+            deleted,
+            ",\"updated_at\":",
+            known,
+            "}",
+        ],
+    )
+}
+
+// Before the uuid, and between it and the params part.
+const SEALED_FRONT: &str = "003:0000000000000000000000000000000000000000000000000000000000000000:";
+
+const SEALED_MIDDLE: &str = ":00000000000000000000000000000000:AAAAAAAAAAAAAAAAAAAAAA==:";
+
 fn sealed_text(alloc: Global, uuid: &str, part: &str) -> Result<String, AllocError> {
-    let zeros = "0000000000000000000000000000000000000000000000000000000000000000";
     if part == "x" {
         return "x".to_string(alloc);
     }
-    format!(in alloc;
-        "003:{zeros}:{uuid}:{}:AAAAAAAAAAAAAAAAAAAAAA==:{part}",
-        &zeros[..32]
-    )
+    joined(alloc, &[SEALED_FRONT, uuid, SEALED_MIDDLE, part])
 }
 
 /// A sync of 501 items.
 pub(crate) fn wide_text(alloc: Global) -> Result<String, AllocError> {
-    let item = item_text(
+    let item = Sent {
+        number: 1,
+        known: "null",
+        part: "",
+    };
+    let item = item_text(alloc, &item)?;
+    let further = joined(alloc, &[",", item.as_str()])?;
+    let further = repeated(alloc, further.as_str(), 500)?;
+    joined(
         alloc,
-        &Sent {
-            number: 1,
-            known: "null",
-            part: "",
-        },
-    )?;
-    let mut items = item.clone()?;
-    for _ in 0..500 {
-        items.push_str(",")?;
-        items.push_str(item.as_str())?;
-    }
-    format!(in alloc; "{{\"api\":\"20190520\",\"items\":[{}]}}", items.as_str())
+        &[
+            "{\"api\":\"20190520\",\"items\":[",
+            item.as_str(),
+            further.as_str(),
+            "]}",
+        ],
+    )
 }
 
 /// A sync of an item whose item key has 1,048,577 bytes.
 pub(crate) fn long_text(alloc: Global) -> Result<String, AllocError> {
-    let mut string = String::new(alloc);
-    for _ in 0..1_048_577 {
-        string.push_str("x")?;
-    }
-    let string = string.as_str();
-    format!(in alloc;
-        "{{\"api\":\"20190520\",\"items\":[{{\"uuid\":\"00000000-0000-4000-8000-000000000001\",\"content_type\":\"Note\",\"content\":\"x\",\"enc_item_key\":\"{string}\"}}]}}"
+    let string = repeated(alloc, "x", 1_048_577)?;
+    joined(
+        alloc,
+        &[
+            "{\"api\":\"20190520\",\"items\":[{\"uuid\":\"00000000-0000-4000-8000-000000000001\",\"content_type\":\"Note\",\"content\":\"x\",\"enc_item_key\":\"",
+            string.as_str(),
+            "\"}]}",
+        ],
     )
 }

@@ -1,6 +1,7 @@
 //! Serving a disk in memory at a port in memory, with ample memory: each way in which it ends but for damaged files and rows
 //! that aren't a server's, with which `sessions` has loads.
 
+use crate::checks::holds;
 use sn_disk::{CrashImage, MemDisk, MemShelf, Shelf, Stop};
 use sn_io::{MemSeeds, MemSink, MemSource};
 use sn_net::{MemClock, MemPort};
@@ -104,75 +105,98 @@ static CASES: [Case; 8] = [
     },
 ];
 
+fn disk_of(alloc: Global, bytes: &[u8], stop: Stop) -> Result<MemDisk, Fail> {
+    let mut disk = MemDisk::new(alloc, bytes.to_vec(alloc)?, Vec::new(alloc))?;
+    disk.set_stop(stop);
+    Ok(disk)
+}
+
 fn shelf_of(alloc: Global, case: &Case) -> Result<MemShelf, Fail> {
     let mut shelf = MemShelf::new(alloc, Vec::new(alloc));
     if let Some(bytes) = case.disk {
-        let mut disk = MemDisk::new(alloc, bytes.to_vec(alloc)?, Vec::new(alloc))?;
-        disk.set_stop(case.stop);
+        let disk = disk_of(alloc, bytes, case.stop)?;
         shelf.put("server".to_string(alloc)?, disk)?;
     }
     Ok(shelf)
 }
 
+fn connection_of(alloc: Global, input: &[u8]) -> Result<(MemSource, MemSink), Fail> {
+    let source = MemSource::new(input.to_vec(alloc)?, 10, Vec::new(alloc));
+    Ok((source, MemSink::new(alloc, 4096, Vec::new(alloc))))
+}
+
 fn port_of(alloc: Global, case: &Case) -> Result<MemPort, Fail> {
     let mut waiting = Vec::new(alloc);
     for input in case.connections {
-        let source = MemSource::new(input.to_vec(alloc)?, 10, Vec::new(alloc));
-        waiting.push((source, MemSink::new(alloc, 4096, Vec::new(alloc))))?;
+        waiting.push(connection_of(alloc, input)?)?;
     }
     Ok(MemPort::new(alloc, waiting, 4711, case.failing_port.to_vec(alloc)?))
 }
 
-// How serving ended, what was written to the output, how many connections were answered, and whether the disk is back.
-#[derive(Drop)]
-struct Seen {
-    ended: Served,
-    out: MemSink,
-    answered: usize,
-    is_back: bool,
+fn out_of(alloc: Global, case: &Case) -> Result<MemSink, Fail> {
+    Ok(MemSink::new(alloc, 4096, case.failing_out.to_vec(alloc)?))
 }
 
-fn serve_case(alloc: Global, case: &Case) -> Result<Seen, Fail> {
+fn clock_of(alloc: Global) -> Result<MemClock, Fail> {
+    Ok(MemClock::new([1000u64].to_vec(alloc)?))
+}
+
+fn seeds_of(alloc: Global) -> Result<MemSeeds, Fail> {
+    Ok(MemSeeds::new([[7u8; 32]].to_vec(alloc)?))
+}
+
+// How the shelf is served at the port.
+fn serve_at(
+    alloc: Global,
+    requests: u64,
+    shelf: &mut MemShelf,
+    port: &mut MemPort,
+    out: &mut MemSink,
+) -> Result<Served, Fail> {
+    let mut clock = clock_of(alloc)?;
+    let mut seeds = seeds_of(alloc)?;
+    Ok(serve(
+        alloc, "server", 0, requests, shelf, port, out, &mut clock, &mut seeds,
+    ))
+}
+
+// Serving ends so, writes this to the output and answers so many connections, and the disk is back.
+fn ends_so(alloc: Global, case: &Case) -> Result<(), Fail> {
     let mut shelf = shelf_of(alloc, case)?;
     let mut port = port_of(alloc, case)?;
-    let mut out = MemSink::new(alloc, 4096, case.failing_out.to_vec(alloc)?);
-    let mut clock = MemClock::new([1000u64].to_vec(alloc)?);
-    let mut seeds = MemSeeds::new([[7u8; 32]].to_vec(alloc)?);
-    let ended = serve(
-        alloc,
-        "server",
-        0,
-        case.requests,
-        &mut shelf,
-        &mut port,
-        &mut out,
-        &mut clock,
-        &mut seeds,
-    );
-    Ok(Seen {
-        ended,
-        out,
-        answered: answered(&port),
-        is_back: shelf.take("server").is_ok(),
-    })
+    let mut out = out_of(alloc, case)?;
+    let ended = serve_at(alloc, case.requests, &mut shelf, &mut port, &mut out)?;
+    holds(
+        ended == case.ends && is_left(case, &out, &port, &mut shelf),
+        case.name,
+    )
+}
+
+fn is_left(case: &Case, out: &MemSink, port: &MemPort, shelf: &mut MemShelf) -> bool {
+    out.bytes() == case.out
+        && answered(port) == case.answered
+        && is_back(shelf) == case.disk.is_some()
+}
+
+fn is_back(shelf: &mut MemShelf) -> bool {
+    shelf.take("server").is_ok()
 }
 
 // The connections in which something is written.
 fn answered(port: &MemPort) -> usize {
-    port.ended()
-        .iter()
-        .filter(|ends| !ends.1.bytes().is_empty())
-        .count()
+    let mut count = 0usize;
+    for ends in port.ended() {
+        if !ends.1.bytes().is_empty() {
+            count = count.saturating_add(1);
+        }
+    }
+    count
 }
 
 #[test]
 fn each_end(rt: HostRuntime) -> Result<(), Fail> {
     for case in &CASES {
-        let seen = serve_case(rt.alloc(), case)?;
-        assert_eq!(rt; seen.ended, case.ends, "{}", case.name);
-        assert_eq!(rt; seen.out.bytes(), case.out, "{}", case.name);
-        assert_eq!(rt; seen.answered, case.answered, "{}", case.name);
-        assert_eq!(rt; seen.is_back, case.disk.is_some(), "{}", case.name);
+        ends_so(rt.alloc(), case)?;
     }
     Ok(())
 }

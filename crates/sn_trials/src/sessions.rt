@@ -6,6 +6,9 @@ ghost use Rattle.sn_account.specs.Sound.{IsSound};
 ghost use Rattle.sn_server.specs.Outcomes.{IfOver};
 ghost use Rattle.sn_server.specs.Stores.{server_rows};
 
+use crate::checks::{are_bytes, holds, is_text};
+use crate::requests::joined;
+use crate::telling::told;
 use sn_disk::{Call, CrashImage, MemDisk, Stop};
 use sn_io::{Failed, MemSink, MemSource};
 use sn_items::Words;
@@ -99,13 +102,23 @@ static ANSWERS: [Exchange; 6] = [
     },
 ];
 
+// A session of a fresh server with this input ends so, behind so many answers, which are these.
+fn ends(
+    alloc: Global,
+    input: &str,
+    budget: u64,
+    end: Ended,
+    answers: (u64, &str),
+) -> Result<(), Fail> {
+    let (how, count, sink) = ended(alloc, input.as_bytes(), budget)?;
+    are_bytes(sink.bytes(), answers.1.as_bytes(), input)?;
+    holds(how == end && count == answers.0, input)
+}
+
 #[test]
 fn answers_requests(rt: HostRuntime) -> Result<(), Fail> {
     for row in &ANSWERS {
-        let input = row.input;
-        let (how, count, sink) = ended(rt.alloc(), input.as_bytes(), 9)?;
-        assert_eq!(rt; sink.bytes(), row.answer.as_bytes(), "{input}");
-        assert_eq!(rt; (how, count), (Ended::End, 1), "{input}");
+        ends(rt.alloc(), row.input, 9, Ended::End, (1, row.answer))?;
     }
     Ok(())
 }
@@ -133,19 +146,15 @@ static CHECKS: [Exchange; 4] = [
 #[test]
 fn answers_failing_checks(rt: HostRuntime) -> Result<(), Fail> {
     for row in &CHECKS {
-        let input = row.input;
-        let (how, count, sink) = ended(rt.alloc(), input.as_bytes(), 9)?;
-        assert_eq!(rt; sink.bytes(), row.answer.as_bytes(), "{input}");
-        assert_eq!(rt; (how, count), (Ended::Broken { place: 0 }, 1), "{input}");
+        let end = Ended::Broken { place: 0 };
+        ends(rt.alloc(), row.input, 9, end, (1, row.answer))?;
     }
     Ok(())
 }
 
 #[test]
 fn an_empty_connection(rt: HostRuntime) -> Result<(), Fail> {
-    let (how, count, sink) = ended(rt.alloc(), b"", 1)?;
-    assert_eq!(rt; (sink.bytes().len(), how, count), (0, Ended::End, 0));
-    Ok(())
+    ends(rt.alloc(), "", 1, Ended::End, (0, ""))
 }
 
 const REGISTER: &str =
@@ -165,42 +174,41 @@ const UNKNOWN: &str =
 // An account begins, and its parameters are answered behind that; at the budget the rest isn't read.
 #[test]
 fn an_account(rt: HostRuntime) -> Result<(), Fail> {
-    let input = format!(in rt.alloc(); "{REGISTER}{PARAMS}{PARAMS}")?;
-    let two = format!(in rt.alloc(); "{BEGUN}{GIVEN}")?;
-    let three = format!(in rt.alloc(); "{two}{GIVEN}")?;
-    let rows = [
-        (2, Ended::Budget, &two),
-        (3, Ended::Budget, &three),
-        (9, Ended::End, &three),
-    ];
-    for (budget, end, answers) in rows {
-        let (how, count, sink) = ended(rt.alloc(), input.as_bytes(), budget)?;
-        assert_eq!(rt; (how, count), (end, budget.min(3)));
-        assert_eq!(rt; sink.bytes(), answers.as_bytes());
-    }
-    Ok(())
+    let alloc = rt.alloc();
+    let input = joined(alloc, &[REGISTER, PARAMS, PARAMS])?;
+    let two = joined(alloc, &[BEGUN, GIVEN])?;
+    let three = joined(alloc, &[BEGUN, GIVEN, GIVEN])?;
+    ends(alloc, input.as_str(), 2, Ended::Budget, (2, two.as_str()))?;
+    ends(alloc, input.as_str(), 3, Ended::Budget, (3, three.as_str()))?;
+    ends(alloc, input.as_str(), 9, Ended::End, (3, three.as_str()))
 }
 
-// What a disk's server answers to the question for the account's parameters.
-fn parameters(alloc: Global, disk: MemDisk) -> Result<MemSink, Fail> {
+// A disk's server answers so to the question for the account's parameters.
+fn gives(alloc: Global, disk: MemDisk, answer: &str) -> Result<(), Fail> {
     let (_, sink) = served(alloc, loaded(alloc, disk)?, PARAMS.as_bytes(), 1)?;
-    Ok(sink)
+    are_bytes(sink.bytes(), answer.as_bytes(), "the parameters")
+}
+
+// The server after a registration that it answers.
+fn registered(alloc: Global, server: Server<MemDisk>) -> Result<Server<MemDisk>, Fail>
+    requires { IsSound (server_rows server) }
+{
+    let (session, sink) = served(alloc, server, REGISTER.as_bytes(), 1)?;
+    are_bytes(sink.bytes(), BEGUN.as_bytes(), "the account")?;
+    match session {
+        Session::Over(server, _, _) => Ok(server),
+        Session::Broken(_) => Err(Failed.into()),
+    }
 }
 
 // The answer stands behind a commit, which is there after the next load. A fresh journal takes seven calls, a commit four.
 #[test]
 fn a_later_load_has_the_account(rt: HostRuntime) -> Result<(), Fail> {
     let server = fresh(rt.alloc())?;
-    assert_eq!(rt; server.disk().calls().len(), 11);
-    let (session, sink) = served(rt.alloc(), server, REGISTER.as_bytes(), 1)?;
-    let Session::Over(server, _, _) = session else {
-        return Err(Failed.into());
-    };
-    assert_eq!(rt; sink.bytes(), BEGUN.as_bytes());
-    assert_eq!(rt; server.disk().calls().len(), 15);
-    let sink = parameters(rt.alloc(), server.close())?;
-    assert_eq!(rt; sink.bytes(), GIVEN.as_bytes());
-    Ok(())
+    holds(server.disk().calls().len() == 11, "calls of a load")?;
+    let server = registered(rt.alloc(), server)?;
+    holds(server.disk().calls().len() == 15, "calls of a commit")?;
+    gives(rt.alloc(), server.close(), GIVEN)
 }
 
 // What a registration at a fresh server writes and leaves, where its disk stops.
@@ -214,19 +222,28 @@ fn stopped_commit(alloc: Global, stop: Stop) -> Result<(MemDisk, MemSink), Fail>
     }
 }
 
-// A disk that stops in any call of a commit: nothing is answered, and from the write of the gate on the account may stand.
+// From the write of the gate on the account may stand.
+fn left_by_a_commit(calls: u64, image: CrashImage) -> &'static str {
+    if calls >= 2 && image == CrashImage::New {
+        GIVEN
+    } else {
+        UNKNOWN
+    }
+}
+
+fn breaks_a_commit(alloc: Global, calls: u64, image: CrashImage) -> Result<(), Fail> {
+    let (mut disk, sink) = stopped_commit(alloc, Stop::After { calls, image })?;
+    holds(sink.bytes().is_empty(), "nothing is answered")?;
+    disk.set_stop(Stop::Never);
+    gives(alloc, disk, left_by_a_commit(calls, image))
+}
+
+// A disk that stops in any call of a commit: nothing is answered, and the account stands or doesn't.
 #[test]
 fn a_broken_commit_answers_nothing(rt: HostRuntime) -> Result<(), Fail> {
     for calls in 0..4u64 {
-        for image in [CrashImage::Old, CrashImage::New] {
-            let (mut disk, sink) = stopped_commit(rt.alloc(), Stop::After { calls, image })?;
-            assert_eq!(rt; sink.bytes().len(), 0);
-            disk.set_stop(Stop::Never);
-            let stands = calls >= 2 && image == CrashImage::New;
-            let sink = parameters(rt.alloc(), disk)?;
-            let answer = if stands { GIVEN } else { UNKNOWN };
-            assert_eq!(rt; sink.bytes(), answer.as_bytes(), "{calls} {image:?}");
-        }
+        breaks_a_commit(rt.alloc(), calls, CrashImage::Old)?;
+        breaks_a_commit(rt.alloc(), calls, CrashImage::New)?;
     }
     Ok(())
 }
@@ -237,17 +254,19 @@ fn stopped_load(alloc: Global, stop: Stop) -> Result<(MemDisk, ServerError), Fai
     refusal_of(alloc, disk)
 }
 
+fn breaks_a_load(alloc: Global, calls: u64, image: CrashImage) -> Result<(), Fail> {
+    let (mut disk, error) = stopped_load(alloc, Stop::After { calls, image })?;
+    holds(error == ServerError::DiskFault, "the refusal")?;
+    disk.set_stop(Stop::Never);
+    gives(alloc, disk, UNKNOWN)
+}
+
 // A first load that stops in any call leaves a disk that loads again.
 #[test]
 fn a_broken_load(rt: HostRuntime) -> Result<(), Fail> {
     for calls in 0..11u64 {
-        for image in [CrashImage::Old, CrashImage::New] {
-            let (mut disk, error) = stopped_load(rt.alloc(), Stop::After { calls, image })?;
-            assert_eq!(rt; error, ServerError::DiskFault);
-            disk.set_stop(Stop::Never);
-            let sink = parameters(rt.alloc(), disk)?;
-            assert_eq!(rt; sink.bytes(), UNKNOWN.as_bytes(), "{calls} {image:?}");
-        }
+        breaks_a_load(rt.alloc(), calls, CrashImage::Old)?;
+        breaks_a_load(rt.alloc(), calls, CrashImage::New)?;
     }
     Ok(())
 }
@@ -275,30 +294,42 @@ static REFUSED: [RefusedDisk; 3] = [
     },
 ];
 
+fn is_synced_once(calls: &[Call]) -> bool {
+    matches!(calls, [Call::Synced])
+}
+
+fn refuses(alloc: Global, case: &RefusedDisk) -> Result<(), Fail> {
+    let (disk, error) = refusal_of(alloc, disk_of(alloc, case.file)?)?;
+    holds(is_refused(case, &disk, error), "the refusal")
+}
+
+// It is refused so, the bytes stay, and its one call was a sync.
+fn is_refused(case: &RefusedDisk, disk: &MemDisk, error: ServerError) -> bool {
+    error == case.error && disk.bytes() == case.file && is_synced_once(disk.calls())
+}
+
 #[test]
 fn refused_disks(rt: HostRuntime) -> Result<(), Fail> {
     for case in &REFUSED {
-        let (disk, error) = refusal_of(rt.alloc(), disk_of(rt.alloc(), case.file)?)?;
-        assert_eq!(rt; error, case.error);
-        assert_eq!(rt; disk.bytes(), case.file);
-        assert!(rt; matches!(disk.calls(), [Call::Synced]));
+        refuses(rt.alloc(), case)?;
     }
     Ok(())
+}
+
+// What a fresh server answers to a request that is handed in.
+fn handed_in(alloc: Global) -> Result<Answer, Fail> {
+    let Ok(request) = read_request(alloc, Route::Params, "", b"email=alice") else {
+        return Err(Failed.into());
+    };
+    match fresh(alloc)?.handle(request, 0) {
+        Handled::Done(_, answer) => Ok(answer),
+        Handled::Broken(_) => Err(Failed.into()),
+    }
 }
 
 // A request that is handed in is answered with no connection.
 #[test]
 fn a_request(rt: HostRuntime) -> Result<(), Fail> {
-    let Ok(request) = read_request(rt.alloc(), Route::Params, "", b"email=alice") else {
-        return Err(Failed.into());
-    };
-    let Handled::Done(_, given) = fresh(rt.alloc())?.handle(request, 0) else {
-        return Err(Failed.into());
-    };
-    let Answer::Refused { status, tag, .. } = given else {
-        return Err(Failed.into());
-    };
-    assert_eq!(rt; status, 404);
-    assert_eq!(rt; tag.as_str(), "unknown");
-    Ok(())
+    let answer = handed_in(rt.alloc())?;
+    is_text(told(rt.alloc(), &answer)?.as_str(), "404 unknown")
 }

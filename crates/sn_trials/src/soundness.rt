@@ -1,6 +1,7 @@
 //! Sound rows, each time with one change, and the first kind of which some row isn't sound then. What is asked of each kind
 //! stands in docs/FORMATS.md.
 
+use crate::checks::holds;
 use sn_account::{first_state, first_unsound};
 use sn_rows::{
     AccountRow, Boxed, Change, GenerationRow, ItemRow, Key, Row, RowKind, StoreRow, Value,
@@ -71,7 +72,8 @@ fn change_of(alloc: Global, made: &Made) -> Result<Change, Fail> {
     }
 }
 
-fn store(last: u64, accounts: u64) -> Result<Change, Fail> {
+/// Puts the store's row.
+pub(crate) fn store(last: u64, accounts: u64) -> Result<Change, Fail> {
     let row = StoreRow::new([7; 32], last, accounts).ok_or("store")?;
     Ok(Change::Put(Row {
         key: Key::Store,
@@ -79,7 +81,13 @@ fn store(last: u64, accounts: u64) -> Result<Change, Fail> {
     }))
 }
 
-fn account(alloc: Global, number: u64, identifier: &str, generation: u64) -> Result<Change, Fail> {
+/// Puts an account's row.
+pub(crate) fn account(
+    alloc: Global,
+    number: u64,
+    identifier: &str,
+    generation: u64,
+) -> Result<Change, Fail> {
     let identifier = Text::of(alloc, identifier)?;
     let row = AccountRow::new(identifier, generation, [9; 32]).ok_or("account")?;
     Ok(Change::Put(Row {
@@ -422,33 +430,25 @@ fn kind_told(alloc: Global, made: &Made) -> Result<Option<RowKind>, Fail> {
     Ok(first_unsound(alloc, &state)?)
 }
 
-// How many of the changes are told otherwise.
-fn differing(alloc: Global, changes: &[Made], kind: Option<RowKind>) -> Result<usize, Fail> {
-    let mut count = 0usize;
+// Each of the changes is told as this kind.
+fn all_told(alloc: Global, changes: &[Made], kind: Option<RowKind>) -> Result<(), Fail> {
     for made in changes {
-        if kind_told(alloc, made)? != kind {
-            count = count.saturating_add(1);
-        }
+        holds(kind_told(alloc, made)? == kind, "the kind")?;
     }
-    Ok(count)
+    Ok(())
 }
 
 #[test]
 fn tells_none_of_sound_rows(rt: HostRuntime) -> Result<(), Fail> {
-    assert_eq!(rt; differing(rt.alloc(), &STILL_SOUND, None)?, 0);
-    Ok(())
+    all_told(rt.alloc(), &STILL_SOUND, None)
 }
 
 #[test]
 fn tells_the_first_kind(rt: HostRuntime) -> Result<(), Fail> {
     let alloc = rt.alloc();
-    assert_eq!(rt; differing(alloc, &STORES, Some(RowKind::Store))?, 0);
-    assert_eq!(rt; differing(alloc, &ACCOUNTS, Some(RowKind::Account))?, 0);
-    assert_eq!(rt;
-        differing(alloc, &GENERATIONS, Some(RowKind::Generation))?,
-        0
-    );
-    assert_eq!(rt; differing(alloc, &ITEMS, Some(RowKind::Item))?, 0);
-    assert_eq!(rt; differing(alloc, &STRINGS, Some(RowKind::Item))?, 0);
-    Ok(())
+    all_told(alloc, &STORES, Some(RowKind::Store))?;
+    all_told(alloc, &ACCOUNTS, Some(RowKind::Account))?;
+    all_told(alloc, &GENERATIONS, Some(RowKind::Generation))?;
+    all_told(alloc, &ITEMS, Some(RowKind::Item))?;
+    all_told(alloc, &STRINGS, Some(RowKind::Item))
 }

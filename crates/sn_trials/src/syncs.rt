@@ -1,6 +1,7 @@
 //! Syncs of two accounts one after another, with what is answered to each. The tokens and the answers are by an
 //! independent implementation over docs/SERVER.md (`tests/rule.py`).
 
+use crate::checks::is_text;
 use crate::parts::{A, ALICE, B, BO};
 use crate::requests::{Asked, Sent, long_text, wide_text};
 use crate::turns::{Turn, first_difference, handled, with_two};
@@ -210,8 +211,7 @@ static TURNS: [Turn; 17] = [
 
 #[test]
 fn syncs_in_turn(rt: HostRuntime) -> Result<(), Fail> {
-    assert_eq!(rt; first_difference(rt.alloc(), &TURNS)?.as_str(), "");
-    Ok(())
+    is_text(first_difference(rt.alloc(), &TURNS)?.as_str(), "")
 }
 
 // What is told of Alice's sync with this text.
@@ -220,22 +220,20 @@ fn first_told(alloc: Global, text: &str) -> Result<String, Fail> {
     handled(alloc, &mut state, Route::Sync, ALICE, text, 0)
 }
 
+fn refuses(alloc: Global, text: &str, expected: &str) -> Result<(), Fail> {
+    is_text(first_told(alloc, text)?.as_str(), expected)
+}
+
 #[test]
 fn refuses_too_many_items(rt: HostRuntime) -> Result<(), Fail> {
-    let text = wide_text(rt.alloc())?;
-    assert_eq!(rt;
-        first_told(rt.alloc(), text.as_str())?.as_str(),
-        "413 wide 501"
-    );
-    Ok(())
+    refuses(rt.alloc(), wide_text(rt.alloc())?.as_str(), "413 wide 501")
 }
 
 #[test]
 fn refuses_a_string_that_is_too_long(rt: HostRuntime) -> Result<(), Fail> {
-    let text = long_text(rt.alloc())?;
-    assert_eq!(rt;
-        first_told(rt.alloc(), text.as_str())?.as_str(),
-        "413 long 1048577 #1"
-    );
-    Ok(())
+    refuses(
+        rt.alloc(),
+        long_text(rt.alloc())?.as_str(),
+        "413 long 1048577 #1",
+    )
 }
