@@ -67,13 +67,6 @@ fn items_of(alloc: Global, link: ServerLink) -> Result<OwnedList<(Key, Value)>, 
 
 // A text with a uuid for each `#`.
 fn with_uuid(alloc: Global, text: &str, uuid: Uuid) -> Result<String, Fail> {
-    let mut filled = String::new(alloc);
-    for letter in text.chars() {
-        if letter == '#' {
-            filled.push_str(&format!(in alloc; "{uuid}")?)?;
-        } else {
-            filled.push(letter)?;
-        }
-    }
-    Ok(filled)
+    let uuid = format!(in alloc; "{uuid}")?;
+    Ok(text.replace(alloc, '#', &uuid)?)
 }

@@ -8,7 +8,9 @@ use crate::tests::drafts::{
 use sn_items::Words;
 use sn_net::MemLink;
 use sn_string::Bytes;
+use sn_sync::Item;
 use std::alloc::Global;
+use std::process::Abort;
 use std::test::Fail;
 
 // What is told at an answer, and whether the draft stays and is sent again as it was sent before.
@@ -18,6 +20,20 @@ fn told(alloc: Global, answer: &[u8]) -> Result<(String, bool), Fail> {
     let is_shown = client.shown()?.as_str() == SHOWN;
     let second = answered(alloc, &mut client, b"")?;
     Ok((first.why, is_shown && first.request.same(&second.request)))
+}
+
+// Asserts the place that is told at an answer, and that the draft stays.
+fn expect(
+    rt: &impl Abort,
+    alloc: Global,
+    answer: &str,
+    place: &str,
+    name: &str,
+) -> Result<(), Fail> {
+    let (why, stays) = told(alloc, answer.as_bytes())?;
+    assert_eq!(rt; why.as_str(), place, "{name}");
+    assert!(rt; stays, "{name}");
+    Ok(())
 }
 
 // Bytes that are no answer, or whose body is none.
@@ -39,9 +55,7 @@ static BYTES: [(&str, &str); 9] = [
 #[test]
 fn bytes_that_are_no_answer(rt: HostRuntime) -> Result<(), Fail> {
     for (bytes, place) in &BYTES {
-        let (why, stays) = told(rt.alloc(), bytes.as_bytes())?;
-        assert_eq!(rt; why.as_str(), *place, "{bytes}");
-        assert!(rt; stays, "{bytes}");
+        expect(&rt, rt.alloc(), bytes, place, bytes)?;
     }
     Ok(())
 }
@@ -80,12 +94,9 @@ static BODIES: [(&str, &str, &str); 8] = [
 
 #[test]
 fn bodies_that_are_no_answer(rt: HostRuntime) -> Result<(), Fail> {
-    let alloc = rt.alloc();
     for (status, body, place) in &BODIES {
-        let answer = answer_of(alloc, status, body)?;
-        let (why, stays) = told(alloc, answer.as_bytes())?;
-        assert_eq!(rt; why.as_str(), *place, "{answer}");
-        assert!(rt; stays, "{answer}");
+        let answer = answer_of(rt.alloc(), status, body)?;
+        expect(&rt, rt.alloc(), &answer, place, body)?;
     }
     Ok(())
 }
@@ -264,16 +275,24 @@ static LIES: [Lie; 16] = [
     },
 ];
 
+// An answer with these lists, which speak of this item.
+fn lying(alloc: Global, lists: &Lists, item: &Item) -> Result<String, Fail> {
+    let template = body_with(alloc, lists)?;
+    let body = filled(alloc, &template, item)?;
+    answer_of(alloc, "200 OK", &body)
+}
+
+fn expect_lie(rt: &impl Abort, alloc: Global, lie: &Lie, item: &Item) -> Result<(), Fail> {
+    let answer = lying(alloc, &lie.lists, item)?;
+    expect(rt, alloc, &answer, lie.place, lie.name)
+}
+
 #[test]
 fn answers_that_lie(rt: HostRuntime) -> Result<(), Fail> {
     let alloc = rt.alloc();
     let item = sent_item(alloc)?;
     for lie in &LIES {
-        let body = filled(alloc, &body_with(alloc, &lie.lists)?, &item)?;
-        let answer = answer_of(alloc, "200 OK", &body)?;
-        let (why, stays) = told(alloc, answer.as_bytes())?;
-        assert_eq!(rt; why.as_str(), lie.place, "{}", lie.name);
-        assert!(rt; stays, "{}", lie.name);
+        expect_lie(&rt, alloc, lie, &item)?;
     }
     Ok(())
 }
@@ -311,12 +330,24 @@ fn long_pages(rt: HostRuntime) -> Result<(), Fail> {
 
 // A link that gives so many answers with empty lists.
 fn giving_empty_pages(alloc: Global, count: u64) -> Result<MemLink, Fail> {
-    let answer = answer_of(alloc, "200 OK", &body_with(alloc, &NONE)?)?;
-    let mut answers = Vec::new(alloc);
-    for _ in 0..count {
-        answers.push(Bytes::of(alloc, answer.as_bytes())?)?;
-    }
+    let body = body_with(alloc, &NONE)?;
+    let answer = answer_of(alloc, "200 OK", &body)?;
+    let answers = copies(alloc, answer.as_bytes(), count)?;
     Ok(MemLink::new(alloc, answers, Vec::new(alloc)))
+}
+
+fn copies(alloc: Global, bytes: &[u8], count: u64) -> Result<Vec<Bytes>, Fail> {
+    let mut copies = Vec::new(alloc);
+    for _ in 0..count {
+        push_copy(alloc, &mut copies, bytes)?;
+    }
+    Ok(copies)
+}
+
+fn push_copy(alloc: Global, copies: &mut Vec<Bytes>, bytes: &[u8]) -> Result<(), Fail> {
+    let copy = Bytes::of(alloc, bytes)?;
+    copies.push(copy)?;
+    Ok(())
 }
 
 // What becomes of a sync at so many of these: the refusal, the number of requests, and what the list shows.
@@ -346,28 +377,38 @@ fn too_many_empty_pages(rt: HostRuntime) -> Result<(), Fail> {
 }
 
 // Parameters of another account, to a device that signs in.
+static PARAMETERS: [(&str, &str); 3] = [
+    (
+        "{\"identifier\":\"ben\",\"pw_cost\":1,\"pw_nonce\":\"6e\",\"version\":\"003\"}",
+        "member identifier",
+    ),
+    (
+        "{\"identifier\":\"alice\",\"pw_cost\":0,\"pw_nonce\":\"6e\",\"version\":\"003\"}",
+        "member pw_cost",
+    ),
+    (
+        "{\"identifier\":\"alice\",\"pw_cost\":10000001,\"pw_nonce\":\"6e\",\"version\":\"003\"}",
+        "cost 10000001",
+    ),
+];
+
+// Why a fresh device that signs in is refused at this body.
+fn at_parameters(alloc: Global, body: &str) -> Result<String, Fail> {
+    let answer = answer_of(alloc, "200 OK", body)?;
+    signing_in(alloc, answer.as_bytes())
+}
+
+fn signing_in(alloc: Global, answer: &[u8]) -> Result<String, Fail> {
+    let mut link = answering(alloc, answer)?;
+    let mut client = Client::fresh(alloc)?;
+    client.sign_in(&mut link, &mut Words::from_seed([5; 32]), "alice", "p1")
+}
+
 #[test]
 fn parameters_of_another(rt: HostRuntime) -> Result<(), Fail> {
-    let alloc = rt.alloc();
-    let rows = [
-        (
-            "{\"identifier\":\"ben\",\"pw_cost\":1,\"pw_nonce\":\"6e\",\"version\":\"003\"}",
-            "member identifier",
-        ),
-        (
-            "{\"identifier\":\"alice\",\"pw_cost\":0,\"pw_nonce\":\"6e\",\"version\":\"003\"}",
-            "member pw_cost",
-        ),
-        (
-            "{\"identifier\":\"alice\",\"pw_cost\":10000001,\"pw_nonce\":\"6e\",\"version\":\"003\"}",
-            "cost 10000001",
-        ),
-    ];
-    for (body, told) in rows {
-        let mut link = answering(alloc, answer_of(alloc, "200 OK", body)?.as_bytes())?;
-        let mut words = Words::from_seed([5; 32]);
-        let why = Client::fresh(alloc)?.sign_in(&mut link, &mut words, "alice", "p1")?;
-        assert_eq!(rt; why.as_str(), told);
+    for (body, told) in &PARAMETERS {
+        let why = at_parameters(rt.alloc(), body)?;
+        assert_eq!(rt; why.as_str(), *told);
     }
     Ok(())
 }

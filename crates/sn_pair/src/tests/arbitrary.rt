@@ -69,7 +69,7 @@ impl Choice {
 // The lists of an answer.
 #[derive(Drop)]
 struct Lists {
-    conflicts: Vec<(&'static str, Choice)>,
+    conflict: Option<(&'static str, Choice)>,
     cursor: &'static str,
     retrieved: Vec<Choice>,
     saved: Vec<Choice>,
@@ -77,17 +77,23 @@ struct Lists {
 
 fn drawn_lists(alloc: Global, words: &mut Words) -> Result<Lists, Fail> {
     let drawn = words.iv();
-    let mut conflicts = Vec::new(alloc);
-    if drawn[0] % 2 == 0 {
-        let kind = CONFLICTS[drawn[1] as usize % 4];
-        conflicts.push((kind, Choice::of_words(words)))?;
-    }
+    let conflict = drawn_conflict(words, drawn[0], drawn[1]);
+    let retrieved = choices(alloc, words, drawn[3] % 3)?;
+    let saved = choices(alloc, words, drawn[4] % 3)?;
     Ok(Lists {
-        conflicts,
+        conflict,
         cursor: CURSORS[drawn[2] as usize % 4],
-        retrieved: choices(alloc, words, drawn[3] % 3)?,
-        saved: choices(alloc, words, drawn[4] % 3)?,
+        retrieved,
+        saved,
     })
+}
+
+fn drawn_conflict(words: &mut Words, first: u8, second: u8) -> Option<(&'static str, Choice)> {
+    if first % 2 == 0 {
+        Some((CONFLICTS[second as usize % 4], Choice::of_words(words)))
+    } else {
+        None
+    }
 }
 
 fn choices(alloc: Global, words: &mut Words, count: u8) -> Result<Vec<Choice>, Fail> {
@@ -100,9 +106,34 @@ fn choices(alloc: Global, words: &mut Words, count: u8) -> Result<Vec<Choice>, F
 
 // Whether the lists tell a version with the draft's content, and another one. Then nothing has to go on.
 fn is_told_and_replaced(lists: &Lists) -> bool {
-    let is_told = lists.conflicts.iter().any(|(_, choice)| choice.is_own())
-        || lists.retrieved.iter().any(|choice| choice.is_own());
-    is_told && lists.retrieved.iter().any(|choice| choice.is_another())
+    is_told(lists) && has_another(&lists.retrieved)
+}
+
+fn is_told(lists: &Lists) -> bool {
+    if let Some((_, choice)) = &lists.conflict {
+        if choice.is_own() {
+            return true;
+        }
+    }
+    has_own(&lists.retrieved)
+}
+
+fn has_own(choices: &[Choice]) -> bool {
+    for choice in choices {
+        if choice.is_own() {
+            return true;
+        }
+    }
+    false
+}
+
+fn has_another(choices: &[Choice]) -> bool {
+    for choice in choices {
+        if choice.is_another() {
+            return true;
+        }
+    }
+    false
 }
 
 // An item of these choices, at this place of its list.
@@ -110,34 +141,69 @@ fn item_text(alloc: Global, choice: &Choice, place: usize) -> Result<String, Fai
     let uuid = UUIDS[choice.uuid as usize % 4];
     let kind = KINDS[choice.kind as usize % 4];
     let (content, enc) = STRINGS[choice.strings as usize % 8];
-    let deleted = content == "null";
-    let digit = choice.digit;
-    let text = format!(in alloc;
-        "{{\"content\":{content},\"content_type\":\"{kind}\",\"created_at\":\"1970-01-01T00:00:00.000000Z\",\"deleted\":{deleted},\"enc_item_key\":{enc},\"updated_at\":\"1970-01-01T00:00:00.000{place:02}{digit}Z\",\"uuid\":\"{uuid}\"}}"
-    )?;
-    Ok(text)
+    let stamp = format!(in alloc; "{place:02}{}", choice.digit)?;
+    text_of(alloc, uuid, kind, content, enc, &stamp)
+}
+
+// An item of these texts.
+fn text_of(
+    alloc: Global,
+    uuid: &str,
+    kind: &str,
+    content: &str,
+    enc: &str,
+    stamp: &str,
+) -> Result<String, Fail> {
+    let deleted = if content == "null" { "true" } else { "false" };
+    let parts = [
+        "{\"content\":",
+        content,
+        ",\"content_type\":\"",
+        kind,
+        "\",\"created_at\":\"1970-01-01T00:00:00.000000Z\",\"deleted\":",
+        deleted,
+        ",\"enc_item_key\":",
+        enc,
+        ",\"updated_at\":\"1970-01-01T00:00:00.000",
+        stamp,
+        "Z\",\"uuid\":\"",
+        uuid,
+        "\"}",
+    ];
+    Ok(parts.concat(alloc)?)
 }
 
 fn items_text(alloc: Global, choices: &[Choice]) -> Result<String, Fail> {
     let mut text = String::new(alloc);
     for (place, choice) in choices.iter().enumerate() {
-        push_item(&mut text, &item_text(alloc, choice, place)?)?;
+        push_choice(alloc, &mut text, choice, place)?;
     }
     Ok(text)
 }
 
-fn conflicts_text(alloc: Global, conflicts: &[(&str, Choice)]) -> Result<String, Fail> {
-    let mut text = String::new(alloc);
-    for (kind, choice) in conflicts {
-        let item = item_text(alloc, choice, 0)?;
-        push_item(&mut text, &conflict_text(alloc, kind, &item)?)?;
+fn push_choice(
+    alloc: Global,
+    text: &mut String,
+    choice: &Choice,
+    place: usize,
+) -> Result<(), Fail> {
+    let item = item_text(alloc, choice, place)?;
+    push_item(text, &item)
+}
+
+fn conflicts_text(
+    alloc: Global,
+    conflict: &Option<(&'static str, Choice)>,
+) -> Result<String, Fail> {
+    match conflict {
+        Some((kind, choice)) => conflict_text(alloc, kind, &item_text(alloc, choice, 0)?),
+        None => Ok(String::new(alloc)),
     }
-    Ok(text)
 }
 
 // The body of an answer with these lists, still to be filled.
 fn template(alloc: Global, lists: &Lists) -> Result<String, Fail> {
-    let conflicts = conflicts_text(alloc, &lists.conflicts)?;
+    let conflicts = conflicts_text(alloc, &lists.conflict)?;
     let retrieved = items_text(alloc, &lists.retrieved)?;
     let saved = items_text(alloc, &lists.saved)?;
     body_of_texts(alloc, &conflicts, lists.cursor, &retrieved, &saved)
@@ -164,11 +230,15 @@ fn set_byte(bytes: &mut Vec<u8>, place: usize, byte: u8) {
 
 // Whether the draft of this disk's device goes on behind an answer: an item has its content, or a copy of it.
 fn goes_on(alloc: Global, disk: MemDisk, answer: &[u8]) -> Result<bool, Fail> {
+    let shown = shown_behind(alloc, disk, answer)?;
+    Ok(shown.contains("Draft {\"t\":\"a\"") || shown.contains("Clean {\"t\":\"a\""))
+}
+
+fn shown_behind(alloc: Global, disk: MemDisk, answer: &[u8]) -> Result<String, Fail> {
     let mut link = answering(alloc, answer)?;
     let mut client = Client::load(alloc, disk)?;
     client.sync(&mut link, &mut Words::from_seed([6; 32]))?;
-    let shown = client.shown()?;
-    Ok(shown.contains("Draft {\"t\":\"a\"") || shown.contains("Clean {\"t\":\"a\""))
+    client.shown()
 }
 
 // An answer, still to be filled, and whether no draft is lost behind it.

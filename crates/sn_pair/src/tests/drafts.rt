@@ -3,6 +3,7 @@ use crate::tests::client::Client;
 use crate::tests::scene::Does::{Puts, Registers, SyncsAtLossOf};
 use crate::tests::scene::Who::Ann;
 use crate::tests::scene::{Scene, Step};
+use crate::tests::with_uuid;
 use sn_http::{Carry, Incoming, read_message};
 use sn_io::MemSource;
 use sn_items::Words;
@@ -44,9 +45,15 @@ pub(crate) fn answered(alloc: Global, client: &mut Client, answer: &[u8]) -> Res
     if why.is_empty() {
         return Err("the sync was answered".into());
     }
-    let asked = link.asked().first().ok_or("nothing was asked")?;
-    let request = Bytes::of(alloc, asked.request.as_slice())?;
+    let request = first_asked(alloc, &link)?;
     Ok(Sent { why, request })
+}
+
+fn first_asked(alloc: Global, link: &MemLink) -> Result<Bytes, Fail> {
+    match link.asked().first() {
+        Some(asked) => Ok(Bytes::of(alloc, asked.request.as_slice())?),
+        None => Err("nothing was asked".into()),
+    }
 }
 
 /// A request that was answered, and why the call was refused then.
@@ -86,17 +93,14 @@ pub(crate) fn filled(alloc: Global, text: &str, item: &Item) -> Result<String, F
     let Body::Strings { content, enc } = &item.body else {
         return Err("a deletion was sent".into());
     };
-    let uuid = format!(in alloc; "{}", item.uuid)?;
-    let mut filled = String::new(alloc);
-    for letter in text.chars() {
-        match letter {
-            '#' => filled.push_str(&uuid)?,
-            '@' => filled.push_str(content.as_str())?,
-            '%' => filled.push_str(enc.as_str())?,
-            _ => filled.push(letter)?,
-        }
-    }
-    Ok(filled)
+    let strings = with_strings(alloc, text, content.as_str(), enc.as_str())?;
+    with_uuid(alloc, &strings, item.uuid)
+}
+
+// A text with a content for each `@`, and a key for each `%`. Neither string has such a letter, or a `#`.
+fn with_strings(alloc: Global, text: &str, content: &str, enc: &str) -> Result<String, Fail> {
+    let half = text.replace(alloc, '@', content)?;
+    Ok(half.replace(alloc, '%', enc)?)
 }
 
 /// An answer's bytes.
@@ -120,9 +124,14 @@ pub(crate) struct Lists {
 /// The body of an answer with these lists.
 pub(crate) fn body_with(alloc: Global, lists: &Lists) -> Result<String, Fail> {
     let conflicts = conflicts_text(alloc, lists.conflicts)?;
-    let retrieved = joined(alloc, lists.retrieved)?;
-    let saved = joined(alloc, lists.saved)?;
-    body_of_texts(alloc, &conflicts, lists.cursor, &retrieved, &saved)
+    body_behind(alloc, &conflicts, lists)
+}
+
+// The body with these conflicts and the other lists.
+fn body_behind(alloc: Global, conflicts: &str, lists: &Lists) -> Result<String, Fail> {
+    let retrieved = lists.retrieved.join(alloc, ",")?;
+    let saved = lists.saved.join(alloc, ",")?;
+    body_of_texts(alloc, conflicts, lists.cursor, &retrieved, &saved)
 }
 
 /// The body of an answer whose lists have these items, written one behind the other with commas.
@@ -133,26 +142,31 @@ pub(crate) fn body_of_texts(
     retrieved: &str,
     saved: &str,
 ) -> Result<String, Fail> {
-    let text = format!(in alloc;
-        "{{\"conflicts\":[{conflicts}],\"cursor_token\":{cursor},\"retrieved_items\":[{retrieved}],\"saved_items\":[{saved}],\"sync_token\":\"Mjox\"}}"
-    )?;
-    Ok(text)
-}
-
-fn joined(alloc: Global, items: &[&str]) -> Result<String, Fail> {
-    let mut text = String::new(alloc);
-    for item in items {
-        push_item(&mut text, item)?;
-    }
-    Ok(text)
+    let parts = [
+        "{\"conflicts\":[",
+        conflicts,
+        "],\"cursor_token\":",
+        cursor,
+        ",\"retrieved_items\":[",
+        retrieved,
+        "],\"saved_items\":[",
+        saved,
+        "],\"sync_token\":\"Mjox\"}",
+    ];
+    Ok(parts.concat(alloc)?)
 }
 
 fn conflicts_text(alloc: Global, conflicts: &[(&str, &str)]) -> Result<String, Fail> {
     let mut text = String::new(alloc);
     for (kind, item) in conflicts {
-        push_item(&mut text, &conflict_text(alloc, kind, item)?)?;
+        push_conflict(alloc, &mut text, kind, item)?;
     }
     Ok(text)
+}
+
+fn push_conflict(alloc: Global, text: &mut String, kind: &str, item: &str) -> Result<(), Fail> {
+    let conflict = conflict_text(alloc, kind, item)?;
+    push_item(text, &conflict)
 }
 
 /// A conflict of this type.
@@ -162,8 +176,8 @@ pub(crate) fn conflict_text(alloc: Global, kind: &str, item: &str) -> Result<Str
     } else {
         "unsaved_item"
     };
-    let text = format!(in alloc; "{{\"{name}\":{item},\"type\":\"{kind}\"}}")?;
-    Ok(text)
+    let parts = ["{\"", name, "\":", item, ",\"type\":\"", kind, "\"}"];
+    Ok(parts.concat(alloc)?)
 }
 
 /// Writes an item behind others.

@@ -72,6 +72,12 @@ impl Around {
             item: Uuid::from_bytes([0; 16]),
         })
     }
+
+    // What has this number is lost.
+    fn lose(&mut self, alloc: Global, lost: u64) -> Result<(), Fail> {
+        self.link.lose([lost].to_vec(alloc)?);
+        Ok(())
+    }
 }
 
 /// A server, and two devices.
@@ -151,46 +157,121 @@ impl Scene {
     }
 }
 
-// What is told of what a device does.
+// What is told of what a device does: of calls that ask the server here, and of the others below.
 fn done(
     alloc: Global,
     client: &mut Client,
     around: &mut Around,
     does: Does,
 ) -> Result<String, Fail> {
-    let Around { link, words, item } = around;
     match does {
-        Does::Nothing => Ok(String::new(alloc)),
-        Does::Registers(identifier, password, cost) => {
-            client.register(link, words, identifier, password, cost)
+        Does::Registers(identifier, password, cost) => client.register(
+            &mut around.link,
+            &mut around.words,
+            identifier,
+            password,
+            cost,
+        ),
+        Does::SignsIn(identifier, password) => client.sign_in(
+            &mut around.link,
+            &mut around.words,
+            identifier,
+            password,
+        ),
+        Does::Syncs => client.sync(&mut around.link, &mut around.words),
+        Does::SyncsAtLossOf(lost) => sync_at_loss(alloc, client, around, lost),
+        Does::Changes(password) => {
+            client.passwd(&mut around.link, &mut around.words, password, 1)
         }
-        Does::SignsIn(identifier, password) => client.sign_in(link, words, identifier, password),
-        Does::Puts(text) => client.put(words, "Note", text, item),
-        Does::PutsBeside(text) => {
-            let mut beside = *item;
-            client.put(words, "Note", text, &mut beside)
-        }
-        Does::PutsTag(text) => client.put(words, "Tag", text, item),
-        Does::PutsLongest => client.put(words, "Note", &longest(alloc)?, item),
-        Does::PutsLonger => client.put(words, "Note", &longer(alloc)?, item),
-        Does::Edits(text) => client.edit(words, *item, text),
-        Does::EditsLonger => client.edit(words, *item, &longer(alloc)?),
-        Does::Deletes => client.delete(*item),
-        Does::Syncs => client.sync(link, words),
-        Does::SyncsAtLossOf(lost) => {
-            link.lose([lost].to_vec(alloc)?);
-            client.sync(link, words)
-        }
-        Does::Changes(password) => client.passwd(link, words, password, 1),
         Does::ChangesAtLossOf(password, lost) => {
-            link.lose([lost].to_vec(alloc)?);
-            client.passwd(link, words, password, 1)
+            change_at_loss(alloc, client, around, password, lost)
         }
+        _ => done_alone(alloc, client, around, does),
+    }
+}
+
+fn sync_at_loss(
+    alloc: Global,
+    client: &mut Client,
+    around: &mut Around,
+    lost: u64,
+) -> Result<String, Fail> {
+    around.lose(alloc, lost)?;
+    client.sync(&mut around.link, &mut around.words)
+}
+
+fn change_at_loss(
+    alloc: Global,
+    client: &mut Client,
+    around: &mut Around,
+    password: &str,
+    lost: u64,
+) -> Result<String, Fail> {
+    around.lose(alloc, lost)?;
+    client.passwd(&mut around.link, &mut around.words, password, 1)
+}
+
+// What is told of what a device does by itself.
+fn done_alone(
+    alloc: Global,
+    client: &mut Client,
+    around: &mut Around,
+    does: Does,
+) -> Result<String, Fail> {
+    match does {
+        Does::Puts(text) => put(client, around, "Note", text),
+        Does::PutsBeside(text) => put_beside(client, around, text),
+        Does::PutsTag(text) => put(client, around, "Tag", text),
+        Does::PutsLongest => put_made(client, around, longest(alloc)),
+        Does::PutsLonger => put_made(client, around, longer(alloc)),
+        Does::Edits(text) => client.edit(&mut around.words, around.item, text),
+        Does::EditsLonger => edit_made(client, around, longer(alloc)),
+        Does::Deletes => client.delete(around.item),
+        _ => seen(alloc, client, around.item, does),
+    }
+}
+
+fn put(client: &mut Client, around: &mut Around, kind: &str, text: &str) -> Result<String, Fail> {
+    client.put(&mut around.words, kind, text, &mut around.item)
+}
+
+fn put_beside(client: &mut Client, around: &mut Around, text: &str) -> Result<String, Fail> {
+    let mut beside = around.item;
+    client.put(&mut around.words, "Note", text, &mut beside)
+}
+
+fn put_made(
+    client: &mut Client,
+    around: &mut Around,
+    made: Result<String, Fail>,
+) -> Result<String, Fail> {
+    let text = made?;
+    put(client, around, "Note", &text)
+}
+
+fn edit_made(
+    client: &mut Client,
+    around: &mut Around,
+    made: Result<String, Fail>,
+) -> Result<String, Fail> {
+    let text = made?;
+    client.edit(&mut around.words, around.item, &text)
+}
+
+// What a device shows, of an item or of all.
+fn seen(alloc: Global, client: &Client, item: Uuid, does: Does) -> Result<String, Fail> {
+    match does {
         Does::Shows => client.shown(),
         Does::Lists => client.listed(),
-        Does::Reads => client.content(*item),
-        Does::ReadsLongest => unless_longest(alloc, client.content(*item)?),
+        Does::Reads => client.content(item),
+        Does::ReadsLongest => content_unless_longest(alloc, client, item),
+        _ => Ok(String::new(alloc)),
     }
+}
+
+fn content_unless_longest(alloc: Global, client: &Client, item: Uuid) -> Result<String, Fail> {
+    let text = client.content(item)?;
+    unless_longest(alloc, text)
 }
 
 // So many times 5,147 are 699,992.
@@ -199,18 +280,13 @@ const PIECE: &str =
 
 // An object text as long as a content may be: 700,000 bytes.
 fn longest(alloc: Global) -> Result<String, Fail> {
-    let mut text = "{\"a\":\"".to_string(alloc)?;
-    for _ in 0..5_147 {
-        text.push_str(PIECE)?;
-    }
-    text.push_str("\"}")?;
-    Ok(text)
+    let middle = PIECE.repeat(alloc, 5_147)?;
+    Ok(["{\"a\":\"", &middle, "\"}"].concat(alloc)?)
 }
 
 fn longer(alloc: Global) -> Result<String, Fail> {
-    let mut text = longest(alloc)?;
-    text.push('x')?;
-    Ok(text)
+    let text = longest(alloc)?;
+    Ok([text.as_str(), "x"].concat(alloc)?)
 }
 
 fn unless_longest(alloc: Global, text: String) -> Result<String, Fail> {
