@@ -13,4 +13,8 @@ mod report;
 #[cfg(test)]
 mod script;
 #[cfg(test)]
+mod shown;
+#[cfg(test)]
 mod summary;
+#[cfg(test)]
+mod written;

@@ -16,16 +16,18 @@ fn named(number: u8) -> Uuid {
     Uuid::from_bytes([number; 16])
 }
 
+fn sealed(alloc: Global, word: &str) -> Result<RowBody, Fail> {
+    let key = Text::of(alloc, "key")?;
+    let content = Text::of(alloc, word)?;
+    Ok(RowBody::Sealed(RowStrings::new(content, key).ok_or("strings")?))
+}
+
 // None for no word; a deletion; else strings that no set opens.
 fn body(alloc: Global, word: &str) -> Result<Option<RowBody>, Fail> {
     match word {
         "" => Ok(None),
         "gone" => Ok(Some(RowBody::Deleted)),
-        _ => {
-            let content = Text::of(alloc, word)?;
-            let strings = RowStrings::new(content, Text::of(alloc, "key")?).ok_or("strings")?;
-            Ok(Some(RowBody::Sealed(strings)))
-        }
+        _ => Ok(Some(sealed(alloc, word)?)),
     }
 }
 
@@ -33,63 +35,85 @@ fn stood_on(base: u64) -> Option<u64> {
     if base == 0 { None } else { Some(base) }
 }
 
-// An item of the uuid of this number, under a local number.
-fn item(
+// An item of the uuid of this number.
+fn local_item(
     alloc: Global,
-    number: u64,
     uuid: u8,
     base: u64,
     latest: &str,
     posted: &str,
-) -> Result<Change, Fail> {
-    let kind = Text::of(alloc, "Note")?;
+) -> Result<LocalItem, Fail> {
     let latest = body(alloc, latest)?;
     let posted = body(alloc, posted)?;
-    let row = LocalItem::new(
-        named(uuid),
-        kind,
-        stood_on(base),
-        false,
-        None,
-        latest,
-        posted,
-    );
+    let kind = Text::of(alloc, "Note")?;
+    let uuid = named(uuid);
+    let base = stood_on(base);
+    Ok(LocalItem::new(uuid, kind, base, false, None, latest, posted).ok_or("item")?)
+}
+
+fn put(alloc: Global, number: u64, row: LocalItem) -> Result<Change, Fail> {
     Ok(Change::Put(Row {
         key: Key::Local(number),
-        value: Value::Local(Boxed::of(alloc, row.ok_or("item")?)?),
+        value: Value::Local(Boxed::of(alloc, row)?),
     }))
+}
+
+fn word_of(said: &Move) -> &'static str {
+    match said {
+        Move::Accept { .. } => "accept",
+        Move::Drop { .. } => "drop",
+        Move::Edit { .. } => "edit",
+        Move::Fork { .. } => "fork",
+        Move::GiveWay { .. } => "giveway",
+        Move::Join { .. } => "join",
+        Move::Post { .. } => "post",
+        Move::Rename { .. } => "rename",
+        Move::Settle { .. } | Move::SettlePosted { .. } => "settle",
+        _ => "other",
+    }
+}
+
+fn first(uuid: &Uuid) -> u64 {
+    u64::from(uuid.as_bytes()[0])
+}
+
+// The number of the uuid that a move is of, or of the set that a device joins by.
+fn number_of(said: &Move) -> u64 {
+    match said {
+        Move::Join { number, .. } => *number,
+        Move::Accept { uuid, .. }
+        | Move::Drop { uuid, .. }
+        | Move::Edit { uuid, .. }
+        | Move::Fork { uuid, .. }
+        | Move::GiveWay { uuid, .. }
+        | Move::Post { uuid, .. }
+        | Move::Rename { uuid, .. }
+        | Move::Settle { uuid, .. }
+        | Move::SettlePosted { uuid, .. } => first(uuid),
+        _ => 0,
+    }
+}
+
+// What stands behind that number.
+fn rest_of(alloc: Global, said: &Move) -> Result<String, AllocError> {
+    match said {
+        Move::Accept { stamp, under, .. } => {
+            format!(in alloc; " @{stamp} {}", under.unwrap_or(0))
+        }
+        Move::Fork { other, .. } | Move::Rename { other, .. } => {
+            format!(in alloc; " {}", first(other))
+        }
+        Move::SettlePosted { stamp, .. } => format!(in alloc; " @{stamp}"),
+        _ => Ok(String::new(alloc)),
+    }
 }
 
 // A move, with the numbers of the uuids.
 fn line(alloc: Global, said: &Move) -> Result<String, AllocError> {
-    match said {
-        Move::Accept {
-            uuid,
-            stamp,
-            under,
-            ..
-        } => format!(in alloc; "accept {} @{stamp} {}", first(uuid), under.unwrap_or(0)),
-        Move::Drop { uuid, .. } => format!(in alloc; "drop {}", first(uuid)),
-        Move::Edit { uuid, .. } => format!(in alloc; "edit {}", first(uuid)),
-        Move::Fork { uuid, other, .. } => {
-            format!(in alloc; "fork {} {}", first(uuid), first(other))
-        }
-        Move::GiveWay { uuid, .. } => format!(in alloc; "giveway {}", first(uuid)),
-        Move::Join { number, .. } => format!(in alloc; "join {number}"),
-        Move::Post { uuid, .. } => format!(in alloc; "post {}", first(uuid)),
-        Move::Rename { uuid, other, .. } => {
-            format!(in alloc; "rename {} {}", first(uuid), first(other))
-        }
-        Move::Settle { uuid, .. } => format!(in alloc; "settle {}", first(uuid)),
-        Move::SettlePosted { uuid, stamp, .. } => {
-            format!(in alloc; "settle {} @{stamp}", first(uuid))
-        }
-        _ => "other".to_string(alloc),
-    }
-}
-
-fn first(uuid: &Uuid) -> u8 {
-    uuid.as_bytes()[0]
+    let word = word_of(said);
+    let number = number_of(said);
+    let rest = rest_of(alloc, said)?;
+    format!(in alloc; "{word} {number}{rest}")
 }
 
 fn lines(alloc: Global, moves: &[Move]) -> Result<String, AllocError> {
@@ -145,7 +169,11 @@ fn change(alloc: Global, written: &Written) -> Result<Change, Fail> {
     if uuid == 0 {
         return Ok(Change::Remove(Key::Local(number)));
     }
-    item(alloc, number, uuid, base, latest, posted)
+    put(
+        alloc,
+        number,
+        local_item(alloc, uuid, base, latest, posted)?,
+    )
 }
 
 fn batch(alloc: Global, written: &[Written]) -> Result<Vec<Change>, Fail> {
@@ -156,21 +184,27 @@ fn batch(alloc: Global, written: &[Written]) -> Result<Vec<Change>, Fail> {
     Ok(changes)
 }
 
-fn said(alloc: Global, done: &Done, written: &[Written]) -> Result<String, Fail> {
-    let name = Text::of(alloc, "a")?;
+fn rows(alloc: Global, changes: Vec<Change>) -> Result<RowMap, AllocError> {
     let mut rows = RowMap::new(alloc);
-    rows.add_all(batch(alloc, &ROWS)?)?;
+    rows.add_all(changes)?;
+    Ok(rows)
+}
+
+fn said(alloc: Global, done: &Done, written: &[Written]) -> Result<String, Fail> {
+    let rows = rows(alloc, batch(alloc, &ROWS)?)?;
     let changes = batch(alloc, written)?;
+    let name = Text::of(alloc, "a")?;
     let moves = moves_of(alloc, &rows, &name, done, &changes)?;
     Ok(lines(alloc, moves.as_slice())?)
 }
 
 // Another account has the item of this uuid.
-fn taken(alloc: Global, number: u8) -> Result<Conflict, Fail> {
+fn taken(alloc: Global, number: u8) -> Result<Conflict, AllocError> {
+    let kind = Text::of(alloc, "Note")?;
     Ok(Conflict::Uuid {
         unsaved: Item {
             uuid: named(number),
-            kind: Text::of(alloc, "Note")?,
+            kind,
             created: None,
             updated_at: None,
             body: Body::Deleted,
@@ -178,45 +212,56 @@ fn taken(alloc: Global, number: u8) -> Result<Conflict, Fail> {
     })
 }
 
-fn answer(alloc: Global) -> Result<Answer, Fail> {
+fn conflicts(alloc: Global) -> Result<OwnedList<Conflict>, AllocError> {
     let mut conflicts = OwnedList::new(alloc);
     for number in [4, 6] {
         conflicts.push(taken(alloc, number)?)?;
     }
+    Ok(conflicts)
+}
+
+fn answer(alloc: Global) -> Result<Answer, AllocError> {
+    let conflicts = conflicts(alloc)?;
+    let sync_token = Text::of(alloc, "t")?;
     Ok(Answer::Sync {
         conflicts,
         cursor_token: None,
         retrieved: OwnedList::new(alloc),
         saved: OwnedList::new(alloc),
-        sync_token: Text::of(alloc, "t")?,
+        sync_token,
     })
+}
+
+fn is_said(alloc: Global, done: &Done, written: &[Written], want: &str) -> Result<bool, Fail> {
+    Ok(said(alloc, done, written)?.as_str() == want)
 }
 
 #[test]
 fn says_an_answer(rt: HostRuntime) -> Result<(), Fail> {
-    let foreign = foreign_in(rt.alloc(), &answer(rt.alloc())?)?;
-    let text = said(rt.alloc(), &Done::Applies { foreign }, &ANSWERED)?;
-    assert_eq!(rt;
-        text.as_str(),
-        "fork 1 9, giveway 2, settle 3 @8, settle 3, drop 4, settle 5, rename 6 16, fork 8 11"
-    );
+    let answer = answer(rt.alloc())?;
+    let foreign = foreign_in(rt.alloc(), &answer)?;
+    let want =
+        "fork 1 9, giveway 2, settle 3 @8, settle 3, drop 4, settle 5, rename 6 16, fork 8 11";
+    assert!(rt; is_said(rt.alloc(), &Done::Applies { foreign }, &ANSWERED, want)?);
     Ok(())
 }
 
 #[test]
-fn says_what_a_user_did(rt: HostRuntime) -> Result<(), Fail> {
+fn says_an_edit(rt: HostRuntime) -> Result<(), Fail> {
     let text = Text::of(rt.alloc(), "{}")?;
-    let edited = said(rt.alloc(), &Done::Edits { text }, &EDITED)?;
-    assert_eq!(rt; edited.as_str(), "edit 7");
-    let deleted = said(rt.alloc(), &Done::Deletes, &DELETED)?;
-    assert_eq!(rt; deleted.as_str(), "edit 7");
+    assert!(rt; is_said(rt.alloc(), &Done::Edits { text }, &EDITED, "edit 7")?);
+    Ok(())
+}
+
+#[test]
+fn says_a_deletion(rt: HostRuntime) -> Result<(), Fail> {
+    assert!(rt; is_said(rt.alloc(), &Done::Deletes, &DELETED, "edit 7")?);
     Ok(())
 }
 
 #[test]
 fn says_posts(rt: HostRuntime) -> Result<(), Fail> {
-    let posted = said(rt.alloc(), &Done::Posts, &POSTED)?;
-    assert_eq!(rt; posted.as_str(), "post 1, post 2");
+    assert!(rt; is_said(rt.alloc(), &Done::Posts, &POSTED, "post 1, post 2")?);
     Ok(())
 }
 
@@ -228,20 +273,33 @@ fn stored(alloc: Global, uuid: u8, deleted: bool) -> Result<Change, Fail> {
     }))
 }
 
-fn server_rows(alloc: Global) -> Result<RowMap, Fail> {
-    let account = AccountRow::new(Text::of(alloc, "a@b")?, 2, [0; 32]).ok_or("account")?;
-    let begun = Change::Put(Row {
-        key: Key::Account(1),
-        value: Value::Account(Boxed::of(alloc, account)?),
-    });
-    let mut rows = RowMap::new(alloc);
-    rows.add_all(Vec::from_array(alloc, [begun])?)?;
-    Ok(rows)
+// A version and a deletion.
+fn stored_both(alloc: Global) -> Result<Vec<Change>, Fail> {
+    let mut changes = Vec::new(alloc);
+    changes.push(stored(alloc, 1, false)?)?;
+    changes.push(stored(alloc, 2, true)?)?;
+    Ok(changes)
 }
 
-fn request(alloc: Global) -> Result<Request, Fail> {
+fn account(alloc: Global) -> Result<Change, Fail> {
+    let identifier = Text::of(alloc, "a@b")?;
+    let account = AccountRow::new(identifier, 2, [0; 32]).ok_or("account")?;
+    Ok(Change::Put(Row {
+        key: Key::Account(1),
+        value: Value::Account(Boxed::of(alloc, account)?),
+    }))
+}
+
+fn server_rows(alloc: Global) -> Result<RowMap, Fail> {
+    let mut changes = Vec::new(alloc);
+    changes.push(account(alloc)?)?;
+    Ok(rows(alloc, changes)?)
+}
+
+fn request(alloc: Global) -> Result<Request, AllocError> {
+    let token = Text::of(alloc, "t")?;
     Ok(Request::Sync {
-        token: Text::of(alloc, "t")?,
+        token,
         items: OwnedList::new(alloc),
         limit: 1,
         sync_token: None,
@@ -249,16 +307,18 @@ fn request(alloc: Global) -> Result<Request, Fail> {
     })
 }
 
+fn said_for(alloc: Global, request: &Request, changes: &[Change]) -> Result<String, Fail> {
+    let rows = server_rows(alloc)?;
+    let name = Text::of(alloc, "a")?;
+    let moves = moves_for(alloc, &rows, &name, None, request, changes)?;
+    Ok(lines(alloc, moves.as_slice())?)
+}
+
 #[test]
 fn says_a_server(rt: HostRuntime) -> Result<(), Fail> {
-    let alloc = rt.alloc();
-    let rows = server_rows(alloc)?;
-    let changes = Vec::from_array(alloc, [stored(alloc, 1, false)?, stored(alloc, 2, true)?])?;
-    let name = Text::of(alloc, "a")?;
-    let moves = moves_for(alloc, &rows, &name, None, &request(alloc)?, &changes)?;
-    assert_eq!(rt;
-        lines(alloc, moves.as_slice())?.as_str(),
-        "accept 1 @7 2, accept 2 @7 0"
-    );
+    let changes = stored_both(rt.alloc())?;
+    let request = request(rt.alloc())?;
+    let said = said_for(rt.alloc(), &request, &changes)?;
+    assert!(rt; said.as_str() == "accept 1 @7 2, accept 2 @7 0");
     Ok(())
 }

@@ -1,10 +1,11 @@
 //! Texts that were worked out by hand.
 
+use crate::written::moves_of;
 use sn_client::Place;
 use sn_laws::{Body, Content, Move};
 use sn_report::*;
 use sn_status::ClientRefusal;
-use sn_string::{KeySet, OwnedList, Params, Text, uuid_of};
+use sn_string::{OwnedList, Text, uuid_of};
 use std::alloc::{AllocError, Global};
 use std::test::Fail;
 use uuid::Uuid;
@@ -21,38 +22,71 @@ fn two() -> Result<Uuid, Fail> {
     Ok(uuid_of(TWO).ok_or("a uuid")?)
 }
 
-fn three() -> Result<Uuid, Fail> {
-    Ok(Uuid::from_bytes([3; 16]))
-}
-
 // The second is made first, and has the third label too.
 fn labels(alloc: Global) -> Result<Labels, Fail> {
+    let one = one()?;
+    let two = two()?;
     let mut labels = Labels::new(alloc);
-    labels.add(two()?)?;
-    labels.add(one()?)?;
-    labels.add(two()?)?;
+    labels.add(two)?;
+    labels.add(one)?;
+    labels.add(two)?;
     Ok(labels)
 }
 
+// The item of each label, as the place of a uuid among these.
+const LABELLED: [(u64, usize); 6] = [(0, 2), (1, 1), (2, 0), (3, 1), (4, 2), (u64::MAX, 2)];
+
+fn has_labelled(labels: &Labels, uuids: &[Uuid]) -> bool {
+    for (number, place) in LABELLED {
+        if labels.item(number) != uuids.get(place).copied() {
+            return false;
+        }
+    }
+    true
+}
+
 #[test]
-fn makes_labels(rt: HostRuntime) -> Result<(), Fail> {
+fn finds_items(rt: HostRuntime) -> Result<(), Fail> {
     let labels = labels(rt.alloc())?;
-    let other = Uuid::from_bytes([7; 16]);
-    assert_eq!(rt; (labels.len(), labels.is_empty()), (3, false));
-    assert_eq!(rt; labels.as_slice(), [two()?, one()?, two()?].as_slice());
-    assert_eq!(rt;
-        labels.items(rt.alloc())?.as_slice(),
-        [two()?, one()?].as_slice()
-    );
-    assert_eq!(rt; (labels.label(&two()?), labels.label(&one()?)), (1, 2));
-    assert_eq!(rt; (labels.item(0), labels.item(1)), (None, Some(two()?)));
-    assert_eq!(rt;
-        (labels.item(2), labels.item(3)),
-        (Some(one()?), Some(two()?))
-    );
-    assert_eq!(rt; (labels.item(4), labels.item(u64::MAX)), (None, None));
-    assert!(rt; labels.is_labelled(&one()?) && !labels.is_labelled(&other));
-    assert_eq!(rt; labels.label(&other), 4);
+    let uuids = [one()?, two()?];
+    assert!(rt; has_labelled(&labels, &uuids));
+    Ok(())
+}
+
+fn other() -> Uuid {
+    Uuid::from_bytes([7; 16])
+}
+
+fn has_labels(labels: &Labels, one: &Uuid, two: &Uuid) -> bool {
+    labels.label(two) == 1 && labels.label(one) == 2 && labels.label(&other()) == 4
+}
+
+#[test]
+fn finds_labels(rt: HostRuntime) -> Result<(), Fail> {
+    let one = one()?;
+    let two = two()?;
+    let labels = labels(rt.alloc())?;
+    assert!(rt; has_labels(&labels, &one, &two));
+    assert!(rt; labels.is_labelled(&one) && !labels.is_labelled(&other()));
+    Ok(())
+}
+
+#[test]
+fn counts_labels(rt: HostRuntime) -> Result<(), Fail> {
+    let labels = labels(rt.alloc())?;
+    assert!(rt; labels.len() == 3);
+    assert!(rt; !labels.is_empty());
+    Ok(())
+}
+
+#[test]
+fn lists_labels(rt: HostRuntime) -> Result<(), Fail> {
+    let one = one()?;
+    let two = two()?;
+    let labels = labels(rt.alloc())?;
+    assert!(rt; labels.as_slice() == [two, one, two].as_slice());
+    let items = labels.items(rt.alloc())?;
+    assert!(rt; items.as_slice() == [two, one].as_slice());
     Ok(())
 }
 
@@ -91,58 +125,22 @@ const RELABELLED: [(&str, &str); 9] = [
     ),
 ];
 
+fn is_relabelled(
+    alloc: Global,
+    labels: &Labels,
+    text: &str,
+    want: &str,
+) -> Result<bool, AllocError> {
+    Ok(labels.relabelled(alloc, text)?.as_str() == want)
+}
+
 #[test]
 fn relabels_texts(rt: HostRuntime) -> Result<(), Fail> {
     let labels = labels(rt.alloc())?;
     for (text, want) in RELABELLED {
-        assert_eq!(rt; labels.relabelled(rt.alloc(), text)?.as_str(), want);
+        assert!(rt; is_relabelled(rt.alloc(), &labels, text, want)?, "{text}");
     }
     Ok(())
-}
-
-fn alice(alloc: Global) -> Result<KeySet, Fail> {
-    let identifier = Text::of(alloc, "alice")?;
-    let nonce = Text::of(alloc, "6e")?;
-    Ok(KeySet {
-        params: Params::new(identifier, 1, nonce).ok_or("params")?,
-        pw: [1; 32],
-        mk: [2; 32],
-        ak: [3; 32],
-    })
-}
-
-fn edit(alloc: Global, uuid: Uuid, latest: Content) -> Result<Move, AllocError> {
-    Ok(Move::Edit {
-        device: Text::of(alloc, "A")?,
-        uuid,
-        kind: Text::of(alloc, "Note")?,
-        base: None,
-        latest,
-    })
-}
-
-fn post(alloc: Global, uuid: Uuid) -> Result<Move, AllocError> {
-    let device = Text::of(alloc, "A")?;
-    Ok(Move::Post { device, uuid })
-}
-
-fn accept(alloc: Global, uuid: Uuid, stamp: u64, under: Option<u64>) -> Result<Move, AllocError> {
-    let device = Text::of(alloc, "A")?;
-    Ok(Move::Accept {
-        device,
-        uuid,
-        stamp,
-        under,
-    })
-}
-
-fn settle(alloc: Global, uuid: Uuid) -> Result<Move, AllocError> {
-    let device = Text::of(alloc, "A")?;
-    Ok(Move::Settle { device, uuid })
-}
-
-fn plain(alloc: Global, text: &str) -> Result<Content, AllocError> {
-    Ok(Content::Plain(Text::of(alloc, text)?))
 }
 
 // Lines 4, 5, 10 and 11 put items.
@@ -158,57 +156,83 @@ fn event(number: u64, moves: OwnedList<Move>, shown: OwnedList<Text>, last: Last
     }
 }
 
-fn begun(alloc: Global) -> Result<Event, Fail> {
-    let mut moves = OwnedList::new(alloc);
-    moves.push(Move::Register {
-        identifier: Text::of(alloc, "alice")?,
-        set: alice(alloc)?,
-    })?;
-    moves.push(Move::Join {
-        device: Text::of(alloc, "A")?,
-        identifier: Text::of(alloc, "alice")?,
-        number: 1,
-    })?;
-    Ok(event(3, moves, OwnedList::new(alloc), Last::Done))
+fn server(alloc: Global, status: u16, tag: &str) -> Result<Last, AllocError> {
+    let tag = Text::of(alloc, tag)?;
+    Ok(Last::Server { status, tag })
 }
 
-// The text names an item that has no label yet.
-fn first_put(alloc: Global) -> Result<Event, Fail> {
-    let mut moves = OwnedList::new(alloc);
-    let text = plain(alloc, "{\"to\":\"f81d4fae-7dec-11d0-a765-00a0c91e6bf6\"}")?;
-    moves.push(edit(alloc, one()?, text)?)?;
-    Ok(event(4, moves, OwnedList::new(alloc), Last::Done))
+fn last_of(alloc: Global, word: &str) -> Result<Last, Fail> {
+    match word {
+        "ok" => Ok(Last::Done),
+        "link" => Ok(Last::Link),
+        "taken" => Ok(server(alloc, 409, word)?),
+        _ => Err("last".into()),
+    }
 }
 
-fn second_put(alloc: Global) -> Result<Event, Fail> {
-    let mut moves = OwnedList::new(alloc);
-    let text = plain(
-        alloc,
-        "{\"to\":\"f81d4fae-7dec-11d0-a765-00a0c91e6bf6\",\"from\":\"00000000-0000-4000-8000-000000000001\"}",
-    )?;
-    moves.push(edit(alloc, two()?, text)?)?;
-    Ok(event(5, moves, OwnedList::new(alloc), Last::Done))
+// Texts with a semicolon between each two, none where there is nothing.
+fn texts(alloc: Global, lines: &str) -> Result<OwnedList<Text>, AllocError> {
+    let mut texts = OwnedList::new(alloc);
+    for line in lines.split(';') {
+        if !line.is_empty() {
+            texts.push(Text::of(alloc, line)?)?;
+        }
+    }
+    Ok(texts)
 }
 
-// An edit of an item that was put takes no label.
-fn deletion(alloc: Global) -> Result<Event, Fail> {
-    let mut moves = OwnedList::new(alloc);
-    moves.push(edit(alloc, one()?, Content::Deleted)?)?;
-    Ok(event(6, moves, OwnedList::new(alloc), Last::Done))
+// An event's number, its moves, what it shows, and how it ends.
+type Told = (u64, &'static str, &'static str, &'static str);
+
+fn event_of(alloc: Global, told: &Told) -> Result<Event, Fail> {
+    let (number, moves, shown, last) = *told;
+    let moves = moves_of(alloc, moves)?;
+    let shown = texts(alloc, shown)?;
+    let last = last_of(alloc, last)?;
+    Ok(event(number, moves, shown, last))
 }
 
-fn exchange(alloc: Global) -> Result<Event, Fail> {
-    let mut moves = OwnedList::new(alloc);
-    moves.push(post(alloc, two()?)?)?;
-    moves.push(accept(alloc, two()?, 1000001, Some(1))?)?;
-    moves.push(accept(alloc, one()?, 1000002, None)?)?;
-    moves.push(settle(alloc, two()?)?)?;
-    let mut shown = OwnedList::new(alloc);
-    shown.push(Text::of(alloc, "account alice set 1")?)?;
-    shown.push(Text::of(alloc, "device A none")?)?;
-    let tag = Text::of(alloc, "taken")?;
-    Ok(event(7, moves, shown, Last::Server { status: 409, tag }))
+fn report_of(alloc: Global, events: &[Told]) -> Result<Report, Fail> {
+    let mut all = OwnedList::new(alloc);
+    for told in events {
+        all.push(event_of(alloc, told)?)?;
+    }
+    Ok(Report { events: all })
 }
+
+fn is_written(alloc: Global, events: &[Told], want: &str) -> Result<bool, Fail> {
+    let report = report_of(alloc, events)?;
+    Ok(report_text(alloc, &report)?.as_str() == want)
+}
+
+// The text of the first item names one that has no label yet. An edit of an item that was put takes no label.
+const EVENTS: [Told; 5] = [
+    (3, "register alice;join A alice 1", "", "ok"),
+    (
+        4,
+        "edit A 00000000-0000-4000-8000-000000000001 Note - {\"to\":\"f81d4fae-7dec-11d0-a765-00a0c91e6bf6\"}",
+        "",
+        "ok",
+    ),
+    (
+        5,
+        "edit A f81d4fae-7dec-11d0-a765-00a0c91e6bf6 Note - {\"to\":\"f81d4fae-7dec-11d0-a765-00a0c91e6bf6\",\"from\":\"00000000-0000-4000-8000-000000000001\"}",
+        "",
+        "ok",
+    ),
+    (
+        6,
+        "edit A 00000000-0000-4000-8000-000000000001 Note - deleted",
+        "",
+        "ok",
+    ),
+    (
+        7,
+        "post A f81d4fae-7dec-11d0-a765-00a0c91e6bf6;accept A f81d4fae-7dec-11d0-a765-00a0c91e6bf6 1000001 1;accept A 00000000-0000-4000-8000-000000000001 1000002 -;settle A f81d4fae-7dec-11d0-a765-00a0c91e6bf6",
+        "account alice set 1;device A none",
+        "taken",
+    ),
+];
 
 const REPORT: &str = "3 register alice set 1
 3 join A alice set 1
@@ -230,86 +254,31 @@ const REPORT: &str = "3 register alice set 1
 
 #[test]
 fn writes_moves(rt: HostRuntime) -> Result<(), Fail> {
-    let alloc = rt.alloc();
-    let mut events = OwnedList::new(alloc);
-    events.push(begun(alloc)?)?;
-    events.push(first_put(alloc)?)?;
-    events.push(second_put(alloc)?)?;
-    events.push(deletion(alloc)?)?;
-    events.push(exchange(alloc)?)?;
-    assert_eq!(rt; report_text(alloc, &Report { events })?.as_str(), REPORT);
+    assert!(rt; is_written(rt.alloc(), &EVENTS, REPORT)?);
     Ok(())
 }
 
 // A draft that meets other versions, and a change of password.
-fn met(alloc: Global) -> Result<Event, Fail> {
-    let device = "A";
-    let mut moves = OwnedList::new(alloc);
-    moves.push(Move::Fork {
-        device: Text::of(alloc, device)?,
-        uuid: one()?,
-        other: two()?,
-    })?;
-    moves.push(Move::Rename {
-        device: Text::of(alloc, device)?,
-        uuid: two()?,
-        other: three()?,
-    })?;
-    moves.push(Move::SettlePosted {
-        device: Text::of(alloc, device)?,
-        uuid: three()?,
-        stamp: 1000003,
-    })?;
-    moves.push(Move::Unpost {
-        device: Text::of(alloc, device)?,
-        uuid: one()?,
-    })?;
-    moves.push(Move::GiveWay {
-        device: Text::of(alloc, device)?,
-        uuid: two()?,
-    })?;
-    moves.push(Move::Drop {
-        device: Text::of(alloc, device)?,
-        uuid: three()?,
-    })?;
-    Ok(event(8, moves, OwnedList::new(alloc), Last::Done))
-}
-
-fn rekeyed(alloc: Global) -> Result<Event, Fail> {
-    let mut moves = OwnedList::new(alloc);
-    moves.push(Move::Change {
-        identifier: Text::of(alloc, "alice")?,
-        number: 2,
-        set: alice(alloc)?,
-    })?;
-    moves.push(Move::Rewrap {
-        uuid: one()?,
-        stamp: 1000004,
-        under: 2,
-    })?;
-    moves.push(Move::Retire {
-        device: Text::of(alloc, "A")?,
-        number: 1,
-    })?;
-    Ok(event(9, moves, OwnedList::new(alloc), Last::Done))
-}
-
-fn put(alloc: Global, number: u64, uuid: Uuid) -> Result<Event, Fail> {
-    let mut moves = OwnedList::new(alloc);
-    moves.push(edit(alloc, uuid, plain(alloc, "{}")?)?)?;
-    Ok(event(number, moves, OwnedList::new(alloc), Last::Done))
-}
-
-fn renaming(alloc: Global, uuid: Uuid, other: Uuid) -> Result<Event, Fail> {
-    let mut moves = OwnedList::new(alloc);
-    let device = Text::of(alloc, "A")?;
-    moves.push(Move::Rename {
-        device,
-        uuid,
-        other,
-    })?;
-    Ok(event(12, moves, OwnedList::new(alloc), Last::Link))
-}
+const CONFLICTS: [Told; 3] = [
+    (
+        4,
+        "edit A 00000000-0000-4000-8000-000000000001 Note - {}",
+        "",
+        "ok",
+    ),
+    (
+        8,
+        "fork A 00000000-0000-4000-8000-000000000001 f81d4fae-7dec-11d0-a765-00a0c91e6bf6;rename A f81d4fae-7dec-11d0-a765-00a0c91e6bf6 03030303-0303-0303-0303-030303030303;settle-posted A 03030303-0303-0303-0303-030303030303 1000003;unpost A 00000000-0000-4000-8000-000000000001;give-way A f81d4fae-7dec-11d0-a765-00a0c91e6bf6;drop A 03030303-0303-0303-0303-030303030303",
+        "",
+        "ok",
+    ),
+    (
+        9,
+        "change alice 6e 2;rewrap 00000000-0000-4000-8000-000000000001 1000004 2;retire A 1",
+        "",
+        "ok",
+    ),
+];
 
 const MET: &str = "4 edit A #1 {}
 4 = ok
@@ -328,14 +297,42 @@ const MET: &str = "4 edit A #1 {}
 
 #[test]
 fn writes_moves_of_conflicts(rt: HostRuntime) -> Result<(), Fail> {
-    let alloc = rt.alloc();
-    let mut events = OwnedList::new(alloc);
-    events.push(put(alloc, 4, one()?)?)?;
-    events.push(met(alloc)?)?;
-    events.push(rekeyed(alloc)?)?;
-    assert_eq!(rt; report_text(alloc, &Report { events })?.as_str(), MET);
+    assert!(rt; is_written(rt.alloc(), &CONFLICTS, MET)?);
     Ok(())
 }
+
+const PUTS: [Told; 5] = [
+    (
+        10,
+        "edit A 00000000-0000-4000-8000-000000000001 Note - {}",
+        "",
+        "ok",
+    ),
+    (
+        11,
+        "edit A 00000000-0000-4000-8000-000000000001 Note - {}",
+        "",
+        "ok",
+    ),
+    (
+        11,
+        "edit A f81d4fae-7dec-11d0-a765-00a0c91e6bf6 Note - {}",
+        "",
+        "ok",
+    ),
+    (
+        12,
+        "rename A f81d4fae-7dec-11d0-a765-00a0c91e6bf6 00000000-0000-4000-8000-000000000001",
+        "",
+        "link",
+    ),
+    (
+        4,
+        "edit A 03030303-0303-0303-0303-030303030303 Note - {}",
+        "",
+        "ok",
+    ),
+];
 
 // The first item is put twice and renamed to, so that the second has the third label.
 const AGAIN: &str = "10 edit A #1 {}
@@ -352,30 +349,8 @@ const AGAIN: &str = "10 edit A #1 {}
 
 #[test]
 fn writes_least_labels(rt: HostRuntime) -> Result<(), Fail> {
-    let alloc = rt.alloc();
-    let mut events = OwnedList::new(alloc);
-    events.push(put(alloc, 10, one()?)?)?;
-    events.push(put(alloc, 11, one()?)?)?;
-    events.push(put(alloc, 11, two()?)?)?;
-    events.push(renaming(alloc, two()?, one()?)?)?;
-    events.push(put(alloc, 4, three()?)?)?;
-    assert_eq!(rt; report_text(alloc, &Report { events })?.as_str(), AGAIN);
+    assert!(rt; is_written(rt.alloc(), &PUTS, AGAIN)?);
     Ok(())
-}
-
-fn ended(alloc: Global, events: &mut OwnedList<Event>, last: Last) -> Result<(), Fail> {
-    let number = (events.len() as u64).saturating_add(1);
-    let none = OwnedList::new(alloc);
-    events.push(event(number, none, OwnedList::new(alloc), last))?;
-    Ok(())
-}
-
-fn refused(
-    alloc: Global,
-    events: &mut OwnedList<Event>,
-    refusal: ClientRefusal,
-) -> Result<(), Fail> {
-    ended(alloc, events, Last::Refused(refusal))
 }
 
 // The first item is put by line 4, and the second has no label.
@@ -405,93 +380,171 @@ const ENDS: &str = "1 = ok
 23 = refused client.7 BadAnswer retrieved 7
 ";
 
-fn answered(alloc: Global, events: &mut OwnedList<Event>) -> Result<(), Fail> {
-    ended(alloc, events, Last::Done)?;
-    ended(alloc, events, Last::Link)?;
-    let tag = Text::of(alloc, "taken")?;
-    ended(alloc, events, Last::Server { status: 409, tag })?;
-    events.push(put(alloc, 4, one()?)?)?;
-    let tag = Text::of(alloc, "bad-auth")?;
-    ended(alloc, events, Last::Server { status: 401, tag })?;
-    ended(alloc, events, Last::Answer { status: 200 })?;
-    ended(alloc, events, Last::Answer { status: 503 })
+fn alice_refusal(alloc: Global, number: u64) -> Result<ClientRefusal, Fail> {
+    let identifier = Text::of(alloc, "alice")?;
+    match number {
+        16 => Ok(ClientRefusal::OtherAccount { identifier }),
+        17 => Ok(ClientRefusal::HasAccount { identifier }),
+        _ => Err("refusal".into()),
+    }
 }
 
-fn refused_all(alloc: Global, events: &mut OwnedList<Event>) -> Result<(), Fail> {
-    refused(alloc, events, ClientRefusal::NoAccount)?;
-    refused(alloc, events, ClientRefusal::NoItem { uuid: one()? })?;
+fn closed(alloc: Global) -> Result<ClientRefusal, AllocError> {
     let nonce = Text::of(alloc, "6e")?;
-    refused(alloc, events, ClientRefusal::Closed { nonce })?;
-    refused(alloc, events, ClientRefusal::TooLong { length: 700001 })?;
-    refused(alloc, events, ClientRefusal::NotObject)?;
-    refused(alloc, events, ClientRefusal::RoundsUsed)?;
-    refused(alloc, events, ClientRefusal::NoFreshUuid { drawn: two()? })?;
-    refused(alloc, events, ClientRefusal::WrongPassword)?;
-    let identifier = Text::of(alloc, "alice")?;
-    refused(alloc, events, ClientRefusal::OtherAccount { identifier })?;
-    let identifier = Text::of(alloc, "alice")?;
-    refused(alloc, events, ClientRefusal::HasAccount { identifier })?;
-    refused(alloc, events, ClientRefusal::Cost { cost: 10000001 })?;
-    refused(alloc, events, ClientRefusal::NumbersUsed { next: u64::MAX })?;
-    refused(alloc, events, ClientRefusal::TooLarge { size: 1073741825 })
+    Ok(ClientRefusal::Closed { nonce })
 }
 
-fn no_answers(alloc: Global, events: &mut OwnedList<Event>) -> Result<(), Fail> {
-    ended(alloc, events, Last::BadAnswer(Place::Head))?;
-    let name = Text::of(alloc, "cursor_token")?;
-    ended(alloc, events, Last::BadAnswer(Place::Member { name }))?;
-    ended(
-        alloc,
-        events,
-        Last::BadAnswer(Place::Retrieved { index: 7 }),
-    )
+fn item_refusal(alloc: Global, number: u64) -> Result<ClientRefusal, Fail> {
+    match number {
+        9 => Ok(ClientRefusal::NoItem { uuid: one()? }),
+        10 => Ok(closed(alloc)?),
+        14 => Ok(ClientRefusal::NoFreshUuid { drawn: two()? }),
+        _ => alice_refusal(alloc, number),
+    }
+}
+
+// A refusal that has a number or nothing.
+fn plain_refusal(number: u64) -> Option<ClientRefusal> {
+    match number {
+        8 => Some(ClientRefusal::NoAccount),
+        11 => Some(ClientRefusal::TooLong { length: 700001 }),
+        12 => Some(ClientRefusal::NotObject),
+        13 => Some(ClientRefusal::RoundsUsed),
+        15 => Some(ClientRefusal::WrongPassword),
+        18 => Some(ClientRefusal::Cost { cost: 10000001 }),
+        19 => Some(ClientRefusal::NumbersUsed { next: u64::MAX }),
+        20 => Some(ClientRefusal::TooLarge { size: 1073741825 }),
+        _ => None,
+    }
+}
+
+fn refused(alloc: Global, number: u64) -> Result<Last, Fail> {
+    match plain_refusal(number) {
+        Some(refusal) => Ok(Last::Refused(refusal)),
+        None => Ok(Last::Refused(item_refusal(alloc, number)?)),
+    }
+}
+
+fn bad_answer(alloc: Global, number: u64) -> Result<Last, AllocError> {
+    match number {
+        21 => Ok(Last::BadAnswer(Place::Head)),
+        22 => {
+            let name = Text::of(alloc, "cursor_token")?;
+            Ok(Last::BadAnswer(Place::Member { name }))
+        }
+        _ => Ok(Last::BadAnswer(Place::Retrieved { index: 7 })),
+    }
+}
+
+// What ends the line of this number.
+fn end_of(alloc: Global, number: u64) -> Result<Last, Fail> {
+    match number {
+        1 => Ok(Last::Done),
+        2 => Ok(Last::Link),
+        3 => Ok(server(alloc, 409, "taken")?),
+        5 => Ok(server(alloc, 401, "bad-auth")?),
+        6 => Ok(Last::Answer { status: 200 }),
+        7 => Ok(Last::Answer { status: 503 }),
+        21..=23 => Ok(bad_answer(alloc, number)?),
+        _ => refused(alloc, number),
+    }
+}
+
+const PUT: Told = (
+    4,
+    "edit A 00000000-0000-4000-8000-000000000001 Note - {}",
+    "",
+    "ok",
+);
+
+fn ended(alloc: Global, number: u64) -> Result<Event, Fail> {
+    if number == 4 {
+        return event_of(alloc, &PUT);
+    }
+    let last = end_of(alloc, number)?;
+    Ok(event(number, OwnedList::new(alloc), OwnedList::new(alloc), last))
+}
+
+fn all_ended(alloc: Global) -> Result<Report, Fail> {
+    let mut events = OwnedList::new(alloc);
+    for number in 1..24 {
+        events.push(ended(alloc, number)?)?;
+    }
+    Ok(Report { events })
 }
 
 #[test]
 fn writes_last_lines(rt: HostRuntime) -> Result<(), Fail> {
-    let alloc = rt.alloc();
-    let mut events = OwnedList::new(alloc);
-    answered(alloc, &mut events)?;
-    refused_all(alloc, &mut events)?;
-    no_answers(alloc, &mut events)?;
-    assert_eq!(rt; report_text(alloc, &Report { events })?.as_str(), ENDS);
+    let report = all_ended(rt.alloc())?;
+    assert!(rt; report_text(rt.alloc(), &report)?.as_str() == ENDS);
     Ok(())
 }
 
+fn reads(line: Result<Text, AllocError>, want: &str) -> Result<(), Fail> {
+    let line = line?;
+    if line.as_str() == want {
+        Ok(())
+    } else {
+        Err(Fail::new(line.as_str()))
+    }
+}
+
 #[test]
-fn shows_a_state(rt: HostRuntime) -> Result<(), Fail> {
+fn shows_accounts(rt: HostRuntime) -> Result<(), Fail> {
     let alloc = rt.alloc();
-    let labels = labels(alloc)?;
-    let text = "{\"to\":\"f81d4fae-7dec-11d0-a765-00a0c91e6bf6\"}";
-    let body = Body::Under(Text::of(alloc, text)?, 2);
-    assert_eq!(rt;
-        account_line(alloc, "alice", 2)?.as_str(),
-        "account alice set 2"
-    );
-    assert_eq!(rt;
-        item_line(alloc, &labels, &one()?, 1000003, &body)?.as_str(),
-        "item #2 @1000003 set 2 {\"to\":\"#1\"}"
-    );
-    assert_eq!(rt;
-        item_line(alloc, &labels, &two()?, 1000002, &Body::Gone)?.as_str(),
-        "item #1 @1000002 deleted"
-    );
-    assert_eq!(rt;
-        device_line(alloc, "A", "alice", [1, 2].as_slice())?.as_str(),
-        "device A alice sets 1 2"
-    );
-    assert_eq!(rt; no_account_line(alloc, "B")?.as_str(), "device B none");
-    assert_eq!(rt;
-        draft_line(alloc, &labels, "A", &one()?, &plain(alloc, text)?)?.as_str(),
-        "draft A #2 {\"to\":\"#1\"}"
-    );
-    assert_eq!(rt;
-        draft_line(alloc, &labels, "A", &one()?, &Content::Deleted)?.as_str(),
-        "draft A #2 deleted"
-    );
-    assert_eq!(rt;
-        closed_line(alloc, &labels, "B", &two()?, 3)?.as_str(),
-        "closed B #1 set 3"
-    );
-    Ok(())
+    reads(account_line(alloc, "alice", 2), "account alice set 2")?;
+    let held = [1, 2];
+    reads(
+        device_line(alloc, "A", "alice", &held),
+        "device A alice sets 1 2",
+    )?;
+    reads(no_account_line(alloc, "B"), "device B none")
+}
+
+const LINKED: &str = "{\"to\":\"f81d4fae-7dec-11d0-a765-00a0c91e6bf6\"}";
+
+fn shows_item(alloc: Global, labels: &Labels, uuid: &Uuid) -> Result<(), Fail> {
+    let body = Body::Under(Text::of(alloc, LINKED)?, 2);
+    let line = item_line(alloc, labels, uuid, 1000003, &body);
+    reads(line, "item #2 @1000003 set 2 {\"to\":\"#1\"}")
+}
+
+fn shows_gone(alloc: Global, labels: &Labels, uuid: &Uuid) -> Result<(), Fail> {
+    let line = item_line(alloc, labels, uuid, 1000002, &Body::Gone);
+    reads(line, "item #1 @1000002 deleted")
+}
+
+fn shows_draft(alloc: Global, labels: &Labels, uuid: &Uuid) -> Result<(), Fail> {
+    let content = Content::Plain(Text::of(alloc, LINKED)?);
+    let line = draft_line(alloc, labels, "A", uuid, &content);
+    reads(line, "draft A #2 {\"to\":\"#1\"}")
+}
+
+fn shows_deletion(alloc: Global, labels: &Labels, uuid: &Uuid) -> Result<(), Fail> {
+    let line = draft_line(alloc, labels, "A", uuid, &Content::Deleted);
+    reads(line, "draft A #2 deleted")
+}
+
+fn shows_closed(alloc: Global, labels: &Labels, uuid: &Uuid) -> Result<(), Fail> {
+    reads(
+        closed_line(alloc, labels, "B", uuid, 3),
+        "closed B #1 set 3",
+    )
+}
+
+#[test]
+fn shows_first_item(rt: HostRuntime) -> Result<(), Fail> {
+    let uuid = one()?;
+    let labels = labels(rt.alloc())?;
+    shows_item(rt.alloc(), &labels, &uuid)?;
+    shows_draft(rt.alloc(), &labels, &uuid)?;
+    shows_deletion(rt.alloc(), &labels, &uuid)
+}
+
+#[test]
+fn shows_second_item(rt: HostRuntime) -> Result<(), Fail> {
+    let uuid = two()?;
+    let labels = labels(rt.alloc())?;
+    shows_gone(rt.alloc(), &labels, &uuid)?;
+    shows_closed(rt.alloc(), &labels, &uuid)
 }

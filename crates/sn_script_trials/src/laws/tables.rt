@@ -1,11 +1,5 @@
-//! Lists of moves, and the first place that isn't legal, worked out by hand from the definitions;
-//! `-` where each move is legal. Moves stand between semicolons, and a place counts them from 0.
-//!
-//! `register IDENTIFIER`, `join DEVICE IDENTIFIER SET`, `edit DEVICE ITEM TYPE BASE TEXT`, `post DEVICE ITEM`,
-//! `accept DEVICE ITEM STAMP SET`, `settle DEVICE ITEM`, `drop DEVICE ITEM`, `unpost DEVICE ITEM`,
-//! `rewrap ITEM STAMP SET`, `settle-posted DEVICE ITEM STAMP`, `fork DEVICE ITEM OTHER`, `rename DEVICE ITEM OTHER`,
-//! `give-way DEVICE ITEM`, `change IDENTIFIER NONCE NUMBER`, `retire DEVICE SET`. An account's first set has the nonce 6e. A base or a
-//! set is `-` for none. A text is `deleted` for a deletion, and `*N` for an object text of N bytes.
+//! Lists of moves, as `written` has them, and the first place that isn't legal, worked out by hand from the
+//! definitions; `-` where each move is legal. A place counts the moves from 0.
 
 pub const LISTS: &str = r#"
 register alice|-

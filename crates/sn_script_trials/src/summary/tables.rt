@@ -1,10 +1,5 @@
-//! Lists of moves, and how many items, versions, forks and drafts they come to, worked out by hand from
-//! the definitions. Moves stand between semicolons.
-//!
-//! `register IDENTIFIER`, `join DEVICE IDENTIFIER SET`, `edit DEVICE ITEM TYPE BASE TEXT`, `post DEVICE ITEM`,
-//! `accept DEVICE ITEM STAMP SET`, `settle DEVICE ITEM`, `settle-posted DEVICE ITEM STAMP`, `drop DEVICE ITEM`,
-//! `fork DEVICE ITEM OTHER`, `rename DEVICE ITEM OTHER`, `give-way DEVICE ITEM`, `change IDENTIFIER NONCE NUMBER`,
-//! `rewrap ITEM STAMP SET`. A base or a set is `-` for none. A text is `deleted` for a deletion.
+//! Lists of moves, as `written` has them, and how many items, versions, forks and drafts they come to, worked
+//! out by hand from the definitions.
 
 pub const REPORTS: &str = r#"
 register alice;join A alice 1|0 0 0 0
