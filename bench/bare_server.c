@@ -1,5 +1,5 @@
-/* The least that a server of one connection does for a request with a commit, and nothing besides: it reads the request,
- * writes to a file and syncs it, twice, and sends an answer of zeros in two parts, as `sn serve` does. No answer is made.
+/* The system calls that `sn serve` makes for a request with a commit, and nothing besides: it reads the request, writes to a
+ * file and syncs it, twice, and sends an answer of zeros in two parts. Nothing is checked, kept apart or answered.
  *
  * bare_server FILE WRITTEN ANSWERED: appends WRITTEN bytes and then one to the file for each request; an answer's body has
  * ANSWERED bytes. Writes its port on 127.0.0.1, and ends with its first connection. */

@@ -2,8 +2,8 @@
 """Times `sn serve` over loopback, with its commits on a real disk, and puts the figures into RESULTS.md.
 
 A request with a commit syncs its file twice. So beside it stands what two `fdatasync` cost on the same file system, each
-after a write of as many bytes, measured in turn with it; and what a C program costs that does for a request what any server
-must, and nothing besides (`bare_server.c`), asked by the same client. Times are by the clock.
+after a write of as many bytes, measured in turn with it; and what a C program costs that makes the system calls of such a
+request and does nothing besides (`bare_server.c`), asked by the same client. Times are by the clock.
 """
 
 import argparse
@@ -36,8 +36,8 @@ BAR = 1.3
 SIZES = (10_000, 100_000)
 # About what the two strings of an item have in these requests.
 ITEM_BYTES = 1_000
-# About what the body of an answer to one item has.
-BARE_ANSWER = 300
+# About what the body of an answer to one such item has.
+BARE_ANSWER = 1_260
 
 drawn = random.Random(20261127)
 
@@ -165,7 +165,7 @@ def measured(folder, requests):
         if least:
             asked, bare = least
             row = (asked * 1e3, 1 / asked, bare * 1e3, asked / bare)
-            lines.append("| a C program that answers nothing, the calls of a sync of 1 item alone | %.2f | %.0f | %.2f | %.2f | |" % row)
+            lines.append("| a C program, the system calls of a sync of 1 new item alone | %.2f | %.0f | %.2f | %.2f | |" % row)
         read = timed_reads(client, 10 * requests)
         lines.append("| parameters, without a commit | %.2f | %.0f | | | |" % (read * 1e3, 1 / read))
     for name in calendars.installed():
