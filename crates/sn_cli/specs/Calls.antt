@@ -77,7 +77,7 @@ ShowRefuses text (NotAllowed number) = ⊥
 ShowRefuses text (PasswordLine length) = ⊥
 ShowRefuses text (Client refusal) = ⊥
 
--- `replay` calls for the report that the text's script carries over the disks that it leaves on this memory_shelf
+-- `replay` calls for the report that the text's script carries over the disks that it leaves on this shelf in memory
 pub record ReplayCallsFor (memory_shelf : MemShelf) (text output : List ℕ) : Type 0 where
   pub script : Script
   pub is : IsScript text script.lines
@@ -96,7 +96,7 @@ ReplayRefuses text (NotAllowed number) = (script : Script) × IsScript text scri
 ReplayRefuses text (PasswordLine length) = ⊥
 ReplayRefuses text (Client refusal) = ⊥
 
--- `gen` calls for the summary of the report that the script of its number and its count carries over the disks that it leaves on this memory_shelf. That script has
+-- `gen` calls for the summary of the report that the script of its number and its count carries over the disks that it leaves on this shelf in memory. That script has
 -- one password alone, so of the premises of its report it meets that of passwords.
 pub record GenCallsFor (memory_shelf : MemShelf) (line : GenLine) (output : List ℕ) : Type 0 where
   pub script : Script

@@ -21,7 +21,7 @@ use sn_string::Text;
 use sn_summary::{summary_of, summary_text};
 use std::alloc::Global;
 
-/// Makes the script of the number, carries it out over disks that it leaves on the memory_shelf, and writes the summary of its report.
+/// Makes the script of the number, carries it out over disks that it leaves on the shelf in memory, and writes the summary of its report.
 pub fn generate_and_replay<O: Sink>(
     alloc: Global,
     options: &GenOptions,

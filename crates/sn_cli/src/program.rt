@@ -36,7 +36,7 @@ use sn_status::{Status, tell};
 use sn_string::laws::read_back;
 use std::alloc::Global;
 
-/// Carries out the command that the words spell, over the shelf, the memory_shelf, the port, the link, the input, the two
+/// Carries out the command that the words spell, over the shelf, the shelf in memory, the port, the link, the input, the two
 /// outputs, the clock and the seeds that are handed in. `shelf` has the stores, `memory_shelf`, which has no disks yet, gets those of a replay or of a script that is made.
 pub fn run<S: Shelf, P: Port, L: Link, I: Source, O: Sink, E: Sink, C: Clock, R: Seeds>(
     alloc: Global,

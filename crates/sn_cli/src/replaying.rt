@@ -22,7 +22,7 @@ use sn_status::{Refusal, Status};
 use sn_string::Text;
 use std::alloc::Global;
 
-/// Carries the input's script out over disks that it leaves on the memory_shelf, and writes the report.
+/// Carries the input's script out over disks that it leaves on the shelf in memory, and writes the report.
 pub fn replay_input<I: Source, O: Sink>(
     alloc: Global,
     memory_shelf: &mut MemShelf,
