@@ -1,5 +1,5 @@
 /* The system calls that `sn serve` makes for a request with a commit, and nothing besides: it reads the request, writes to a
- * file and syncs it, twice, and sends an answer of zeros in two parts. Nothing is checked, kept apart or answered.
+ * file and syncs it, twice, and sends an answer of zeros. Nothing is checked, kept apart or answered.
  *
  * bare_server FILE WRITTEN ANSWERED: appends WRITTEN bytes and then one to the file for each request; an answer's body has
  * ANSWERED bytes. Writes its port on 127.0.0.1, and ends with its first connection. */
@@ -47,19 +47,19 @@ int main(int argc, char **argv)
     int listener = socket(AF_INET, SOCK_STREAM, 0);
     struct sockaddr_in address = {.sin_family = AF_INET, .sin_addr.s_addr = htonl(INADDR_LOOPBACK)};
     socklen_t size = sizeof address;
-    if (file < 0 || written > sizeof request || answered > sizeof answer || bind(listener, (void *)&address, size) || listen(listener, 1))
+    if (file < 0 || written > sizeof request || answered > sizeof answer - 128 || bind(listener, (void *)&address, size) || listen(listener, 1))
         return 1;
     getsockname(listener, (void *)&address, &size);
     printf("%d\n", ntohs(address.sin_port));
     fflush(stdout);
     int connection = accept(listener, NULL, NULL), on = 1;
     setsockopt(connection, IPPROTO_TCP, TCP_NODELAY, &on, sizeof on);
-    char head[128];
-    int length = snprintf(head, sizeof head, "HTTP/1.1 200 OK\r\nContent-Type: application/json\r\nContent-Length: %zu\r\n\r\n", answered);
+    int head = snprintf(answer, 128, "HTTP/1.1 200 OK\r\nContent-Type: application/json\r\nContent-Length: %zu\r\n\r\n", answered);
+    size_t length = (size_t)head + answered;
     while (read_request(connection)) {
         if (!append(file, written) || !append(file, 1))
             return 1;
-        if (send(connection, head, (size_t)length, 0) != length || send(connection, answer, answered, 0) != (ssize_t)answered)
+        if (send(connection, answer, length, 0) != (ssize_t)length)
             return 1;
     }
     return 0;

@@ -9,12 +9,12 @@ ghost use Rattle.sn_http.specs.Answers.{Passes};
 use sn_io::{Failed, Sink, write_all};
 use std::marker::Model;
 
-const BLOCK: usize = 1024;
+const BLOCK: usize = 4096;
 
-/// At most 1,024 bytes.
+/// At most 4,096 bytes.
 #[derive(Drop)]
 pub(crate) struct Block {
-    buffer: [u8; 1024],
+    buffer: [u8; 4096],
     len: usize,
 }
 
@@ -25,7 +25,7 @@ impl Model for Block {
 
     ghost view = { λ b. take b.len b.buffer };
 
-    ghost invariant = { λ b. b.len ≤ 1024 };
+    ghost invariant = { λ b. b.len ≤ 4096 };
 }
 
 impl Block {
@@ -40,14 +40,14 @@ impl Block {
 
     pub fn bytes(&self) -> &[u8]
         ensures is { result.now ≡ self.now }
-        ensures short { length self.now ≤ 1024 }
+        ensures short { length self.now ≤ 4096 }
     {
         &self.buffer[..self.len]
     }
 
     /// Holds back more bytes, for which there is room.
     pub fn push(&mut self, piece: &[u8])
-        requires { length self.old + length piece.now ≤ 1024 }
+        requires { length self.old + length piece.now ≤ 4096 }
         ensures { self.new ≡ self.old ++ piece.now }
     {
         let end = self.len + piece.len();
@@ -57,7 +57,7 @@ impl Block {
 
     /// Holds back a field's line, for which there is room.
     pub fn push_line(&mut self, name: &[u8], value: &[u8])
-        requires { length self.old + (length name.now + length value.now + 4) ≤ 1024 }
+        requires { length self.old + (length name.now + length value.now + 4) ≤ 4096 }
         ensures { self.new ≡ self.old ++ line (name.now, value.now) }
     {
         self.push(name);
@@ -73,7 +73,7 @@ impl Block {
     }
 
     pub fn has_room(&self, count: usize) -> bool
-        ensures { result ≡ nat_le (length self.now + count) 1024 }
+        ensures { result ≡ nat_le (length self.now + count) 4096 }
     {
         count <= BLOCK - self.len
     }
