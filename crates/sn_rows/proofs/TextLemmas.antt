@@ -2,8 +2,9 @@
 use Rattle.std.proofs.Common.{◌≡◌, ℕ, zero, suc, ◌+◌, ◌^◌, ◌-◌, ◌<◌, ◌≤◌, Bool, true, false, ◌||◌, inl, inr, List, [], ◌∷◌, length, drop, take, get_or, refl, sym, ap, subst, ◌∙◌, length-drop, arith}
 use Rattle.std.specs.Prelude.{nat_le, ◌&&◌, IsTrue}
 use Rattle.std.specs.Str.{IsCharBoundary, IsUtf8, is_utf8}
-use Rattle.std.proofs.lemmas.Bool.{le-leb, leb-true, eq-eqb, cases_Bool, and_parts}
+use Rattle.std.proofs.lemmas.Bool.{le-leb, leb-true, cases_Bool, and_parts}
 use Rattle.std.proofs.lemmas.Str.{is_utf8-from_IsUtf8, IsUtf8-from_is_utf8, IsCharBoundary-from_take, IsUtf8-drop}
+use Rattle.memchr.specs.Find.{NoneAfter, Nowhere, Passes, is_byte}
 use Rattle.sn_rows.specs.Bounds.{is_text_of, is_device_string, has_device_lengths, has_colon, is_colon, before_colon, after_colon}
 
 pub within : (t : List ℕ) (least most : ℕ) → IsUtf8 t → least ≤ length t → nat_le (length t) most ≡ is_text_of least most t
@@ -22,7 +23,7 @@ or_right true y e = refl
 or_right false y e = e
 
 -- a text without a colon
-pub no_colon : (t : List ℕ) → has_colon t ≡ false → (before_colon t ≡ t) × (after_colon t ≡ [])
+no_colon : (t : List ℕ) → has_colon t ≡ false → (before_colon t ≡ t) × (after_colon t ≡ [])
 no_colon [] h = (refl, refl)
 no_colon (b ∷ t) h =
     let p = or_parts (is_colon b) (has_colon t) h in
@@ -34,7 +35,7 @@ colon_there zero (b ∷ t) lt e = rw e refl
 colon_there (suc i) (b ∷ t) lt e = or_right (is_colon b) (has_colon t) (colon_there i t (omega arith) e)
 
 -- a text whose last colon stands at i
-pub last_colon : (i : ℕ) (t : List ℕ) → i < length t → is_colon (get_or t i 0) ≡ true → has_colon (drop (suc i) t) ≡ false → (length (before_colon t) ≡ i) × (length (after_colon t) ≡ length t - suc i)
+last_colon : (i : ℕ) (t : List ℕ) → i < length t → is_colon (get_or t i 0) ≡ true → has_colon (drop (suc i) t) ≡ false → (length (before_colon t) ≡ i) × (length (after_colon t) ≡ length t - suc i)
 last_colon i [] lt e h = absurd (omega arith)
 last_colon zero (b ∷ t) lt e h = (rw (h, e) refl, rw (h, e) (omega arith))
 last_colon (suc i) (b ∷ t) lt e h =
@@ -42,12 +43,27 @@ last_colon (suc i) (b ∷ t) lt e h =
     let rest = last_colon i t (omega arith) e h in
     (rw there (omega (arith, rest.0)), rw there (omega (arith, rest.1)))
 
-pub colon_at : (i j : ℕ) (t : List ℕ) → i ≡ suc j → i ≤ length t → get_or t j 0 ≡ 58 → has_colon (drop i t) ≡ false → (length (before_colon t) ≡ j) × (length (after_colon t) ≡ length t - i)
-colon_at i j t e le at h =
-    let colon : is_colon (get_or t j 0) ≡ true = eq-eqb (get_or t j 0) 58 at in
-    let none : has_colon (drop (suc j) t) ≡ false = rw (← e) h in
-    let two = last_colon j t (omega arith) colon none in
-    (two.0, omega (arith, two.1, e))
+-- no colon stands from place i on
+none_from : (i : ℕ) (t : List ℕ) → Nowhere (Passes (is_byte 58) t) i (length t) → has_colon (drop i t) ≡ false
+none_from zero [] h = refl
+none_from (suc i) [] h = refl
+none_from zero (b ∷ t) h =
+    let rest : has_colon t ≡ false = none_from zero t (λ k le lt at. h (suc k) (omega arith) (omega arith) at) in
+    elim (cases_Bool (is_colon b)) [
+      | inl colon ↦ absurd (h 0 (omega arith) (omega arith) colon)
+      | inr other ↦ rw (other, rest) refl
+    ]
+none_from (suc i) (b ∷ t) h = none_from i t (λ k le lt at. h (suc k) (omega arith) (omega arith) at)
+
+-- the parts of a text whose last colon was found
+pub colon_found : (t : List ℕ) (place : ℕ) → NoneAfter (Passes (is_byte 58) t) 0 (length t) place × Passes (is_byte 58) t place
+    → (length (before_colon t) ≡ place) × (length (after_colon t) ≡ length t - suc place)
+colon_found t place h =
+    last_colon place t h.0.high h.1 (none_from (suc place) t (λ k le lt at. h.0.after k (omega arith) lt at))
+
+-- and of one in which none was found
+pub colon_absent : (t : List ℕ) → Nowhere (Passes (is_byte 58) t) 0 (length t) → (before_colon t ≡ t) × (after_colon t ≡ [])
+colon_absent t h = no_colon t (none_from 0 t h)
 
 -- bytes that are no text
 pub not_utf8 : (t : List ℕ) → (IsUtf8 t → ⊥) → is_utf8 t ≡ false

@@ -5,6 +5,7 @@ ghost use Rattle.std.specs.Str.{is_utf8};
 ghost use Rattle.std.specs.List.{list_all};
 ghost use Rattle.sn_rows.specs.Bounds.{HasLength, HasDeviceLengths, IsVisible, is_text_of, is_token, is_device_string, is_visible, has_device_lengths, after_colon, before_colon};
 
+use memchr::memrchr;
 use sn_string::{MOST_STRING, Text};
 
 /// Whether the text has so many bytes.
@@ -66,14 +67,10 @@ fn colon_lengths(bytes: &[u8]) -> (usize, usize)
     ensures before { result.0 ≡ length (before_colon bytes.now) }
     ensures after { result.1 ≡ length (after_colon bytes.now) }
 {
-    let mut end = bytes.len();
-    while 0 < end {
-        if bytes[end - 1] == b':' {
-            return (end - 1, bytes.len() - end);
-        }
-        end -= 1;
+    match memrchr(b':', bytes) {
+        Some(place) => (place, bytes.len() - place - 1),
+        None => (bytes.len(), 0),
     }
-    (bytes.len(), 0)
 }
 
 // The bytes as a text.
@@ -81,7 +78,7 @@ fn utf8_of(bytes: &[u8]) -> Option<&str>
     ensures some { IfSome result (λ text. (text.now ≡ bytes.now) × IsTrue (is_utf8 bytes.now)) }
     ensures none { IfNone result (is_utf8 bytes.now ≡ false) }
 {
-    match str::from_utf8(bytes) {
+    match simdutf8::compat::from_utf8(bytes) {
         Ok(text) => Some(text),
         Err(_) => None,
     }

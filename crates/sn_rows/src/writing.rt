@@ -17,6 +17,12 @@ use crate::server_rows::{AccountRow, GenerationRow, ItemRow, StoreRow};
 use crate::value::Value;
 use std::alloc::{AllocError, Global};
 
+// The room that is made at the start for a change, and for the columns: most need less.
+const ROOM: usize = 1024;
+
+// Room is made for at most so many changes, since a long list may be of short ones.
+const MOST_ROOMS: usize = 64;
+
 // A text, behind its length.
 fn put_counted(out: &mut Vec<u8>, bytes: &[u8]) -> Result<(), AllocError>
     requires { length bytes.now < 2 ^ 32 }
@@ -271,8 +277,8 @@ pub fn write(alloc: Global, changes: &[Change]) -> Result<Vec<u8>, AllocError>
     // So what is written is read back.
     ensures form { IfOk result (λ _. AreInForm changes.now) }
 {
-    let mut out = Vec::new(alloc);
-    let mut columns = Vec::new(alloc);
+    let mut out = Vec::with_capacity(alloc, changes.len().min(MOST_ROOMS) * ROOM)?;
+    let mut columns = Vec::with_capacity(alloc, ROOM)?;
     for change in changes {
         put_change(&mut out, &mut columns, change)?;
     }

@@ -7,6 +7,7 @@ ghost use Rattle.sn_string.specs.Parameters.{IsParamsJson, is_plain, plain_json}
 
 use crate::params::Params;
 use crate::text::Text;
+use simdutf8::compat::from_utf8;
 use std::alloc::{AllocError, Global};
 
 // The most bytes that plain JSON has beside its two texts: ten are of the cost.
@@ -41,7 +42,7 @@ fn candidate_of(alloc: Global, json: &[u8]) -> Result<Option<Params>, AllocError
 
 // The identifier, the cost and the nonce, where they stand between what is always written.
 fn pieces_of(json: &[u8]) -> Option<(&str, u32, &str)> {
-    let text = str::from_utf8(json).ok()?;
+    let text = from_utf8(json).ok()?;
     let text = text.strip_prefix("{\"identifier\":\"")?;
     let (identifier, text) = text.split_once('"')?;
     let text = text.strip_prefix(",\"pw_cost\":")?;

@@ -9,6 +9,7 @@ use crate::ciphertexts::is_ciphertext;
 use crate::forms::{is_hash, is_iv, is_uuid};
 use crate::params::Params;
 use crate::params_part::params_of_part;
+use memchr::memchr;
 use std::alloc::Global;
 use thiserror::Error;
 
@@ -150,7 +151,9 @@ fn cut(text: &str) -> Option<(&str, &str)>
     ensures more { IfSome result (λ both. 2 ≤ length (parts_of text.now)) }
     ensures none { IfNone result (parts_of text.now ≡ text.now ∷ []) }
 {
-    text.split_once(':')
+    // A colon is ASCII, so the text may be cut on both sides of it.
+    let place = memchr(b':', text.as_bytes())?;
+    Some((&text[..place], &text[place + 1..]))
 }
 
 // How many parts stand between the colons.
