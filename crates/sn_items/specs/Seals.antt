@@ -6,7 +6,7 @@ use Rattle.sn_hmac.specs.Hmac.{hmac_sha256}
 use Rattle.sn_items.specs.Opens.{covered_text}
 use Rattle.sn_string.specs.Base64.{base64_text}
 use Rattle.sn_string.specs.Grammar.{joined, version}
-use Rattle.sn_string.specs.Parameters.{params_text}
+use Rattle.sn_string.specs.Parameters.{IsParamsPart, params_text}
 use Rattle.sn_string.specs.Uuids.{uuid_text}
 use Rattle.sn_string.specs.declared.params.Params.{Params}
 
@@ -18,3 +18,8 @@ pub record IsSealed (plain uuid iv encryption_key authentication_key : List ℕ)
   pub spelled : text ≡ joined (version
       ∷ encode_lower (hmac_sha256 authentication_key (covered_text (uuid_text uuid) (encode_lower iv) (base64_text bytes)))
       ∷ uuid_text uuid ∷ encode_lower iv ∷ base64_text bytes ∷ params_text params ∷ [])
+
+-- the params part that is written for the parameters, which stands for them
+pub record IsWrittenPart (part : List ℕ) (params : Params) : Type 0 where
+  pub written : part ≡ params_text params
+  pub reads : IsParamsPart part params

@@ -1,17 +1,21 @@
 // Sealing and opening an item's two strings.
 ghost use Rattle.std.specs.Prelude.{◌≡◌, ℕ, List, IfOk, IfErr, IsTrue, string_bytes};
-ghost use Rattle.sn_items.specs.ItemRefusals.{ContentStringCause, ItemHasCause, KeyStringCause, SaysNonce, form_of};
+ghost use Rattle.sn_items.specs.ItemRefusals.{BothRead, ContentStringCause, ItemHasCause, KeyStringCause, SaysNonce, form_of};
 ghost use Rattle.sn_items.specs.Items.{Carries, IsDrawn, IsItemSealed, OpensItem, OpensKey, authentication_half, encryption_half};
 ghost use Rattle.sn_items.specs.Objects.{is_object};
 ghost use Rattle.sn_items.specs.Opens.{Opens};
+ghost use Rattle.sn_string.specs.Grammar.{Is003};
+ghost use Rattle.sn_string.specs.Parts.{reading_of};
 
 use crate::error::ItemError;
 use crate::objects::is_object;
-use crate::opening::open_text;
+use crate::opening::open_parts;
 use crate::sealed::{Sealed, Which};
 use crate::sealing::sealed_text;
 use crate::words::Words;
-use sn_string::{KeySet, Params, StringError, Text, TryClone, hex_text, key_bytes, read};
+use sn_string::{
+    KeySet, Params, Parts, StringError, Text, TryClone, hex_text, key_bytes, params_text, read,
+};
 use std::alloc::{AllocError, Global};
 use uuid::Uuid;
 
@@ -50,6 +54,7 @@ fn sealed_item(
     ensures sealed { IfOk result (λ sealed.
         IsItemSealed content.now uuid key.now content_iv.now enc_iv.now set.now sealed) }
 {
+    let last = params_text(alloc, &set.params)?;
     let (encryption_key, authentication_key) = halves(key);
     let content = sealed_text(
         alloc,
@@ -58,10 +63,10 @@ fn sealed_item(
         uuid,
         &encryption_key,
         &authentication_key,
-        &set.params,
+        &last,
     )?;
     let digits = hex_text(alloc, key)?;
-    let enc = sealed_text(alloc, enc_iv, &digits, uuid, &set.mk, &set.ak, &set.params)?;
+    let enc = sealed_text(alloc, enc_iv, &digits, uuid, &set.mk, &set.ak, &last)?;
     Ok(Sealed {
         content: Text::of_string(content),
         enc: Text::of_string(enc),
@@ -79,24 +84,26 @@ pub fn open_item(
     ensures ok { IfOk result (λ content. OpensItem sealed.now uuid set.now (string_bytes content)) }
     ensures err { IfErr result (λ why. ItemHasCause sealed.now uuid set.now why.0 why.1) }
 {
-    check_params(alloc, sealed, uuid, set)?;
-    let key = match item_key(alloc, sealed.enc.as_str(), uuid, set) {
+    let (enc, content) = read_both(alloc, sealed, uuid, set)?;
+    let key = match item_key(alloc, &enc, uuid, set) {
         Ok(key) => key,
         Err(error) => return Err((Which::Enc, error)),
     };
-    match item_content(alloc, sealed.content.as_str(), uuid, &key) {
+    match item_content(alloc, &content, uuid, &key) {
         Ok(content) => Ok(content),
         Err(error) => Err((Which::Content, error)),
     }
 }
 
-fn check_params(
+// The parts of the key string and of the content string, where both carry the set's parameters.
+fn read_both<'s>(
     alloc: Global,
-    sealed: &Sealed,
+    sealed: &'s Sealed,
     uuid: Uuid,
     set: &KeySet,
-) -> Result<(), (Which, ItemError)>
-    ensures ok { IfOk result (λ _. Carries sealed.now set.now.params) }
+) -> Result<(Parts<'s>, Parts<'s>), (Which, ItemError)>
+    ensures read { IfOk result (λ both. BothRead sealed.now (reading_of both.0) (reading_of both.1)) }
+    ensures carries { IfOk result (λ _. Carries sealed.now set.now.params) }
     ensures err { IfErr result (λ why. ItemHasCause sealed.now uuid set.now why.0 why.1) }
 {
     let enc = match read(alloc, sealed.enc.as_str()) {
@@ -113,7 +120,7 @@ fn check_params(
     if !content.params.same(&set.params) {
         return Err((Which::Content, other_set(alloc, &content.params)));
     }
-    Ok(())
+    Ok((enc, content))
 }
 
 fn form_error(error: StringError) -> ItemError
@@ -134,11 +141,12 @@ fn other_set(alloc: Global, params: &Params) -> ItemError
     }
 }
 
-fn item_key(alloc: Global, enc: &str, uuid: Uuid, set: &KeySet) -> Result<[u8; 64], ItemError>
-    ensures ok { IfOk result (λ key. OpensKey enc.now uuid set.now key) }
-    ensures err { IfErr result (λ error. KeyStringCause enc.now uuid set.now error) }
+fn item_key(alloc: Global, enc: &Parts, uuid: Uuid, set: &KeySet) -> Result<[u8; 64], ItemError>
+    requires { (text : List ℕ) × Is003 text (reading_of enc.now) }
+    ensures ok { IfOk result (λ key. (text : List ℕ) → Is003 text (reading_of enc.now) → OpensKey text uuid set.now key) }
+    ensures err { IfErr result (λ error. (text : List ℕ) → Is003 text (reading_of enc.now) → KeyStringCause text uuid set.now error) }
 {
-    let digits = open_text(alloc, enc, uuid, &set.mk, &set.ak)?;
+    let digits = open_parts(alloc, enc, uuid, &set.mk, &set.ak)?;
     match key_bytes(&digits) {
         Some(key) => Ok(key),
         None => Err(ItemError::NotItemKey),
@@ -147,16 +155,18 @@ fn item_key(alloc: Global, enc: &str, uuid: Uuid, set: &KeySet) -> Result<[u8; 6
 
 fn item_content(
     alloc: Global,
-    content: &str,
+    content: &Parts,
     uuid: Uuid,
     key: &[u8; 64],
 ) -> Result<String, ItemError>
-    ensures ok { IfOk result (λ text. Opens content.now uuid (encryption_half key.now) (authentication_half key.now) (string_bytes text)) }
-    ensures object { IfOk result (λ text. IsTrue (is_object (string_bytes text))) }
-    ensures err { IfErr result (λ error. ContentStringCause content.now uuid key.now error) }
+    requires { (text : List ℕ) × Is003 text (reading_of content.now) }
+    ensures ok { IfOk result (λ plain. (text : List ℕ) → Is003 text (reading_of content.now)
+        → Opens text uuid (encryption_half key.now) (authentication_half key.now) (string_bytes plain)) }
+    ensures object { IfOk result (λ plain. IsTrue (is_object (string_bytes plain))) }
+    ensures err { IfErr result (λ error. (text : List ℕ) → Is003 text (reading_of content.now) → ContentStringCause text uuid key.now error) }
 {
     let (encryption_key, authentication_key) = halves(key);
-    let text = open_text(alloc, content, uuid, &encryption_key, &authentication_key)?;
+    let text = open_parts(alloc, content, uuid, &encryption_key, &authentication_key)?;
     if is_object(alloc, &text)? {
         Ok(text)
     } else {

@@ -5,7 +5,7 @@ ghost use Rattle.sn_cbc.specs.Cbc.{AreBytes};
 ghost use Rattle.sn_items.specs.Opens.{Opens, Decrypts};
 ghost use Rattle.sn_items.specs.Refusals.{HasCause};
 ghost use Rattle.sn_items.specs.Utf8.{IsValidTo};
-ghost use Rattle.sn_string.specs.Grammar.{Is003, IsHash, IsUuid, IsIv, IsCiphertext};
+ghost use Rattle.sn_string.specs.Grammar.{Is003, IsIv, IsCiphertext};
 ghost use Rattle.sn_string.specs.Parts.{reading_of};
 
 use crate::error::ItemError;
@@ -34,17 +34,15 @@ pub fn open_text(
     }
 }
 
-fn open_parts(
+/// The plain text of a 003 string that was read.
+pub fn open_parts(
     alloc: Global,
     parts: &Parts,
     uuid: Uuid,
     encryption_key: &[u8; 32],
     authentication_key: &[u8; 32],
 ) -> Result<String, ItemError>
-    requires hash { IsHash parts.now.hash.now }
-    requires uuid { IsUuid parts.now.uuid.now }
-    requires iv { IsIv parts.now.iv.now }
-    requires ciphertext { IsCiphertext parts.now.ciphertext.now }
+    requires { (text : List ℕ) × Is003 text (reading_of parts.now) }
     ensures ok { IfOk result (λ plain. (text : List ℕ) → Is003 text (reading_of parts.now)
         → Opens text uuid encryption_key.now authentication_key.now (string_bytes plain)) }
     ensures err { IfErr result (λ error. (text : List ℕ) → Is003 text (reading_of parts.now)

@@ -5,7 +5,8 @@ ghost use Rattle.sn_cbc.specs.Cbc.{IsCbc};
 ghost use Rattle.sn_items.specs.Draws.{drawn};
 ghost use Rattle.sn_items.specs.Items.{CarriesParams};
 ghost use Rattle.sn_items.specs.Opens.{Opens};
-ghost use Rattle.sn_items.specs.Seals.{IsSealed};
+ghost use Rattle.sn_items.specs.Seals.{IsSealed, IsWrittenPart};
+ghost use Rattle.sn_string.specs.declared.params.Params.{Params};
 
 use crate::words::Words;
 use sn_cbc::{seal, seal_owned};
@@ -30,6 +31,7 @@ pub fn seal_text(
     ensures carries { IfOk result (λ text. CarriesParams (string_bytes text) params.now) }
 {
     let iv = words.iv();
+    let last = params_text(alloc, params)?;
     sealed_text(
         alloc,
         &iv,
@@ -37,7 +39,7 @@ pub fn seal_text(
         uuid,
         encryption_key,
         authentication_key,
-        params,
+        &last,
     )
 }
 
@@ -58,11 +60,12 @@ pub fn seal_owned_text(
     ensures carries { IfOk result (λ text. CarriesParams (string_bytes text) params.now) }
 {
     let iv = words.iv();
+    let last = params_text(alloc, params)?;
     let bytes = seal_owned(encryption_key, &iv, plain.into_bytes())?;
-    string_of(alloc, &iv, &bytes, uuid, authentication_key, params)
+    string_of(alloc, &iv, &bytes, uuid, authentication_key, &last)
 }
 
-/// The 003 string of a plain text under this initialization vector.
+/// The 003 string of a plain text under this initialization vector, with a params part that was written.
 pub fn sealed_text(
     alloc: Global,
     iv: &[u8; 16],
@@ -70,15 +73,17 @@ pub fn sealed_text(
     uuid: Uuid,
     encryption_key: &[u8; 32],
     authentication_key: &[u8; 32],
-    params: &Params,
+    last: &str,
 ) -> Result<String, AllocError>
-    ensures sealed { IfOk result (λ text.
-        IsSealed plain.now uuid iv.now encryption_key.now authentication_key.now params.now (string_bytes text)) }
-    ensures opens { IfOk result (λ text. Opens (string_bytes text) uuid encryption_key.now authentication_key.now plain.now) }
-    ensures carries { IfOk result (λ text. CarriesParams (string_bytes text) params.now) }
+    ensures sealed { (params : Params) → IsWrittenPart last.now params → IfOk result (λ text.
+        IsSealed plain.now uuid iv.now encryption_key.now authentication_key.now params (string_bytes text)) }
+    ensures opens { (params : Params) → IsWrittenPart last.now params
+        → IfOk result (λ text. Opens (string_bytes text) uuid encryption_key.now authentication_key.now plain.now) }
+    ensures carries { (params : Params) → IsWrittenPart last.now params
+        → IfOk result (λ text. CarriesParams (string_bytes text) params) }
 {
     let bytes = seal(alloc, encryption_key, iv, plain.as_bytes())?;
-    string_of(alloc, iv, &bytes, uuid, authentication_key, params)
+    string_of(alloc, iv, &bytes, uuid, authentication_key, last)
 }
 
 // The 003 string of a ciphertext.
@@ -88,20 +93,22 @@ fn string_of(
     bytes: &[u8],
     uuid: Uuid,
     authentication_key: &[u8; 32],
-    params: &Params,
+    last: &str,
 ) -> Result<String, AllocError>
-    ensures sealed { (encryption_key plain : List ℕ) → IsCbc encryption_key iv.now plain bytes.now → IfOk result (λ text.
-        IsSealed plain uuid iv.now encryption_key authentication_key.now params.now (string_bytes text)) }
-    ensures opens { (encryption_key plain : List ℕ) → IsCbc encryption_key iv.now plain bytes.now → IsUtf8 plain
+    ensures sealed { (encryption_key plain : List ℕ) (params : Params) → IsCbc encryption_key iv.now plain bytes.now
+        → IsWrittenPart last.now params
+        → IfOk result (λ text. IsSealed plain uuid iv.now encryption_key authentication_key.now params (string_bytes text)) }
+    ensures opens { (encryption_key plain : List ℕ) (params : Params) → IsCbc encryption_key iv.now plain bytes.now
+        → IsWrittenPart last.now params → IsUtf8 plain
         → IfOk result (λ text. Opens (string_bytes text) uuid encryption_key authentication_key.now plain) }
-    ensures carries { (encryption_key plain : List ℕ) → IsCbc encryption_key iv.now plain bytes.now
-        → IfOk result (λ text. CarriesParams (string_bytes text) params.now) }
+    ensures carries { (encryption_key plain : List ℕ) (params : Params) → IsCbc encryption_key iv.now plain bytes.now
+        → IsWrittenPart last.now params
+        → IfOk result (λ text. CarriesParams (string_bytes text) params) }
 {
-    let last = params_text(alloc, params)?;
     let uuid = uuid_text(alloc, uuid)?;
     let iv = hex_text(alloc, iv)?;
-    let text = authenticated_text(alloc, &uuid, &iv, bytes, &last)?;
+    let text = authenticated_text(alloc, &uuid, &iv, bytes, last)?;
     let hash = hmac_sha256(authentication_key, text.as_bytes());
     let hash = hex_text(alloc, &hash)?;
-    with_hash(alloc, text, &hash, &last)
+    with_hash(alloc, text, &hash, last)
 }

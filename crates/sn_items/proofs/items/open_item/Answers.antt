@@ -1,14 +1,11 @@
-use Rattle.std.proofs.Common.{rules, subst}
-use Rattle.sn_items.specs.ItemRefusals.{ContentStringCause}
-use Rattle.sn_items.specs.Items.{Carries, OpensKey}
+use Rattle.sn_items.specs.ItemRefusals.{BothRead}
 use Rattle.sn_items.proofs.ItemLemmas.{content_cause}
+use Rattle.sn_string.specs.Parts.{reading_of}
 use Rattle.sn_items.proofs.items.open_item.Goals as goal
 
-pub returns-in-Err-item_content-clause-err : goal.returns-in-Err-item_content-clause-err
-returns-in-Err-item_content-clause-err c =
-    let carries : Carries c.args.sealed.now c.args.set.now.params = c.in_ok-check_params.ensures.ok in
-    let enc : OpensKey c.args.sealed.now.enc c.args.uuid c.args.set.now c.in-Ok.key =
-    subst (λ text. OpensKey text c.args.uuid c.args.set.now c.in-Ok.key) c.as_str.ensures c.in-Ok.ensures.ok in
-    let cause : ContentStringCause c.args.sealed.now.content c.args.uuid c.in-Ok.key c.in-Err-item_content.error =
-    subst (λ text. ContentStringCause text c.args.uuid c.in-Ok.key c.in-Err-item_content.error) c.as_str-2.ensures c.in-Err-item_content.ensures.err in
-    content_cause c.args.sealed.now c.args.uuid c.in-Ok.key c.args.set.now c.in-Err-item_content.error carries enc cause
+pub returns-clause-err : goal.returns-clause-err
+returns-clause-err c =
+    let sealed = c.args.sealed.now in
+    let read : BothRead sealed (reading_of c.in_ok-enc.enc) (reading_of c.in_ok-enc.content) = c.in_ok-enc.ensures.read in
+    content_cause sealed c.args.uuid c.in-Ok.key c.args.set.now c.in-Err-item_content.error c.in_ok-enc.ensures.carries
+    (c.in-Ok.ensures.ok sealed.enc read.enc_reads) (c.in-Err-item_content.ensures.err sealed.content read.content_reads)
