@@ -6,6 +6,7 @@ pub mod StepsActs
 pub mod StepsCalls
 pub mod ToldAdopted
 pub mod ToldCommits
+pub mod ToldForeign
 pub mod ToldLaws
 pub mod ToldServed
 pub mod ToldTraces

@@ -45,7 +45,7 @@ use Rattle.sn_world.specs.Applying.{SaysApplied}
 use Rattle.sn_world.specs.Committing.{Commits, MayCommit, SaysAdoption, SaysCommit, SaysJoin}
 use Rattle.sn_world.specs.Holds.{Holds}
 use Rattle.sn_world.specs.World.{World}
-use Rattle.sn_telling.specs.Walking.{HasForeign, IsDoing, IsSynced, SaysBatch, SaysDoing, first_item, joined_or_renewed, put_done, signed_in}
+use Rattle.sn_telling.specs.Walking.{IsDoing, IsForeign, IsSynced, SaysBatch, SaysDoing, first_item, joined_or_renewed, put_done, signed_in}
 use Rattle.sn_telling.specs.declared.calling.Calling.{Calling}
 use Rattle.sn_telling.specs.declared.calling.Calling.TheVariants as calling
 use Rattle.sn_telling.specs.declared.doing.Doing.{Doing}
@@ -53,6 +53,7 @@ use Rattle.sn_telling.specs.declared.doing.Doing.TheVariants as doing
 use Rattle.sn_telling.proofs.StepsActs.{Last}
 use Rattle.sn_telling.proofs.StepsCalls.{BeginsAs, EditsAs, IsDeletion, IsDoneIn, PutsAs, SignsAs, SyncsAs}
 use Rattle.sn_telling.proofs.ToldAdopted.{one_adoption}
+use Rattle.sn_telling.proofs.ToldForeign.{moves_same}
 
 -- the bytes that came back last are those of the last reply
 abbrev pub Came : Last → Option Bytes → Type 0
@@ -116,7 +117,7 @@ module _ (law : DeletionsStay) (answers : SaysAnswered) (plainly : SaysPlainly) 
 
   applied_told : (words left : ChaCha) (r : Request) (given : Answer) (changes : List Change) (came : Option Bytes) (foreign : List Bytes)
       (later moves said_so : List Move) → Step Before words (applies r given) changes left → MayCommit secret w.server Before s name (applies r given)
-      → SaysCommit Before s name (applies r given) changes said_so → IsReply (route_of r) came (said given) → HasForeign came foreign
+      → SaysCommit Before s name (applies r given) changes said_so → IsReply (route_of r) came (said given) → IsForeign came changes foreign
       → IsRetirement w.server Before name changes later → moves ≡ moves_of Before name (done.Applies foreign) changes ++ later → moves ≡ said_so
   applied_told words left (request.Sync token items limit sync_token cursor_token) (answer.Sync conflicts cursor retrieved saved next) changes came foreign later
       moves said_so step may says heard is_foreign ends is =
@@ -125,7 +126,7 @@ module _ (law : DeletionsStay) (answers : SaysAnswered) (plainly : SaysPlainly) 
       let first : says.first ≡ moves_of Before name (done.Applies (foreign_in given)) changes =
       answers Before words left (request.Sync token items limit sync_token cursor_token) (held_by (device_named s name)) name conflicts cursor retrieved saved next
       changes said_so (h.sound name).locals keeps_so step says in
-      is ∙ ap (λ (f : List Bytes). moves_of Before name (done.Applies f) changes ++ later) (is_foreign given heard)
+      is ∙ ap (λ (m : List Move). m ++ later) (moves_same name foreign (foreign_in given) Before changes (λ takes. is_foreign takes given heard))
       ∙ ap (λ (m : List Move). m ++ later) (sym first)
       ∙ ap (λ (m : List Move). says.first ++ m)
       (sym (ended_told may.device has.0 changes later has.1 ends conflicts cursor retrieved saved next said_so says))
@@ -206,11 +207,12 @@ module _ (law : DeletionsStay) (answers : SaysAnswered) (plainly : SaysPlainly) 
     of_delete what did of step says is told = absurd of
 
     -- a sync, or a change of password
-    kind_synced : (came : Option Bytes) (did : Doing) (of : Kind) → kind_of changes ≡ of → IsSynced (kind_of changes) came did → IsSynced of came did
-    kind_synced came did of is synced = subst (λ (k : Kind). IsSynced k came did) is synced
+    kind_synced : (came : Option Bytes) (did : Doing) (of : Kind) → kind_of changes ≡ of → IsSynced (kind_of changes) came changes did
+        → IsSynced of came changes did
+    kind_synced came did of is synced = subst (λ (k : Kind). IsSynced k came changes did) is synced
 
     of_sync : (last : Last) (came : Option Bytes) (what : What) (did : Doing) → SyncsAs last what → Came last came → Steps what
-        → MayCommit secret w.server Before s name what → SaysCommit Before s name what changes said_so → IsSynced (kind_of changes) came did → Told did
+        → MayCommit secret w.server Before s name what → SaysCommit Before s name what changes said_so → IsSynced (kind_of changes) came changes did → Told did
         → moves ≡ said_so
     of_sync last came (posts numbers) did of heard step may says synced told =
         plain_told (posts numbers) done.Posts tt refl step says

@@ -1,5 +1,6 @@
 -- The moves of a call by its batches and its exchanges alone, as they follow one another.
-use Rattle.std.specs.Prelude.{◌≡◌, List, [], ◌∷◌, ◌++◌, Bool, true, false, Option, Some, None, if◌then◌else◌}
+use Rattle.std.specs.List.{list_any}
+use Rattle.std.specs.Prelude.{◌≡◌, List, [], ◌∷◌, ◌++◌, Bool, true, false, IsTrue, Option, Some, None, if◌then◌else◌}
 use Rattle.sn_client.specs.Asking.{IsReply, IsRequestBytes, said}
 use Rattle.sn_laws.specs.Lookups.{Bytes}
 use Rattle.sn_laws.specs.declared.moves.Move.{Move}
@@ -16,6 +17,7 @@ use Rattle.sn_order.specs.declared.kind.Kind.TheVariants as kind
 use Rattle.sn_recorder.specs.declared.exchanged.Exchanged.{Exchanged}
 use Rattle.sn_rows.specs.Table.{Rows, rows_after}
 use Rattle.sn_rows.specs.declared.change.Change.{Change}
+use Rattle.sn_rows.specs.declared.change.Change.TheVariants.{Put, Remove}
 use Rattle.sn_rows.specs.declared.device_rows.LocalItem.{LocalItem}
 use Rattle.sn_rows.specs.declared.key.Key.TheVariants as key
 use Rattle.sn_rows.specs.declared.value.Value.{Value}
@@ -45,6 +47,16 @@ rows_behind_all rows (batch ∷ batches) = rows_behind_all (rows_after rows batc
 abbrev pub HasForeign : Option Bytes → List Bytes → Type 0
 HasForeign answer foreign = (given : Answer) → IsReply route.Sync answer (said given) → foreign ≡ foreign_in given
 
+-- the change takes an item's row away
+abbrev pub takes_item : Change → Bool
+takes_item (Put row) = false
+takes_item (Remove (key.Local number)) = true
+takes_item (Remove at) = false
+
+-- they are so where one of the changes takes an item's row away, and any elsewhere, since no move of another change depends on them
+abbrev pub IsForeign : Option Bytes → List Change → List Bytes → Type 0
+IsForeign answer changes foreign = IsTrue (list_any takes_item changes) → HasForeign answer foreign
+
 -- the item that the first change leaves
 abbrev pub first_item : List Change → Option LocalItem
 first_item [] = None
@@ -68,12 +80,12 @@ signed_in identifier what None = doing.Begins identifier
 signed_in identifier what (Some owner) = joined_or_renewed what
 
 -- in a sync or a change of password: a set is adopted, an answer is applied, drafts are posted, and nothing else says a move
-abbrev pub IsSynced : Kind → Option Bytes → Doing → Type 0
-IsSynced kind.Joins answer did = did ≡ doing.Adopts
-IsSynced kind.Counts answer did = (foreign : List Bytes) × HasForeign answer foreign × (did ≡ doing.Applies foreign)
-IsSynced kind.Drafts answer did = did ≡ doing.Other done.Posts
-IsSynced kind.Asks answer did = did ≡ doing.Other done.Renews
-IsSynced kind.Forgets answer did = did ≡ doing.Other done.Renews
+abbrev pub IsSynced : Kind → Option Bytes → List Change → Doing → Type 0
+IsSynced kind.Joins answer changes did = did ≡ doing.Adopts
+IsSynced kind.Counts answer changes did = (foreign : List Bytes) × IsForeign answer changes foreign × (did ≡ doing.Applies foreign)
+IsSynced kind.Drafts answer changes did = did ≡ doing.Other done.Posts
+IsSynced kind.Asks answer changes did = did ≡ doing.Other done.Renews
+IsSynced kind.Forgets answer changes did = did ≡ doing.Other done.Renews
 
 -- by the call, the last answer before the commit, the device's rows and the changes
 abbrev pub IsDoing : Calling → Option Bytes → Rows → List Change → Doing → Type 0
@@ -82,8 +94,8 @@ IsDoing (calling.SignIn identifier) answer rows changes did = did ≡ signed_in 
 IsDoing (calling.Put kind text) answer rows changes did = did ≡ doing.Other (put_done kind text (first_item changes))
 IsDoing (calling.Edit text) answer rows changes did = did ≡ doing.Other (done.Edits text)
 IsDoing calling.Delete answer rows changes did = did ≡ doing.Other done.Deletes
-IsDoing calling.Sync answer rows changes did = IsSynced (kind_of changes) answer did
-IsDoing calling.Passwd answer rows changes did = IsSynced (kind_of changes) answer did
+IsDoing calling.Sync answer rows changes did = IsSynced (kind_of changes) answer changes did
+IsDoing calling.Passwd answer rows changes did = IsSynced (kind_of changes) answer changes did
 
 -- ---- the moves of a commit
 

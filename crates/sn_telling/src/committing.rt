@@ -1,6 +1,7 @@
 //! The moves of a device's batches.
 
 ghost use Rattle.std.specs.Prelude.{◌≡◌, ◌++◌, IfOk, List, OnOk};
+ghost use Rattle.std.specs.List.{list_any};
 ghost use Rattle.std.specs.Option.{option_copied};
 ghost use Rattle.sn_laws.specs.declared.moves.Move.{Move};
 ghost use Rattle.sn_moves.specs.Commits.{moves_of};
@@ -8,7 +9,7 @@ ghost use Rattle.sn_moves.specs.Drafts.{item_left};
 ghost use Rattle.sn_moves.specs.declared.done.Done.TheVariants.{Applies};
 ghost use Rattle.sn_row_map.specs.RowMaps.{row_in};
 ghost use Rattle.sn_saying.specs.Retired.{IsRetirement};
-ghost use Rattle.sn_telling.specs.Walking.{IsDoing, IsSynced, SaysBatch, SaysBatches, SaysDoing, first_item, put_done, rows_behind_all, signed_in};
+ghost use Rattle.sn_telling.specs.Walking.{IsDoing, IsForeign, IsSynced, SaysBatch, SaysBatches, SaysDoing, first_item, put_done, rows_behind_all, signed_in, takes_item};
 
 use crate::calling::Calling;
 use crate::doing::Doing;
@@ -86,8 +87,8 @@ fn doing_by(
             text: text.try_clone(alloc)?,
         })),
         Calling::Delete => Ok(Doing::Other(Done::Deletes)),
-        Calling::Sync => synced(alloc, kind_of(changes), answer),
-        Calling::Passwd => synced(alloc, kind_of(changes), answer),
+        Calling::Sync => synced(alloc, kind_of(changes), answer, changes),
+        Calling::Passwd => synced(alloc, kind_of(changes), answer, changes),
     }
 }
 
@@ -138,18 +139,51 @@ fn put(
 }
 
 // In a sync or a change of password, behind this answer.
-fn synced(alloc: Global, kind: Kind, answer: &Option<OwnedList<u8>>) -> Result<Doing, AllocError>
-    ensures { IfOk result (IsSynced kind answer.now) }
+fn synced(
+    alloc: Global,
+    kind: Kind,
+    answer: &Option<OwnedList<u8>>,
+    changes: &[Change],
+) -> Result<Doing, AllocError>
+    ensures { IfOk result (IsSynced kind answer.now changes.now) }
 {
     match kind {
         Kind::Joins => Ok(Doing::Adopts),
         Kind::Counts => Ok(Doing::Applies {
-            foreign: foreign_told(alloc, answer)?,
+            foreign: foreign_asked(alloc, answer, changes)?,
         }),
         Kind::Drafts => Ok(Doing::Other(Done::Posts)),
         Kind::Asks => Ok(Doing::Other(Done::Renews)),
         Kind::Forgets => Ok(Doing::Other(Done::Renews)),
     }
+}
+
+// The uuids that another account has. Only the move of an item's row that goes depends on them, so most answers needn't be read again.
+fn foreign_asked(
+    alloc: Global,
+    answer: &Option<OwnedList<u8>>,
+    changes: &[Change],
+) -> Result<OwnedList<Uuid>, AllocError>
+    ensures { IfOk result (IsForeign answer.now changes.now) }
+{
+    if any_takes_item(changes) {
+        foreign_told(alloc, answer)
+    } else {
+        Ok(OwnedList::new(alloc))
+    }
+}
+
+// One of the changes takes an item's row away.
+fn any_takes_item(changes: &[Change]) -> bool
+    ensures { result ≡ list_any takes_item changes.now }
+{
+    changes.iter().any(takes_item)
+}
+
+fn takes_item(change: &Change) -> bool
+    ensures { result ≡ takes_item change.now }
+{
+    matches!(change, Change::Remove(Key::Local(_)))
 }
 
 // The item that the first change leaves.
