@@ -1,10 +1,10 @@
 -- How a call of a device on the store of a name ends, by what was handed in.
 use Rattle.std.specs.Prelude.{◌≡◌, ◌≢◌, ◌⊎◌, ℕ, List, [], ◌∷◌, ◌++◌, Option, Some}
 use Rattle.rand_chacha.specs.ChaCha.{ChaCha}
-use Rattle.sn_client.specs.Calls.{IsOpen, device_disk}
+use Rattle.sn_client.specs.Calls.{IsOpen, device_disk, device_rows}
 use Rattle.sn_client.specs.Loads.{IsDeviceError, IsLoaded}
 use Rattle.sn_client.specs.Runs.{Call}
-use Rattle.sn_client.specs.States.{Bytes}
+use Rattle.sn_client.specs.States.{Bytes, IsSound}
 use Rattle.sn_client.specs.declared.device.Device.{Device}
 use Rattle.sn_client.specs.declared.error.DeviceError.{DeviceError}
 use Rattle.sn_client.specs.declared.error.DeviceError.TheVariants as load
@@ -24,8 +24,9 @@ use Rattle.sn_calls.specs.declared.ends.CallEnd.{CallEnd}
 use Rattle.sn_calls.specs.declared.ends.CallEnd.TheVariants.{Answered, Refused, Foreign, Damaged, Rows, DiskFault, LinkFault, Memory}
 
 -- The device was loaded from this disk: with what its bytes stand for, and with the batches that each crash might have left of
--- it, of which it may have a last one whole or not at all.
+-- it, of which it may have a last one whole or not at all. Its rows are sound, also where the disk tells nothing.
 pub record LoadsFrom {D : Type 0} (g : Ghosts D) (disk : D) (device : Device D g) : Type 0 where
+  pub sound : IsSound (device_rows device)
   pub loaded : g.told → IsLoaded {S = Device D g} IsOpen (g.seen disk) device
   pub same : g.told → (batches : List (List Change)) → EachStands g disk batches → IsOpen device (kept_of batches)
   pub either : g.told → (batches : List (List Change)) (changes : List Change) → ((c : List ℕ) → g.may_leave disk c → IsAllOrNothing DeviceOwner batches changes c)

@@ -3,7 +3,7 @@ use Rattle.std.specs.Prelude.{ℕ, List}
 use Rattle.std.specs.declared.option.Option.{Option}
 use Rattle.std.specs.Prelude.{Some}
 use Rattle.sn_io.specs.FaultPlan.{Plan}
-use Rattle.sn_io.specs.Memory.{source_left, sink_held}
+use Rattle.sn_io.specs.Memory.{source_left, source_plan, sink_held, sink_plan}
 use Rattle.sn_io.specs.declared.memory.MemSource.{MemSource}
 use Rattle.sn_io.specs.declared.memory.MemSink.{MemSink}
 use Rattle.sn_net.specs.Connections.{Ends}
@@ -25,7 +25,12 @@ clock_given clock = told_times clock.times.items clock.given
 
 -- what a connection in memory tells
 abbrev pub ends_of : MemSource × MemSink → Ends
-ends_of ends = record { left = Some (source_left ends.0); held = Some (sink_held ends.1) }
+ends_of ends = record {
+  left = Some (source_left ends.0);
+  held = Some (sink_held ends.1);
+  reads = (source_plan ends.0).faults;
+  writes = (sink_plan ends.1).faults;
+}
 
 -- the connections that are to come at a port, in order
 abbrev pub port_waiting : MemPort → List (MemSource × MemSink)

@@ -42,7 +42,12 @@ pub trait Port {
 
     /// Waits for a connection and takes it.
     fn accept(&mut self) -> Result<(Self::In, Self::Out), Failed>
-        ensures accepted { IfOk result (λ ends. goes self.old self.new (accepted (record { left = Self.In.left ends.0; held = Self.Out.held ends.1 }) ∷ [])) }
+        ensures accepted { IfOk result (λ ends. goes self.old self.new (accepted (record {
+          left = Self.In.left ends.0;
+          held = Self.Out.held ends.1;
+          reads = Self.In.fault_count ends.0;
+          writes = Self.Out.fault_count ends.1;
+        }) ∷ [])) }
         ensures none { OnErr result (goes self.old self.new []) }
         ensures out { OnOk result (may_end self.new) }
         ensures bound { bound self.new ≡ bound self.old }
@@ -51,7 +56,12 @@ pub trait Port {
     /// Gives back the ends of a connection that was accepted, which closes it. Takes no memory.
     fn end(&mut self, source: Self::In, sink: Self::Out)
         requires { may_end self.old }
-        ensures ended { goes self.old self.new (ended (record { left = Self.In.left source; held = Self.Out.held sink }) ∷ []) }
+        ensures ended { goes self.old self.new (ended (record {
+          left = Self.In.left source;
+          held = Self.Out.held sink;
+          reads = Self.In.fault_count source;
+          writes = Self.Out.fault_count sink;
+        }) ∷ []) }
         ensures bound { bound self.new ≡ bound self.old }
         ensures faults { fault_count self.new ≡ fault_count self.old };
 

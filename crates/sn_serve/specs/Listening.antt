@@ -4,6 +4,7 @@ use Rattle.std.specs.declared.option.Option.{Option}
 use Rattle.std.specs.Fmt.{decimal}
 use Rattle.std.specs.Io.KnownBytes.{Appends}
 use Rattle.rand_chacha.specs.ChaCha.{ChaCha}
+use Rattle.sn_account.specs.Sound.{IsSound}
 use Rattle.sn_disk.specs.Disk.{LeavesOnly}
 use Rattle.sn_disk.specs.declared.disk.Disk.{Ghosts}
 use Rattle.sn_io.specs.Streams.{TakesPart}
@@ -11,7 +12,7 @@ use Rattle.sn_journal.specs.declared.owner.Owner.TheVariants.{Server as ServerOw
 use Rattle.sn_net.specs.Connections.{Event}
 use Rattle.sn_rows.specs.declared.change.Change.{Change}
 use Rattle.sn_server.specs.Loads.{IsLoaded, IsServerError, Opens, StaysRefused, kept_of, secret_of}
-use Rattle.sn_server.specs.Stores.{IsOpen, server_disk}
+use Rattle.sn_server.specs.Stores.{IsOpen, server_disk, server_rows}
 use Rattle.sn_server.specs.declared.error.ServerError.{ServerError}
 use Rattle.sn_server.specs.declared.error.ServerError.TheVariants as load
 use Rattle.sn_server.specs.declared.server.Server.{Server}
@@ -34,8 +35,10 @@ served_so host.DiskFault = DiskFault
 served_so host.Memory = Memory
 
 -- The server was loaded from this disk, with the words for what it draws: with what its bytes stand for, and with the batches
--- that each crash might have left of it, of which it may have a last one whole or not at all.
+-- that each crash might have left of it, of which it may have a last one whole or not at all. Its rows are sound, also where
+-- the disk tells nothing.
 pub record LoadsFrom {D : Type 0} (g : Ghosts D) (disk : D) (words words_left : ChaCha) (server : Server D g) : Type 0 where
+  pub sound : IsSound (server_rows server)
   pub loaded : g.told → IsLoaded {S = Server D g} IsOpen (g.seen disk) words words_left server
   pub same : g.told → (batches : List (List Change)) → ((c : List ℕ) → g.may_leave disk c → IsStore ServerOwner c batches)
       → Opens {S = Server D g} IsOpen (kept_of batches) words words_left server
@@ -53,7 +56,7 @@ outside port out clock = record { port = port; out = out; clock = clock }
 
 module _ {D P O C : Type 0} (g : Ghosts D) (goes : P → P → List Event → Type 0) (bound : P → ℕ) (held : O → Option (List ℕ)) (given : C → Option (List ℕ))
     (number requests : ℕ) (old new : Outside P O C) where
-  -- the port has the number that was asked for, or at 0 one that the system chose
+  -- the port has the number that was asked for, at 0 any
   abbrev pub Binds : Type 0
   Binds = number ≢ 0 → bound new.port ≡ number
 

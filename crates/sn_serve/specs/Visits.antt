@@ -41,7 +41,7 @@ pub record Visit (D : Type 0) (g : Ghosts D) : Type 0 where
   pub session : Session (Server D g) D
 
 abbrev pub ends_at : Moment → Ends
-ends_at m = record { left = m.left; held = m.held }
+ends_at m = record { left = m.left; held = m.held; reads = m.reads; writes = m.writes }
 
 module _ {D : Type 0} {g : Ghosts D} where
   abbrev pub stand : Server D g → Option (List ℕ) → ℕ → Stand D g

@@ -17,6 +17,7 @@ returns-in-Ok-clause-ends g c =
     loaded g.D.Disk g.L.Link.asks g.L.Link.aimed g.R.Seeds.given (call_of c.args.call.now) (server_of c.args.call.now) c.args.least_cost old new
     c.args.disk c.call_device.result.0 c.in-Ok.device
     (record {
+      sound = c.in-Ok.ensures.sound;
       loaded = c.in-Ok.ensures.loaded;
       same = λ told batches each. (c.in-Ok.ensures.same told batches each).0;
       either = λ told batches changes each. (c.in-Ok.ensures.either told batches changes each).0;

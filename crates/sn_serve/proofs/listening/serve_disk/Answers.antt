@@ -13,6 +13,7 @@ returns-in-Ok-clause-ends g c =
     (outside c.args.port.now c.args.out.now c.args.clock.now) (outside c.listen.new.port c.listen.new.out c.listen.new.clock)
     c.args.disk c.args.words c.load.new.words c.in-Ok.server c.listen.result.0 c.listen.result.1
     (record {
+      sound = c.in-Ok.ensures.sound;
       loaded = c.in-Ok.ensures.loaded;
       same = λ told batches each. (c.in-Ok.ensures.same told batches each).0;
       either = λ told batches changes each. (c.in-Ok.ensures.either told batches changes each).0;
