@@ -1,24 +1,27 @@
 -- An event, by how its call ended and by its line.
-use Rattle.std.proofs.Common.{◌≡◌, ◌≢◌, ◌++◌, ℕ, List, Bool, true, false, Result, Ok, Err, Some, refl, sym, ap, ◌∙◌, subst}
+use Rattle.std.proofs.Common.{arith, ◌≡◌, ◌≢◌, ◌++◌, ℕ, List, Bool, true, false, Result, Ok, Err, Some, refl, sym, ap, ◌∙◌, subst}
 use Rattle.std.specs.Prelude.{IfOk, if◌then◌else◌}
 use Rattle.std.specs.Str.{bytes_eq}
 use Rattle.std.specs.declared.option.Option.{Option}
 use Rattle.rand_chacha.specs.ChaCha.{ChaCha}
-use Rattle.sn_client.specs.Calls.{Calls, CallsOver, Ends as CallEnds, IsOpen, called_disk, kept_done}
+use Rattle.sn_client.specs.Calls.{Calls, CallsOver, Ends as CallEnds, IfRefused, IsOpen, called_disk, kept_done}
 use Rattle.sn_client.specs.Runs.{Act, AreExchanges, Call, Given, Halt, Run, answered, broken, refused, rows_done}
 use Rattle.sn_client.specs.declared.called.Called.{Called}
 use Rattle.sn_client.specs.declared.called.Called.TheVariants as how
 use Rattle.sn_client.specs.declared.device.Device.{Device as AnyDevice}
 use Rattle.sn_client.specs.declared.error.ClientError.{ClientError}
+use Rattle.sn_client.specs.declared.error.ClientError.TheVariants as refusal
 use Rattle.sn_disk.specs.declared.disk.Disk.{Ghosts}
 use Rattle.sn_disk.specs.MemDisk.{Grows}
 use Rattle.sn_disk.specs.declared.memory.MemDisk.{MemDisk}
 use Rattle.sn_events.proofs.Batches.{batches_done, done_are, kept_are, rows_are_done}
 use Rattle.sn_events.proofs.Growing.{ends_grow, from_on}
+use Rattle.sn_events.proofs.Quiet.{quiet_runs}
 use Rattle.sn_events.specs.Answers.{IsAnswered, IsHalt, IsPlain}
 use Rattle.sn_events.specs.Calling.{IsPutBack, IsReady, host}
 use Rattle.sn_events.specs.Devices.{DeviceHas, HasRows, device_of}
 use Rattle.sn_events.specs.Events.{AsksReadable, CallCame}
+use Rattle.sn_events.specs.Fates.{AnyAskLost}
 use Rattle.sn_events.specs.Growing.{ComesFrom, EndsGoOn, held_disk}
 use Rattle.sn_events.specs.Laws.{CallsCome, LineCame, QuietCome, commits_of}
 use Rattle.sn_events.specs.Servers.{ServesRows}
@@ -28,6 +31,7 @@ use Rattle.sn_events.specs.declared.ends.Ends.{Ends}
 use Rattle.sn_events.specs.declared.outcome.Outcome.{Outcome}
 use Rattle.sn_events.specs.declared.setting.Setting.{Setting}
 use Rattle.sn_events.specs.declared.steady.Holding.{Holding}
+use Rattle.sn_io.specs.Causes.{Rose}
 use Rattle.sn_journal.specs.declared.owner.Owner.TheVariants.{Device as DeviceOwner}
 use Rattle.sn_laws.proofs.Facts.{clash, same_text, text_same}
 use Rattle.sn_laws.specs.Lookups.{Bytes}
@@ -35,7 +39,7 @@ use Rattle.sn_laws.specs.declared.ideal.Ideal.{Ideal}
 use Rattle.sn_lines.specs.Lines.{MayCall}
 use Rattle.sn_link.specs.Deliveries.{serves}
 use Rattle.sn_link.specs.Holdings.{GoesOn, goes_further}
-use Rattle.sn_link.specs.Links.{link_held}
+use Rattle.sn_link.specs.Links.{link_faults, link_held}
 use Rattle.sn_link.specs.declared.delivery.Held.{Held}
 use Rattle.sn_recorder.specs.Recorded.{Records, recorded_link, recorded_place}
 use Rattle.sn_recorder.specs.Told.{AreTold}
@@ -56,6 +60,14 @@ plain_rows : (halt : Halt) (rows : Rows) → IsPlain halt → rows_ended halt tr
 plain_rows (answered given left) rows plain = refl
 plain_rows (refused why) rows plain = refl
 plain_rows (broken what changes) rows plain = absurd plain
+
+-- a count that rose isn't 0
+rose_some : (before now : ℕ) → Rose before now → now ≢ 0
+rose_some before now rose = λ none. absurd (omega (arith, rose, none))
+
+-- a call that is refused was refused so
+same_why : (why other : ClientError) → refused why ≡ refused other → other ≡ why
+same_why why other is = cc
 
 module _ {S T : Type 0} (hold : S → ℕ → Holding) (is_open : S → Kept → Type 0) (may_have : MemDisk → Kept → List Change → Type 0) (gives : T → Given)
     (to_rows : (device : S) (place : ℕ) (batches : List (List Change)) (rows : Rows) → is_open device (kept_of batches) → rows_of_batches batches ≡ rows → place ≡ place_behind DeviceOwner batches
@@ -87,6 +99,13 @@ module _ {S T : Type 0} (hold : S → ℕ → Holding) (is_open : S → Kept →
   }
   ended acts halt device (how.Broken disk) (Ok value) ends none = absurd none
   ended acts halt device (how.Broken disk) (Err error) ends none = absurd none
+
+  -- what is known of the refusal that was given holds of the one by which the call ended
+  refused_so : (acts : List Act) (halt : Halt) (done : Called S MemDisk T) (P : ClientError → Type 0) (why : ClientError) → CallEnds is_open may_have gives (kept_of batches) acts halt left done
+      → IfRefused done P → halt ≡ refused why → P why
+  refused_so acts halt (how.Done d given) P why ends so is = absurd (let is_done = ends.0 in let impossible : ⊥ = cc in impossible)
+  refused_so acts halt (how.Refused d other) P why ends so is = subst P (same_why why other (sym is ∙ ends.0)) so
+  refused_so acts halt (how.Broken disk) P why ends so is = absurd (let is_broken = ends.2 in let impossible : ⊥ = cc in impossible)
 
   disk_same : (done : Called S MemDisk T) (device : S) (gave : Result T ClientError) → IsAnswered done device gave → called_disk disk_of done ≡ disk_of device
   disk_same (how.Done d given) device (Ok value) gives_so = sym (ap disk_of gives_so.0)
@@ -147,8 +166,9 @@ module _ {S T : Type 0} (hold : S → ℕ → Holding) (is_open : S → Kept →
     told = subst (λ (es : List Exchanged). AreTold host acts x.fates outcome.batches es) (sym back.exchanged_are)
         (subst (λ (bs : List (List Change)). AreTold host acts x.fates bs link.exchanged) (sym gained.0) x.told)
 
-    came : GoesOn (link_held old.link) (link_held (recorded_link link)) → CallCame secret w s name call words left setting gives old outcome
-    came goes = record {
+    came : (halt ≡ refused refusal.LinkFault → AnyAskLost setting.losses 1 acts) → GoesOn (link_held old.link) (link_held (recorded_link link))
+        → CallCame secret w s name call words left setting gives old outcome
+    came lost goes = record {
       acts = acts;
       fates = x.fates;
       halt = halt;
@@ -158,6 +178,7 @@ module _ {S T : Type 0} (hold : S → ℕ → Holding) (is_open : S → Kept →
       stands = record { server = server; devices = λ other. at other (bytes_eq other name) refl; holds = x.keeps.1 };
       halt_is = e.halt_is;
       by_losses = x.by_losses;
+      link_lost = lost;
       at = x.at;
       told = told;
       readable = x.readable;
@@ -167,7 +188,7 @@ module _ {S T : Type 0} (hold : S → ℕ → Holding) (is_open : S → Kept →
 
   -- the server's disk while the link is aimed and set
   set_goes : GoesOn (link_held old.link) (link_held (recorded_link calling.link))
-  set_goes = subst (GoesOn (link_held old.link)) (sym ready.recording.set.held) ready.recording.unasked.goes_on
+  set_goes = subst (λ (o : Option Held). GoesOn o (link_held (recorded_link calling.link))) ready.recording.begun_so.held ready.recording.unasked.goes_on
 
   runs_so : (acts : List Act) (halt : Halt) (least : ℕ) → least ≡ 1 → Run least call (rows_of_batches batches) words acts halt → Run 1 call (w.devices name) words acts halt
   runs_so acts halt least one runs =
@@ -182,21 +203,27 @@ module _ {S T : Type 0} (hold : S → ℕ → Holding) (is_open : S → Kept →
       (subst (λ (l : RecordingLink). LineCame secret w s name call words calls.acts calls.halt setting l) (sym same)
       (law secret w s name call words calls.acts calls.halt setting old.link old.place calling.link differ stands.holds quiet
       (runs_so calls.acts calls.halt least one calls.runs) e.plain stands.server ready.recording))
+      (λ fault. absurd ((quiet_runs call (w.devices name) words calls.acts calls.halt quiet (runs_so calls.acts calls.halt least one calls.runs)).1 fault))
       (subst (λ (l : RecordingLink). GoesOn (link_held old.link) (link_held (recorded_link l))) (sym same) set_goes)
 
   -- a call over the link
   pub over_came : CallsCome → TokensDiffer secret → MayCall s (w.devices name) call → AsksReadable call (w.devices name) → (least : ℕ) → least ≡ 1
       → CallsOver is_open may_have gives least call (Records calling.link link) calling.link.link.host (kept_of batches) words left called
+      → IfRefused called (λ why. why ≡ refusal.LinkFault → Rose (link_faults (recorded_link calling.link)) (link_faults (recorded_link link)))
       → CallCame secret w s name call words left setting gives old outcome
-  over_came law differ may readable least one calls =
+  over_came law differ may readable least one calls faults =
       let e = ended calls.acts calls.halt back.device called outcome.answer calls.ends back.gives in
       let runs = runs_so calls.acts calls.halt least one calls.runs in
       let records : Records calling.link link calls.exchanges = calls.asked_so in
       let x = law secret w s name call words calls.acts calls.halt calls.exchanges setting old.link old.place calling.link link differ stands.holds may runs e.plain
       (readable words calls.acts calls.halt runs w.server)
-      (subst (λ (h : Bytes). AreExchanges h calls.acts calls.exchanges) (ready.recording.set.aimed ∙ ready.recording.aimed_is) calls.are)
+      (subst (λ (h : Bytes). AreExchanges h calls.acts calls.exchanges) ready.recording.aimed_is calls.are)
       stands.server ready.recording records back.server.whole back.server.open_held in
+      let fault_rose : calls.halt ≡ refused refusal.LinkFault → Rose (link_faults (recorded_link calling.link)) (link_faults (recorded_link link)) =
+      λ fault. refused_so calls.acts calls.halt called (λ why. why ≡ refusal.LinkFault → Rose (link_faults (recorded_link calling.link)) (link_faults (recorded_link link)))
+      refusal.LinkFault calls.ends faults fault refl in
       came calls.acts calls.halt e x
+      (λ fault. x.link_lost (rose_some (link_faults (recorded_link calling.link)) (link_faults (recorded_link link)) (fault_rose fault)))
       (goes_further (link_held old.link) (link_held (recorded_link calling.link)) (link_held (recorded_link link)) set_goes records.asks.goes_on)
 
 -- what holds of each good result

@@ -64,7 +64,7 @@ unwanting rows r reply fate quiet (inr (want, none)) = absurd (quiet want)
 by_lost : (host : Bytes) (r : Request) (reply : Reply) (x : Exchange) (what : Lost) (now : ℕ) (kept next : Kept) (e : Exchanged) (f : HasFate host r reply what now kept next e)
     → IsExchange host r reply x → Befalls what now (serves kept) x (serves next) → IsServed kept.rows r reply f.fate → IsFateBy what reply f.fate
 by_lost host r reply x lose.Nothing now kept next e f exchange befalls is = heard kept.rows r reply now f.fate is f.at
-by_lost host r reply x lose.Request now kept next e f exchange befalls is = f.none refl
+by_lost host r reply x lose.Request now kept next e f exchange befalls is = (none_came r reply x host exchange befalls.1, f.none refl)
 by_lost host r reply x lose.Reply now kept next e f exchange befalls is =
     let none = none_came r reply x host exchange befalls.2 in
     (none, unanswered kept.rows r reply now f.fate (lost_unheard reply none) is f.at)

@@ -17,7 +17,7 @@ use Rattle.sn_events.specs.declared.steady.Holding.{Holding}
 use Rattle.sn_events.specs.declared.steady.Holding.TheVariants.{Device}
 use Rattle.sn_journal.specs.declared.owner.Owner.TheVariants.{Device as DeviceOwner}
 use Rattle.sn_laws.specs.Lookups.{Bytes}
-use Rattle.sn_link.specs.Links.{Asks, link_held, link_losses, link_now, link_number}
+use Rattle.sn_link.specs.Links.{Asks, link_faults, link_held, link_losses, link_now, link_number}
 use Rattle.sn_link.specs.declared.delivery.Held.{Held}
 use Rattle.sn_link.specs.declared.delivery.Held.TheVariants.{Broken, Open}
 use Rattle.sn_link.specs.declared.link.ServingLink.{ServingLink}
@@ -33,20 +33,20 @@ use Rattle.sn_tail.specs.Places.{place_behind}
 abbrev pub host : Bytes
 host = codes "replay:0"
 
--- the link is set so
+-- a link to the server of another, set so, which has not failed yet
 pub record IsSet (setting : Setting) (old new : ServingLink) : Type 0 where
   pub held : link_held new ≡ link_held old
   pub now_is : link_now new ≡ setting.now
   pub losses_are : link_losses new ≡ setting.losses
   pub number_is : link_number new ≡ 1
-  pub aimed : new.host ≡ old.host
+  pub unfailed : link_faults new ≡ 0
 
--- the link is aimed and set, and what is asked over it is recorded from the server's place on; nothing was asked yet
+-- a link to the link's server is set and aimed, and what is asked over it is recorded from the server's place on; nothing was asked yet
 pub record IsRecording (link : ServingLink) (place : ℕ) (setting : Setting) (recording : RecordingLink) : Type 0 where
-  pub aimed : ServingLink
-  pub unasked : Asks link aimed []
-  pub aimed_is : aimed.host ≡ host
-  pub set : IsSet setting aimed (recorded_link recording)
+  pub begun : ServingLink
+  pub begun_so : IsSet setting link begun
+  pub unasked : Asks begun (recorded_link recording) []
+  pub aimed_is : (recorded_link recording).host ≡ host
   pub place_is : recorded_place recording ≡ place
   pub none : recording.exchanged ≡ []
 

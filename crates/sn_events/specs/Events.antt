@@ -2,11 +2,12 @@
 use Rattle.std.specs.Prelude.{◌≡◌, ℕ, List, [], ◌∷◌, false, true}
 pub use Rattle.sn_account.specs.RuleLaws.{status_of}
 use Rattle.rand_chacha.specs.ChaCha.{ChaCha}
-use Rattle.sn_client.specs.Runs.{Act, Call, Given, Halt, Run, asked, commits}
+use Rattle.sn_client.specs.Runs.{Act, Call, Given, Halt, Run, asked, commits, refused}
+use Rattle.sn_client.specs.declared.error.ClientError.TheVariants as client
 use Rattle.sn_events.specs.Answers.{IsHalt}
 use Rattle.sn_events.specs.Calling.{host}
 use Rattle.sn_events.specs.Devices.{device_of}
-use Rattle.sn_events.specs.Fates.{AreByLosses}
+use Rattle.sn_events.specs.Fates.{AnyAskLost, AreByLosses}
 use Rattle.sn_events.specs.Growing.{EndsGoOn}
 use Rattle.sn_events.specs.Slots.{EndsGrow}
 use Rattle.sn_events.specs.Standing.{Stands}
@@ -60,6 +61,8 @@ module _ {T : Type 0} (secret : Bytes) (w : World) (s : Ideal) (name : Bytes) (c
     pub stands : Stands outcome.ends secret leads.next (end_from s leads.moves)
     pub halt_is : IsHalt gives left outcome.answer halt
     pub by_losses : AreByLosses setting.losses 1 acts fates
+    -- it ends for the link only where a request is lost by name
+    pub link_lost : halt ≡ refused client.LinkFault → AnyAskLost setting.losses 1 acts
     pub at : AreServedAt setting.now fates
     pub told : AreTold host acts fates outcome.batches outcome.exchanged
     pub readable : AreReadable host acts

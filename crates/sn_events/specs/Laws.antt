@@ -7,7 +7,7 @@ use Rattle.sn_client.specs.Runs.{Act, AreExchanges, Call, Halt, Run, asked, comm
 use Rattle.sn_events.specs.Answers.{IsPlain}
 use Rattle.sn_events.specs.Calling.{IsOpenHeld, IsRecording, host}
 use Rattle.sn_events.specs.Events.{AreReadableBy, AreServedAt, status_of}
-use Rattle.sn_events.specs.Fates.{AreByLosses}
+use Rattle.sn_events.specs.Fates.{AnyAskLost, AreByLosses}
 use Rattle.sn_events.specs.Servers.{ServesRows}
 use Rattle.sn_events.specs.declared.setting.Setting.{Setting}
 use Rattle.sn_http.specs.Answers.{IsAnswer as IsHttpAnswer}
@@ -16,7 +16,7 @@ use Rattle.sn_laws.specs.declared.ideal.Ideal.{Ideal}
 use Rattle.sn_lines.specs.Lines.{MayCall, MayHappen}
 use Rattle.sn_link.specs.Deliveries.{serves}
 use Rattle.sn_link.specs.Laws.{AreReadable, IsReadable}
-use Rattle.sn_link.specs.Links.{Befalls, link_held}
+use Rattle.sn_link.specs.Links.{Befalls, link_faults, link_held}
 use Rattle.sn_link.specs.declared.link.ServingLink.{ServingLink}
 use Rattle.sn_link.specs.declared.losses.Lost.TheVariants.{Nothing}
 use Rattle.sn_net.specs.Exchanges.{Exchange}
@@ -38,8 +38,8 @@ commits_of [] = []
 commits_of (commits what changes ∷ acts) = changes ∷ commits_of acts
 commits_of (asked r reply ∷ acts) = commits_of acts
 
--- The call comes with some fates, which are by what is lost, at the moment that is set. Its line leads on, the invariant holds behind it, and the link holds the
--- server that is left. Its exchanges were recorded as its line has them.
+-- The call comes with some fates, which are by what is lost, at the moment that is set; its link has failed only where a request is lost by name. Its line
+-- leads on, the invariant holds behind it, and the link holds the server that is left. Its exchanges were recorded as its line has them.
 pub record LineCame (secret : Bytes) (w : World) (s : Ideal) (name : Bytes) (call : Call) (words : ChaCha) (acts : List Act) (halt : Halt) (setting : Setting)
     (new : RecordingLink) : Type 0 where
   pub fates : List Fate
@@ -48,6 +48,7 @@ pub record LineCame (secret : Bytes) (w : World) (s : Ideal) (name : Bytes) (cal
   pub keeps : KeptBy secret leads.next s leads.moves
   pub server : ServesRows (link_held (recorded_link new)) (recorded_place new) leads.next.server
   pub by_losses : AreByLosses setting.losses 1 acts fates
+  pub link_lost : link_faults (recorded_link new) ≢ 0 → AnyAskLost setting.losses 1 acts
   pub at : AreServedAt setting.now fates
   pub told : AreTold host acts fates (commits_of acts) new.exchanged
   pub readable : AreReadable host acts

@@ -59,20 +59,22 @@ impl Ends {
     }
 }
 
-// Aims and sets a link, and records what is asked over it.
+// A link of its own to the link's server, set and aimed, which hasn't failed yet; what is asked over it is recorded.
 fn recording(
     alloc: Global,
-    mut link: ServingLink,
+    link: ServingLink,
     place: u64,
     setting: Setting,
 ) -> Result<RecordingLink, AllocError>
     ensures { IfOk result (IsRecording link place setting) }
 {
+    let Some(held) = link.into_held() else {
+        return Err(AllocError);
+    };
+    let mut link = ServingLink::new(held, setting.now, setting.losses);
     let Ok(()) = link.aim(alloc, HOST) else {
         return Err(AllocError);
     };
-    link.set_now(setting.now);
-    link.set_losses(setting.losses);
     Ok(RecordingLink::new(alloc, link, place))
 }
 

@@ -14,8 +14,8 @@ use std::alloc::Global;
 /// Asks the server that it owns: each request is a connection of its own, at which one message is served at the moment that is
 /// set. Between them the server stays open. It goes to any host.
 ///
-/// A request or its answer is lost where that is set. A request fails too where the server's disk has failed, and where the
-/// answer doesn't fit.
+/// A request or its answer is lost where that is set. Else a request fails only where the server's disk has failed. An answer that
+/// there is no room for is want of memory.
 #[derive(Drop)]
 pub struct ServingLink {
     host: Text,
@@ -122,7 +122,7 @@ impl ServingLink {
 
     // Serves a request whose answer arrives, if it fits.
     fn heard(&mut self, alloc: Global, request: &[u8], room: usize) -> Result<Vec<u8>, AskError>
-        ensures does { Does Lost.Nothing self.old.host self.old self.new request.now room result }
+        ensures does { Does Lost.Nothing self.old.host self.old self.new request.now result }
         ensures room { IfOk result (λ answer. length answer.items ≤ room) }
         ensures host { self.new.host ≡ self.old.host }
         ensures fault { IsErrOf result AskError.Failed → Rose self.old.faults self.new.faults }
@@ -130,7 +130,7 @@ impl ServingLink {
     {
         match self.deliver(alloc, request) {
             Ok(answer) if answer.len() <= room => Ok(answer),
-            Ok(_long) => Err(self.fail()),
+            Ok(_long) => Err(AskError::Memory),
             Err(AskError::Failed) => Err(self.fail()),
             Err(AskError::Memory) => Err(AskError::Memory),
         }
@@ -138,7 +138,7 @@ impl ServingLink {
 
     // Serves a request whose answer is lost.
     fn unheard(&mut self, alloc: Global, bytes: &[u8]) -> Result<Vec<u8>, AskError>
-        ensures does { (room : ℕ) → Does Lost.Reply self.old.host self.old self.new bytes.now room result }
+        ensures does { Does Lost.Reply self.old.host self.old self.new bytes.now result }
         ensures none { IsErr result }
         ensures host { self.new.host ≡ self.old.host }
         ensures fault { IsErrOf result AskError.Failed → Rose self.old.faults self.new.faults }
@@ -203,7 +203,7 @@ impl Link for ServingLink {
         // What it does to the server, by what is lost of it; and why the link failed, where it did.
         ensures does { (was : Standing) → HoldsIn (link_held self.old) was → (next : Standing) × HoldsIn (link_held self.new) next
             × Befalls (lost_at (link_losses self.old) (link_number self.old)) (link_now self.old) was (record { host = self.old.host; request = request.now; answer = answer_of result }) next
-            × HasReason (lost_at (link_losses self.old) (link_number self.old)) (link_now self.old) was request.now room next result }
+            × HasReason (lost_at (link_losses self.old) (link_number self.old)) (link_now self.old) was request.now next result }
     {
         let lost = self.losses.at(self.number);
         self.number = self.number.saturating_add(1);

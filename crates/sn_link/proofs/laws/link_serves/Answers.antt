@@ -20,7 +20,7 @@ returns c = λ host acts old new xs kept holds sound exchanges readable asks.
       fit = c.answers_fit.ensures;
       sound = c.stays_sound.ensures;
     } in
-    let (next, holds_next, asked) = asks.served (serves kept) holds in
+    let (next, holds_next, asked, fails) = asks.served (serves kept) holds in
     record {
       next = next;
       holds = holds_next;

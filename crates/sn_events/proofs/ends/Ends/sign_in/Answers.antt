@@ -14,6 +14,6 @@ returns c = record {
       ok_on _ _ c.put_back.result
       (λ outcome back. over_came held.Device IsOpen _ (λ given. nothing) has_rows secret w s c.args.name.now (sign_in c.args.identifier.now c.args.password.now)
       c.args.words.now c.sign_in-called.new.words c.args.setting c.args.self outcome _ c.sign_in-called.new.link c.sign_in-called.result has.batches has.rows_are has.place_is device_disk _ ready.from c.sign_in-called.ensures.grows (λ x place. refl) stands ready back
-      c.calls_come.ensures differ only readable _ ready.steady.least (c.sign_in-called.ensures.runs (kept_of has.batches) has.open_is))
+      c.calls_come.ensures differ only readable _ ready.steady.least (c.sign_in-called.ensures.runs (kept_of has.batches) has.open_is) c.sign_in-called.ensures.link_fault)
       c.put_back.ensures;
 }

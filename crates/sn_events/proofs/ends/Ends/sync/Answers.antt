@@ -14,6 +14,6 @@ returns c = record {
       ok_on _ _ c.put_back.result
       (λ outcome back. over_came held.Device IsOpen _ (λ given. nothing) has_rows secret w s c.args.name.now (sync)
       c.args.words.now c.sync-called.new.words c.args.setting c.args.self outcome _ c.sync-called.new.link c.sync-called.result has.batches has.rows_are has.place_is device_disk _ ready.from c.sync-called.ensures.grows (λ x place. refl) stands ready back
-      c.calls_come.ensures differ only readable _ ready.steady.least (c.sync-called.ensures.runs (kept_of has.batches) has.open_is))
+      c.calls_come.ensures differ only readable _ ready.steady.least (c.sync-called.ensures.runs (kept_of has.batches) has.open_is) c.sync-called.ensures.link_fault)
       c.put_back.ensures;
 }

@@ -11,25 +11,25 @@ returns-in-Request-clause-asks c =
 
 pub returns-in-Request-clause-does : goal.returns-in-Request-clause-does
 returns-in-Request-clause-does c =
-    lost_does c.args.self.now c.fail.new.self c.at-lost.result c.args.self.now.host c.args.request.now c.args.room c.in-Request.is c.at-lost.ensures c.fail.ensures.held _
+    lost_does c.args.self.now c.fail.new.self c.at-lost.result c.args.self.now.host c.args.request.now c.in-Request.is c.at-lost.ensures c.fail.ensures.held _
     (ap (λ (e : AskError). Err e) c.fail.ensures.is)
 
 pub returns-in-Reply-clause-asks : goal.returns-in-Reply-clause-asks
 returns-in-Reply-clause-asks c =
-    asks_does c.args.self.now c.unheard.new.self _ _ c.args.self.now.host c.args.request.now c.args.room c.unheard.result (sym c.in-Reply.is ∙ c.at-lost.ensures) c.saturating_add-self.ensures
-    (c.unheard.ensures.does c.args.room)
+    asks_does c.args.self.now c.unheard.new.self _ _ c.args.self.now.host c.args.request.now c.unheard.result (sym c.in-Reply.is ∙ c.at-lost.ensures) c.saturating_add-self.ensures
+    c.unheard.ensures.does
 
 pub returns-in-Reply-clause-does : goal.returns-in-Reply-clause-does
 returns-in-Reply-clause-does c =
-    reason_does c.args.self.now c.unheard.new.self _ _ c.args.self.now.host c.args.request.now c.args.room c.unheard.result (sym c.in-Reply.is ∙ c.at-lost.ensures)
-    (c.unheard.ensures.does c.args.room)
+    reason_does c.args.self.now c.unheard.new.self _ _ c.args.self.now.host c.args.request.now c.unheard.result (sym c.in-Reply.is ∙ c.at-lost.ensures)
+    c.unheard.ensures.does
 
 pub returns-in-Nothing-clause-asks : goal.returns-in-Nothing-clause-asks
 returns-in-Nothing-clause-asks c =
-    asks_does c.args.self.now c.heard.new.self _ _ c.args.self.now.host c.args.request.now c.args.room c.heard.result (sym c.in-Nothing.is ∙ c.at-lost.ensures) c.saturating_add-self.ensures
+    asks_does c.args.self.now c.heard.new.self _ _ c.args.self.now.host c.args.request.now c.heard.result (sym c.in-Nothing.is ∙ c.at-lost.ensures) c.saturating_add-self.ensures
     c.heard.ensures.does
 
 pub returns-in-Nothing-clause-does : goal.returns-in-Nothing-clause-does
 returns-in-Nothing-clause-does c =
-    reason_does c.args.self.now c.heard.new.self _ _ c.args.self.now.host c.args.request.now c.args.room c.heard.result (sym c.in-Nothing.is ∙ c.at-lost.ensures)
+    reason_does c.args.self.now c.heard.new.self _ _ c.args.self.now.host c.args.request.now c.heard.result (sym c.in-Nothing.is ∙ c.at-lost.ensures)
     c.heard.ensures.does
