@@ -29,6 +29,7 @@ recovers_still reads old new c grow h =
       devices = λ name. reads (old.devices name) (new.devices name) (grow.devices name) DeviceOwner (c.marks name) (c.world.devices name) (h.devices name);
       shows = h.shows;
       asked_alone = h.asked_alone;
+      held = h.held;
     }
 
 pub recounts_grow : ReadsThen → RecountsGrow

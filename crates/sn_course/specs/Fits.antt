@@ -4,7 +4,7 @@ use Rattle.sn_client.specs.Runs.{Act, Call, Halt, answered, broken, content, del
 use Rattle.sn_client.specs.declared.error.ClientError.{ClientError}
 use Rattle.sn_client.specs.declared.error.ClientError.TheVariants as client
 use Rattle.sn_events.specs.Events.{AreServedAt, status_of}
-use Rattle.sn_events.specs.Fates.{AreByLosses}
+use Rattle.sn_events.specs.Fates.{AnyAskLost, AreByLosses}
 use Rattle.sn_laws.specs.Lookups.{Bytes}
 use Rattle.sn_laws.specs.Runs.{end}
 use Rattle.sn_laws.specs.declared.ideal.Ideal.{Ideal}
@@ -73,7 +73,8 @@ EndsWell (content uuid) name before rows s l = Unit {0}
 
 -- ---- what both ends did
 
--- The device made this call, from the line's words, at the line's moment, and lost what the line says: a line of the world. The event has its moves.
+-- The device made this call, from the line's words, at the line's moment, and lost what the line says: a line of the world. It ends for the link only where the
+-- line has a request or an answer lost. The event has its moves.
 pub record Called (secret : Bytes) (c : Stage) (r : Reported) (name : Bytes) (call : Call) (e : Event) (next : World) : Type 0 where
   pub acts : List Act
   pub fates : List Fate
@@ -83,6 +84,7 @@ pub record Called (secret : Bytes) (c : Stage) (r : Reported) (name : Bytes) (ca
   pub next_is : next ≡ leads.next
   pub moves_are : e.moves ≡ leads.moves
   pub by_losses : AreByLosses (losses_of (fates_of r.asks)) 1 acts fates
+  pub link_lost : halt ≡ refused client.LinkFault → AnyAskLost (losses_of (fates_of r.asks)) 1 acts
   pub at : AreServedAt r.settings.clock fates
   pub ended : EndsSo halt e.last
   pub well : EndsWell call name (end c.moves) (next.devices name) (end (c.moves ++ e.moves)) e.last

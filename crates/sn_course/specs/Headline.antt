@@ -1,5 +1,5 @@
 -- What a replay promises of its report and of the disks of both ends.
-use Rattle.std.specs.Prelude.{◌≡◌, ◌≢◌, ℕ, List, [], ◌∷◌, ◌++◌, map, Option, Some, None, codes, true}
+use Rattle.std.specs.Prelude.{◌≡◌, ◌≢◌, ◌<◌, ℕ, List, [], ◌∷◌, ◌++◌, map, Option, Some, None, codes, true}
 use Rattle.std.specs.List.{flat_map}
 use Rattle.rand_chacha.specs.ChaCha.{ChaCha}
 use Rattle.sn_disk.specs.MemShelf.{shelf_slot}
@@ -12,8 +12,8 @@ use Rattle.sn_items.specs.Draws.{drawn}
 use Rattle.sn_journal.specs.declared.owner.Owner.TheVariants.{Device as DeviceOwner, Server as ServerOwner}
 use Rattle.sn_laws.specs.Each.{Each, One}
 use Rattle.sn_laws.specs.Kept.{IsKept}
-use Rattle.sn_laws.specs.Laws.{Keeps, StandsOn}
-use Rattle.sn_laws.specs.Lookups.{Bytes, account_named, account_of, device_named, empty, last_of}
+use Rattle.sn_laws.specs.Laws.{Keeps, SealsAgain, StandsOn}
+use Rattle.sn_laws.specs.Lookups.{Bytes, account_named, account_of, account_with, device_named, empty, last_of}
 use Rattle.sn_laws.specs.Reached.{AllDiffer, CarriesLastTwo, HoldsSets, NoncesApart}
 use Rattle.sn_laws.specs.Runs.{Legal, end}
 use Rattle.sn_laws.specs.declared.ideal.Account.{Account}
@@ -21,9 +21,9 @@ use Rattle.sn_laws.specs.declared.ideal.Content.TheVariants.{Plain}
 use Rattle.sn_laws.specs.declared.ideal.Device.{Device}
 use Rattle.sn_laws.specs.declared.ideal.Version.{Version}
 use Rattle.sn_laws.specs.declared.moves.Move.{Move}
-use Rattle.sn_laws.specs.declared.moves.Move.TheVariants.{Accept, Edit, Post}
+use Rattle.sn_laws.specs.declared.moves.Move.TheVariants.{Accept, Edit, Post, Rewrap}
 use Rattle.sn_lines.specs.Lines.{MayHappen}
-use Rattle.sn_lines.specs.Passwords.{AreApart}
+use Rattle.sn_lines.specs.Passwords.{AreApart, IsParamsIn}
 use Rattle.sn_report.specs.declared.report.Event.{Event}
 use Rattle.sn_report.specs.declared.report.Report.{Report}
 use Rattle.sn_client.specs.States.{HasSet}
@@ -64,6 +64,8 @@ pub record Recovers (slots : Slots) (c : Stage) : Type 0 where
   pub shows : Shows c.world.server c.world.devices (end c.moves)
   -- a device that keeps a set as asked for has no older one: so with its present one it keeps two at most
   pub asked_alone : (name : Bytes) (asked older : SetRow) → HasSet (c.world.devices name) Asked asked → ¬ (HasSet (c.world.devices name) Older older)
+  -- each set that an undeleted last version carries is held by a device of the lines so far
+  pub held : AreHeld (end c.moves) c.names
 
 -- ---- the events
 
@@ -81,6 +83,10 @@ Recounts slots secret c [] (e ∷ es) last = ⊥
 Recounts slots secret c (r ∷ rs) [] last = ⊥
 Recounts slots secret c (r ∷ rs) (e ∷ es) last = (next : World) × Fits secret c r e next × Recovers slots (past c r.asks e next)
     × Recounts slots secret (past c r.asks e next) rs es last
+
+-- all moves of events
+abbrev pub moves_in : List Event → List Move
+moves_in events = flat_map (λ e. e.moves) events
 
 -- ---- how it begins
 
@@ -110,15 +116,16 @@ SecretOf (r ∷ rs) secret = (left : ChaCha) × ((secret, left) ≡ drawn 32 (wo
 abbrev pub IsPasswordOf : Script → Bytes → Type 0
 IsPasswordOf script password = One (λ l. password_of l ≡ Some password) script.lines
 
--- no two passwords of the script have, under one account's parameters, one check value and different keys
-abbrev pub PasswordsApart : Script → Type 0
-PasswordsApart script = AreApart (IsPasswordOf script)
+-- no two passwords of the script have, under one parameter set that an account has behind these moves, one check value and different keys
+abbrev pub PasswordsApart : Script → List Move → Type 0
+PasswordsApart script moves = AreApart (IsPasswordOf script) (IsParamsIn (end moves))
+
+-- so it is behind the events of each run of the first ones of these lines
+abbrev pub RunsApart : Script → Bytes → List Reported → Type 0
+RunsApart script secret rs = (before later : List Reported) (opened : World) (events : List Event) (last : Stage) → rs ≡ before ++ later
+    → OpensWith rs secret opened → Goes secret (start opened) before events last → PasswordsApart script (moves_in events)
 
 -- ---- the headline
-
--- all moves of events
-abbrev pub moves_in : List Event → List Move
-moves_in events = flat_map (λ e. e.moves) events
 
 -- what legal moves alone carry
 pub record MovesCarry (moves : List Move) : Type 0 where
@@ -129,6 +136,10 @@ pub record MovesCarry (moves : List Move) : Type 0 where
   pub followed : (before later : List Move) (device uuid : Bytes) (stamp : ℕ) (under : Option ℕ) (a : Account) (v : Version)
       → moves ≡ before ++ Accept device uuid stamp under ∷ later → account_of (end before) device ≡ Some a
       → last_of uuid a.versions ≡ Some v → StandsOn (end before) device uuid v.stamp
+  -- where it is sealed again that has the type and the text of the last one, under the account's last set
+  pub resealed : (before later : List Move) (uuid : Bytes) (stamp under : ℕ) (a : Account) (v : Version)
+      → moves ≡ before ++ Rewrap uuid stamp under ∷ later → account_with (end before).accounts uuid ≡ Some a → last_of uuid a.versions ≡ Some v
+      → SealsAgain a v stamp under (account_named (end (before ++ Rewrap uuid stamp under ∷ [])) a.identifier)
   -- what is written is kept: it is replaced later, or it, or a copy of it, is a draft's content at the end or is a version
   pub kept : (before later : List Move) (device uuid kind : Bytes) (base : Option ℕ) (text : Bytes)
       → moves ≡ before ++ Edit device uuid kind base (Plain text) ∷ later → IsKept (end moves) device uuid kind text later
@@ -137,10 +148,13 @@ pub record MovesCarry (moves : List Move) : Type 0 where
   pub hold_two : (name : Bytes) (d : Device) → device_named (end moves) name ≡ Some d → HoldsSets (account_of (end moves) name) d
   -- and where one of its devices has retired the set before the last one, they carry the last one
   pub finished : Each (λ a. HasFinished moves a → CarriesLast a) (end moves).accounts
-  -- nothing happens twice: what is sent becomes one version at most, an identifier is one account's, a nonce one set's of its account
+  -- nothing happens twice: what is sent becomes one version at most, an item is sealed again once at most under each set, an identifier is one account's,
+  -- a nonce one set's of its account
   pub posted_once : (before between later : List Move) (device uuid : Bytes) (stamp next : ℕ) (under under_next : Option ℕ)
       → moves ≡ ((before ++ Accept device uuid stamp under ∷ between) ++ Accept device uuid next under_next ∷ []) ++ later
       → One (λ m. m ≡ Post device uuid) between
+  pub rewrapped_once : (before between later : List Move) (uuid : Bytes) (stamp next under under_next : ℕ)
+      → moves ≡ ((before ++ Rewrap uuid stamp under ∷ between) ++ Rewrap uuid next under_next ∷ []) ++ later → under < under_next
   pub identifiers : AllDiffer (map (λ a. a.identifier) (end moves).accounts)
   pub nonces : Each NoncesApart (end moves).accounts
 
@@ -165,13 +179,13 @@ pub record Carried (script : Script) (slots : Slots) (secret : Bytes) (first : S
   pub carry : MovesCarry (moves_in events)
 
 -- The headline, of one report: for the secret that the server draws, under which no account has one session token for two generations, and where no two
--- passwords of the script have one check value.
+-- passwords of the script have, under one parameter set that an account has in the run, one check value and different keys.
 pub record CarriesHeadline (script : Script) (slots : Slots) (report : Report) : Type 0 where
   pub first : Settings
   pub first_is : AreFirst first
   pub secret : Bytes
   pub secret_is : SecretOf (reporting 1 first script.lines) secret
-  pub carried : TokensDiffer secret → PasswordsApart script → Carried script slots secret first report.events
+  pub carried : TokensDiffer secret → PasswordsApart script (moves_in report.events) → Carried script slots secret first report.events
 
 -- ---- a script that isn't allowed
 
@@ -182,12 +196,13 @@ MayStand c (line.Delete device label fates) = labelled_item c.labels label ≢ N
 MayStand c (line.Late device which) = nth_made device c.world.made which ≢ None
 MayStand c other = Unit {0}
 
--- the line of this number is the first that may not come
+-- the line of this number is the first that may not come; there is no report, so the passwords are to be apart in each run of the lines
 pub record IsNotAllowed (script : Script) (number : ℕ) : Type 0 where
   pub first : Settings
   pub first_is : AreFirst first
   pub secret : Bytes
   pub secret_is : SecretOf (reporting 1 first script.lines) secret
-  pub refused : TokensDiffer secret → PasswordsApart script → (opened : World) × OpensWith (reporting 1 first script.lines) secret opened
+  pub refused : TokensDiffer secret → RunsApart script secret (reporting 1 first script.lines)
+      → (opened : World) × OpensWith (reporting 1 first script.lines) secret opened
       × ((before : List Reported) × (r : Reported) × (later : List Reported) × (reporting 1 first script.lines ≡ before ++ r ∷ later) × (r.number ≡ number)
       × ((events : List Event) × (last : Stage) × Goes secret (start opened) before events last × ¬ (MayStand last r.asks)))

@@ -5,9 +5,9 @@ ghost use Rattle.sn_course.specs.Laws.{CarriedOfMoves, GoesMore, MovesMore, Reco
 
 use sn_finished::finished_carries;
 use sn_laws::kept_laws::edits_kept;
-use sn_laws::laws::{follows_last, keeps_versions, prefixes_legal};
+use sn_laws::laws::{follows_last, keeps_versions, prefixes_legal, rewraps_last};
 use sn_laws::state_laws::{
-    carries_two, devices_hold, identifiers_differ, nonces_differ, posted_once,
+    carries_two, devices_hold, identifiers_differ, nonces_differ, posted_once, rewrapped_once,
 };
 use sn_tail::reads_then;
 
@@ -50,11 +50,13 @@ pub fn carried_of_moves()
     keeps_versions();
     prefixes_legal();
     follows_last();
+    rewraps_last();
     edits_kept();
     carries_two();
     devices_hold();
     finished_carries();
     posted_once();
+    rewrapped_once();
     identifiers_differ();
     nonces_differ();
 }

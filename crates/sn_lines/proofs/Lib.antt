@@ -3,6 +3,7 @@ pub mod Facts
 pub mod FitsAlong
 pub mod LineSteps
 pub mod LinesGo
+pub mod ParamsLemmas
 pub mod PasswordLines
 pub mod PlainLines
 pub mod RunCalls

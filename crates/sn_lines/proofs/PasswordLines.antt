@@ -21,11 +21,12 @@ use Rattle.sn_laws.specs.declared.moves.Move.{Move}
 use Rattle.sn_laws.specs.declared.moves.Move.TheVariants.{Accept, Change as Changed, Register, Rewrap}
 use Rattle.sn_lines.proofs.AskedKept.{IsAskOf, asked_after}
 use Rattle.sn_lines.proofs.LineSteps.{IsDoneOf, IsLineOf, IsStepOf, steps_of}
+use Rattle.sn_lines.proofs.ParamsLemmas.{params_at}
 use Rattle.sn_lines.proofs.RunCalls.{IsNewBy, IsWhatBy, run_by}
 use Rattle.sn_lines.proofs.RunSets.{IsActOf, IsHaltOf}
 use Rattle.sn_lines.proofs.SetMoves.{IsMoveOf, commit_of, nothing_of, route_of}
 use Rattle.sn_lines.specs.Fits.{IsRunOf}
-use Rattle.sn_lines.specs.Passwords.{ApartMayCall, AreApart, EachHoldsOf, FirstHoldsOf, GivesIn, GivesOf, HoldsOf, IsOfPasswords}
+use Rattle.sn_lines.specs.Passwords.{ApartMayCall, AreApart, EachHoldsOf, FirstHoldsOf, GivesIn, GivesOf, HoldsOf, IsOfPasswords, IsParamsIn}
 use Rattle.sn_rows.specs.Table.{Rows}
 use Rattle.sn_rows.specs.declared.change.Change.{Change}
 use Rattle.sn_rows.specs.declared.value.Value.TheVariants as value
@@ -104,11 +105,12 @@ module _ (known : Bytes → Type 0) where
       got (x ∷ xs) (suc k) each there = got xs k each.1 there
 
   -- the account's last set is no other with the parameters and the check value of such a set
-  only_set : (w : World) (s : Ideal) → AreApart known → HoldsOf known w s → (set : KeySet) → Of set → IsOnlySet s set
+  only_set : (w : World) (s : Ideal) → AreApart known (IsParamsIn s) → HoldsOf known w s → (set : KeySet) → Of set → IsOnlySet s set
   only_set w s apart h set (password, is, keys) n a last at_account at_set same checks =
       let of_account : HasSets a = each_at HasSets s.accounts n a h.accounts at_account in
       let of_set : Of last = set_has Of a.sets (length a.sets) last of_account at_set in
-      apart of_set.0 password last.params last set of_set.1 is of_set.2 (subst (λ (p : Params). AreKeysOf password p set) (sym same) keys) checks
+      apart of_set.0 password last.params last set of_set.1 is (params_at s n (length a.sets) a last at_account at_set) of_set.2
+      (subst (λ (p : Params). AreKeysOf password p set) (sym same) keys) checks
 
   pub apart_may_call : ApartMayCall known
   apart_may_call w s name (register identifier password cost) apart h gives = tt

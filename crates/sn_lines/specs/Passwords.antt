@@ -1,4 +1,5 @@
--- Where all passwords that are given are among some of which no two have one check value and different keys: no call needs more then.
+-- Where all passwords that are given are among some of which no two have, under one parameter set that an account has, one check value and different keys: no
+-- call needs more then.
 use Rattle.std.specs.Prelude.{◌≡◌, List, ◌++◌, ℕ}
 use Rattle.rand_chacha.specs.ChaCha.{ChaCha}
 use Rattle.sn_account.specs.Lookups.{HasStore}
@@ -9,6 +10,7 @@ use Rattle.sn_laws.specs.Lookups.{Bytes, empty}
 use Rattle.sn_laws.specs.Runs.{Legal, end, end_from}
 use Rattle.sn_laws.specs.declared.ideal.Account.{Account}
 use Rattle.sn_laws.specs.declared.ideal.Ideal.{Ideal}
+use Rattle.sn_laws.specs.declared.moves.Move.{Move}
 use Rattle.sn_lines.specs.Fits.{FitsAll, IsRunOf}
 use Rattle.sn_lines.specs.Lines.{AllLead, InTurn, MayCall}
 use Rattle.sn_rows.specs.declared.server_rows.StoreRow.{StoreRow}
@@ -28,9 +30,13 @@ use Rattle.sn_world.specs.World.{IsMade, Made, World, at_first}
 abbrev pub IsOfPasswords : (Bytes → Type 0) → KeySet → Type 0
 IsOfPasswords known set = (password : Bytes) × known password × AreKeysOf password set.params set
 
--- no two of them have, under one account's parameters, one check value and different keys
-abbrev pub AreApart : (Bytes → Type 0) → Type 0
-AreApart known = (one other : Bytes) (p : Params) (a b : KeySet) → known one → known other → AreKeysOf one p a → AreKeysOf other p b
+-- some account has a set with these parameters
+abbrev pub IsParamsIn : Ideal → Params → Type 0
+IsParamsIn s p = One (λ (a : Account). One (λ (set : KeySet). set.params ≡ p) a.sets) s.accounts
+
+-- no two of them have, under one parameter set that is used, one check value and different keys
+abbrev pub AreApart : (Bytes → Type 0) → (Params → Type 0) → Type 0
+AreApart known used = (one other : Bytes) (p : Params) (a b : KeySet) → known one → known other → used p → AreKeysOf one p a → AreKeysOf other p b
     → check_value a.pw ≡ check_value b.pw → a ≡ b
 
 -- a password that the call is given is one of them
@@ -58,7 +64,7 @@ pub record HoldsOf (known : Bytes → Type 0) (w : World) (s : Ideal) : Type 0 w
   pub asked : (name : Bytes) (set : KeySet) → IsAskedFor (w.devices name) set → IsOfPasswords known set
   pub made : (m : Made) → IsMade w m → IsNoneOr (IsOfPasswords known) m.begins
 
--- ---- what happens: nothing is asked of the state
+-- ---- what happens: of the state it is asked alone that the passwords are apart
 
 -- a whole call of the device's rows as they stand, over a server that answers by its rule
 pub record IsCallWith (known : Bytes → Type 0) (w : World) (name : Bytes) (least : ℕ) (call : Call) (words : ChaCha) (acts : List Act) (fates : List Fate) (halt : Halt)
@@ -82,9 +88,9 @@ MayHappenWith known secret w (calls name least call words acts fates halt stands
 MayHappenWith known secret w (stops name least call words front met) = IsFrontWith known w name least call words front met
 MayHappenWith known secret w (again name r fate) = IsAgainBy w name r fate
 
--- each in its turn
+-- each in its turn, where the passwords are apart under the parameter sets that accounts have then
 abbrev pub MayHappenAllWith : (Bytes → Type 0) → Bytes → World → Ideal → List Line → Type 0
-MayHappenAllWith known secret w s lines = InTurn secret (λ v t line. MayHappenWith known secret v line) w s lines
+MayHappenAllWith known secret w s lines = InTurn secret (λ v t line. AreApart known (IsParamsIn t) × MayHappenWith known secret v line) w s lines
 
 -- ---- the laws, of some passwords
 
@@ -92,9 +98,14 @@ MayHappenAllWith known secret w s lines = InTurn secret (λ v t line. MayHappenW
 abbrev pub FirstHoldsOf : (Bytes → Type 0) → Type 0
 FirstHoldsOf known = HoldsOf known at_first empty
 
--- where no two of them have one check value and different keys, a call that is given one of them may be made
+-- parameters that an account has, one has behind whatever moves
+abbrev pub ParamsStay : Type 0
+ParamsStay = (s : Ideal) (moves : List Move) (p : Params) → IsParamsIn s p → IsParamsIn (end_from s moves) p
+
+-- where no two of them have, under one parameter set that an account has, one check value and different keys, a call that is given one of them may be made
 abbrev pub ApartMayCall : (Bytes → Type 0) → Type 0
-ApartMayCall known = (w : World) (s : Ideal) (name : Bytes) (call : Call) → AreApart known → HoldsOf known w s → GivesOf known call → MayCall s (w.devices name) call
+ApartMayCall known = (w : World) (s : Ideal) (name : Bytes) (call : Call) → AreApart known (IsParamsIn s) → HoldsOf known w s → GivesOf known call
+    → MayCall s (w.devices name) call
 
 -- wherever a line leads whose call is given one of them, all sets are of them again
 abbrev pub EachHoldsOf : (Bytes → Type 0) → Type 0
@@ -103,12 +114,12 @@ EachHoldsOf known = (secret : Bytes) (w : World) (s : Ideal) (line : Line) → H
 
 -- from a world in which the invariant holds, and all sets are of them
 abbrev pub AllGoWith : (Bytes → Type 0) → Type 0
-AllGoWith known = (secret : Bytes) (w : World) (s : Ideal) (lines : List Line) → TokensDiffer secret → AreApart known → Holds secret w s → FitsAll w
+AllGoWith known = (secret : Bytes) (w : World) (s : Ideal) (lines : List Line) → TokensDiffer secret → Holds secret w s → FitsAll w
     → HoldsOf known w s → MayHappenAllWith known secret w s lines → (x : AllLead secret w s lines) × FitsAll x.next × HoldsOf known x.next (end_from s x.moves)
 
 -- and from the beginning on
 abbrev pub AllKeepWith : (Bytes → Type 0) → Type 0
-AllKeepWith known = (secret : Bytes) (lines : List Line) → TokensDiffer secret → AreApart known → MayHappenAllWith known secret at_first empty lines
+AllKeepWith known = (secret : Bytes) (lines : List Line) → TokensDiffer secret → MayHappenAllWith known secret at_first empty lines
     → (x : AllLead secret at_first empty lines) × HoldsOf known x.next (end x.moves) × Legal x.moves × Holds secret x.next (end x.moves)
 
 -- ---- of any list of passwords

@@ -3,7 +3,7 @@
 
 ghost use Rattle.sn_lines.specs.Fits.{AllFitFirst, AllGoBy, AllKeepBy, EachFits, EachServed};
 ghost use Rattle.sn_lines.specs.Lines.{AllGo, AllKeep, EachKeeps, EachLeads};
-ghost use Rattle.sn_lines.specs.Passwords.{AllGoWith, AllKeepWith, ApartMayCall, EachHoldsOf, FirstHoldsOf, OfAnyPasswords};
+ghost use Rattle.sn_lines.specs.Passwords.{AllGoWith, AllKeepWith, ApartMayCall, EachHoldsOf, FirstHoldsOf, OfAnyPasswords, ParamsStay};
 ghost use Rattle.sn_lines.specs.Plain.{EachKeepsPlain, PlainKeeps};
 
 use sn_client::steps_stay_sound;
@@ -112,7 +112,13 @@ pub fn first_holds_of()
     ensures { OfAnyPasswords FirstHoldsOf }
 {}
 
-/// Where no two passwords have one check value and different keys, a call that is given one may be made.
+/// Parameters that an account has, one has behind whatever moves.
+pub fn params_stay()
+    ensures { ParamsStay }
+{}
+
+/// Where no two passwords have, under one parameter set that an account has, one check value and different keys,
+/// a call that is given one may be made.
 pub fn apart_may_call()
     ensures { OfAnyPasswords ApartMayCall }
 {}
@@ -124,7 +130,8 @@ pub fn each_holds_of()
     steps_stay_sound();
 }
 
-/// So whatever devices call one after another, each call with one of these passwords, is one list of steps.
+/// So whatever devices call one after another, each call with one of these passwords, is one list of steps, where
+/// no two of these are alike in this way when it is made.
 pub fn all_go_with()
     ensures { OfAnyPasswords AllGoWith }
 {

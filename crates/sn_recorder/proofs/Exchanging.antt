@@ -35,7 +35,7 @@ gains_so held place gate batches lost now x (failed had made) (failed other more
 
 pub none_recorded : (old new : RecordingLink) → Asks old.link new.link [] → new.place ≡ old.place → RecordsThem old new [] []
 none_recorded old new asks place_is was holds place =
-    let (next, holds_next, (count, same)) = asks.served was holds in (
+    let (next, holds_next, (count, same), fails) = asks.served was holds in (
       next,
       holds_next,
       subst (IsPlaceOf new.place) (sym same) (subst (λ (p : ℕ). IsPlaceOf p was) (sym place_is) place),
@@ -54,7 +54,7 @@ records_none old new asks place_is exchanged_is whole_is = record {
 one_recorded : (old new : RecordingLink) (x : Exchange) (e : Exchanged) → Asks old.link new.link (x ∷ []) → IsRecordOf x e
     → HasGained (link_held new.link) old.place e.batches new.place → RecordsThem old new (x ∷ []) (e ∷ [])
 one_recorded old new x e asks is gained was holds place =
-    let (next, holds_next, (mid, befalls, (count, same))) = asks.served was holds in
+    let (next, holds_next, (mid, befalls, (count, same)), fails) = asks.served was holds in
     let befalls_so : Befalls (lost_at (link_losses old.link) (link_number old.link)) (link_now old.link) was x next =
     subst (Befalls (lost_at (link_losses old.link) (link_number old.link)) (link_now old.link) was x) (sym same) befalls in
     let (gains, place_next) = gains_so (link_held new.link) old.place new.place e.batches (lost_at (link_losses old.link) (link_number old.link)) (link_now old.link) x was next

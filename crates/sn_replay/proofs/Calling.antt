@@ -47,7 +47,7 @@ readable_of readable script secret replaying c name call at fits =
     readable_so host server acts
     (readable host secret c.world (end c.moves) name 1 call words acts halt server host_named at.stands.holds (at.fits.devices name) fits run)
 
--- no second password of the script has the check value of a set's, so the call may be made
-pub may_call : (script : Script) (secret : Bytes) (replaying : Replaying) (c : Stage) (name : Bytes) (call : Call) → PasswordsApart script → IsAt script secret replaying c
-    → GivesOf (IsPasswordOf script) call → MayCall (end c.moves) (c.world.devices name) call
+-- no second password of the script has the check value of a set's under the parameters of one that an account has, so the call may be made
+pub may_call : (script : Script) (secret : Bytes) (replaying : Replaying) (c : Stage) (name : Bytes) (call : Call) → PasswordsApart script c.moves
+    → IsAt script secret replaying c → GivesOf (IsPasswordOf script) call → MayCall (end c.moves) (c.world.devices name) call
 may_call script secret replaying c name call apart at gives = apart_may_call (IsPasswordOf script) c.world (end c.moves) name call apart at.holds_of gives

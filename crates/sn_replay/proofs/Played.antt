@@ -1,16 +1,18 @@
 -- A replay from its first line to its last: what one more line makes of it, and what it comes to.
 use Rattle.std.proofs.Common.{◌≡◌, ◌≢◌, ℕ, suc, ◌+◌, ◌<◌, ◌≤◌, List, [], ◌∷◌, ◌++◌, length, take, drop, get_or, Bool, true, false, Option, Some, None, refl, sym, ap, ◌∙◌, subst, inl, inr, arith, append_assoc}
+use Rattle.std.proofs.lemmas.Grind.{flat_map-append}
 use Rattle.std.proofs.lemmas.List.{append-nil, length-take-le, take_all, take_more, take-append-drop}
 use Rattle.rand_chacha.specs.ChaCha.{ChaCha}
 use Rattle.sn_course.specs.Stages.{Stage, Reported, past, reported, reporting, start}
-use Rattle.sn_course.specs.Headline.{Carried, CarriesHeadline, Goes, IsNotAllowed, MayStand, MovesCarry, OpensWith, PasswordsApart, Recounts, Recovers, SecretOf, Slots, moves_in}
+use Rattle.sn_course.specs.Headline.{Carried, CarriesHeadline, Goes, IsNotAllowed, IsPasswordOf, MayStand, MovesCarry, OpensWith, PasswordsApart, Recounts, Recovers, RunsApart, SecretOf, Slots, moves_in}
 use Rattle.sn_course.specs.Laws.{CarriedOfMoves, MovesMore, RecountsGo, RecountsGrow, RecountsMore, ReportingMore, settings_behind}
 use Rattle.sn_course.specs.Settings.{AreFirst, settings_after, words_of}
 use Rattle.sn_course.specs.declared.settings.Settings.{Settings}
 use Rattle.sn_laws.specs.Each.{Each, One}
-use Rattle.sn_laws.specs.Lookups.{Bytes}
+use Rattle.sn_laws.specs.Lookups.{Bytes, empty}
 use Rattle.sn_laws.specs.Runs.{Legal, end}
 use Rattle.sn_laws.specs.declared.moves.Move.{Move}
+use Rattle.sn_lines.proofs.Facts.{apart_before}
 use Rattle.sn_report.specs.declared.report.Event.{Event}
 use Rattle.sn_report.specs.declared.report.Report.{Report}
 use Rattle.sn_script.specs.declared.script.Line.{Line}
@@ -20,7 +22,7 @@ use Rattle.sn_shown.specs.Shown.{AreHeld}
 use Rattle.sn_world.specs.Holds.{TokensDiffer}
 use Rattle.sn_world.specs.World.{World, at_first}
 use Rattle.sn_replay.specs.Lines.{IsBounded, IsRefusalAt, IsReplayRefusal, reports}
-use Rattle.sn_replay.specs.Playing.{AreSlotsOf, BeginsReplay, HasPlayed, HasPlayedAll, IsAt, IsPlayed, IsRefusalBehind, IsRefusedBehind, ReplayingOr, PlaysAs, Tells, behind, ends_slots}
+use Rattle.sn_replay.specs.Playing.{ApartAlong, AreSlotsOf, BeginsReplay, HasPlayed, HasPlayedAll, IsAt, IsPlayed, IsRefusalBehind, IsRefusedBehind, ReplayingOr, PlaysAs, Tells, behind, ends_slots}
 use Rattle.sn_replay.specs.declared.error.ReplayError.{ReplayError}
 use Rattle.sn_replay.specs.declared.error.ReplayError.TheVariants as refusal
 use Rattle.sn_replay.specs.declared.replaying.Replaying.{Replaying}
@@ -101,6 +103,34 @@ opens_on : (rs later : List Reported) (secret : Bytes) (opened : World) → rs �
 opens_on [] later secret opened some h = absurd (some refl)
 opens_on (r ∷ rs) later secret opened some h = h
 
+-- ---- where the passwords are apart
+
+module _ (script : Script) (secret : Bytes) where
+  -- behind the first ones of events whose moves they are apart behind
+  apart_by : (rs : List Reported) (events : List Event) → PasswordsApart script (moves_in events) → ApartAlong script secret rs events
+  apart_by rs events apart before later opened early more last rs_are events_are opens goes =
+      apart_before (IsPasswordOf script) empty (moves_in early) (moves_in more)
+      (subst (PasswordsApart script) (ap moves_in events_are ∙ flat_map-append (λ (e : Event). e.moves) early more) apart)
+
+  -- in each run, so in this one
+  apart_in : (rs : List Reported) (events : List Event) → RunsApart script secret rs → ApartAlong script secret rs events
+  apart_in rs events runs before later opened early more last rs_are events_are opens goes = runs before later opened early last rs_are opens goes
+
+  -- of fewer lines and events
+  runs_front : (rs later : List Reported) → rs ≢ [] → RunsApart script secret (rs ++ later) → RunsApart script secret rs
+  runs_front rs later some runs before rest opened events last rs_are opens goes =
+      runs before (rest ++ later) opened events last (ap (λ (xs : List Reported). xs ++ later) rs_are ∙ append_assoc before rest later)
+      (opens_on rs later secret opened some opens) goes
+
+  along_front : (rs later : List Reported) (events : List Event) → rs ≢ [] → ApartAlong script secret (rs ++ later) events → ApartAlong script secret rs events
+  along_front rs later events some apart before rest opened early more last rs_are events_are opens goes =
+      apart before (rest ++ later) opened early more last (ap (λ (xs : List Reported). xs ++ later) rs_are ∙ append_assoc before rest later) events_are
+      (opens_on rs later secret opened some opens) goes
+
+  along_before : (rs : List Reported) (events : List Event) (e : Event) → ApartAlong script secret rs (events ++ e ∷ []) → ApartAlong script secret rs events
+  along_before rs events e apart before rest opened early more last rs_are events_are opens goes =
+      apart before rest opened early (more ++ e ∷ []) last rs_are (ap (λ (es : List Event). es ++ e ∷ []) events_are ∙ append_assoc early more (e ∷ [])) opens goes
+
 -- ---- one line that reports
 
 -- where a replay stands before it
@@ -115,7 +145,7 @@ record StandsBefore (script : Script) (secret : Bytes) (rs : List Reported) (r :
 record IsBefore (script : Script) (rs : List Reported) (r : Reported) (k : Replaying) (events : List Event) : Type 0 where
   secret : Bytes
   secret_is : SecretOf (rs ++ r ∷ []) secret
-  stands : TokensDiffer secret → PasswordsApart script → StandsBefore script secret rs r k events
+  stands : TokensDiffer secret → ApartAlong script secret (rs ++ r ∷ []) events → StandsBefore script secret rs r k events
 
 before_first : (script : Script) (r : Reported) (k : Replaying) → BeginsReplay (words_of r.settings r.number) k → IsBefore script [] r k []
 before_first script r k b = record {
@@ -127,12 +157,12 @@ before_first script r k b = record {
 }
 
 before_next : (script : Script) (secret : Bytes) (rs : List Reported) (r : Reported) (k : Replaying) (events : List Event) → rs ≢ [] → SecretOf rs secret
-    → (TokensDiffer secret → PasswordsApart script → HasPlayed script secret rs k events) → IsBefore script rs r k events
+    → (TokensDiffer secret → ApartAlong script secret rs events → HasPlayed script secret rs k events) → IsBefore script rs r k events
 before_next script secret rs r k events some is played = record {
   secret = secret;
   secret_is = secret_on rs (r ∷ []) secret some is;
   stands = λ differ apart.
-      let p = played differ apart in
+      let p = played differ (along_front script secret rs (r ∷ []) events some apart) in
       record {
         opened = p.opened;
         opens = opens_on rs (r ∷ []) secret p.opened some p.opens;
@@ -166,6 +196,7 @@ module _ (grow : RecountsGrow) (more : RecountsMore) (moves_more : MovesMore) (s
         devices = t.at.marks_read;
         shows = record { server = t.at.stands.holds.server; devices = t.at.stands.holds.devices };
         asked_alone = λ name. (t.at.stands.holds.sound name).sets.asked_alone;
+        held = held_by_script now.names now.world.devices (end now.moves) t.at.begun t.at.stands.holds.devices t.at.held;
       } in
       record {
         opened = b.opened;
@@ -213,9 +244,10 @@ module _ (grow : RecountsGrow) (more : RecountsMore) (moves_more : MovesMore) (s
       is_before = before script p.secret rs (record { number = number; settings = state.settings }) l state.replaying k state.events p.plays replaying_is
 
       -- and one that reports
-      pub played_line : (told : LineTold) → ((secret : Bytes) (c : Stage) → TokensDiffer secret → PasswordsApart script → IsAt script secret k c → Tells script secret k c r told)
+      pub played_line : RecountsGo → (told : LineTold)
+          → ((secret : Bytes) (c : Stage) → TokensDiffer secret → PasswordsApart script c.moves → IsAt script secret k c → Tells script secret k c r told)
           → IsPlayed script first (lines ++ l ∷ []) (record { settings = state.settings; replaying = Some told.replaying; events = state.events ++ told.event ∷ [] })
-      played_line told tells =
+      played_line go told tells =
           let b = is_before in
           record {
             settings_are = p.settings_are ∙ sym (settings_kept (settings_behind first lines) l so) ∙ sym (reporting_more 1 first lines l).1;
@@ -225,8 +257,13 @@ module _ (grow : RecountsGrow) (more : RecountsMore) (moves_more : MovesMore) (s
               some_not_none rs r,
               b.secret_is,
               λ differ apart.
-                  let s = b.stands differ apart in
-                  played_on b.secret rs r k state.events told s (tells b.secret s.last differ apart s.at),
+                  let s = b.stands differ (along_before script b.secret (rs ++ r ∷ []) state.events told.event apart) in
+                  let goes : Goes b.secret (start s.opened) rs state.events s.last =
+                  go (ends_slots k.ends) b.secret (start s.opened) s.last rs state.events s.recounts in
+                  let here : PasswordsApart script s.last.moves =
+                  subst (PasswordsApart script) s.moves_are
+                  (apart rs (r ∷ []) s.opened state.events (told.event ∷ []) s.last refl refl s.opens goes) in
+                  played_on b.secret rs r k state.events told s (tells b.secret s.last differ here s.at),
             );
           }
 
@@ -240,8 +277,10 @@ module _ (grow : RecountsGrow) (more : RecountsMore) (moves_more : MovesMore) (s
             reports_so = so;
             secret = b.secret;
             secret_is = subst (λ (x : Reported). SecretOf (rs ++ x ∷ []) b.secret) line_is b.secret_is;
-            refused = λ differ apart.
-                let s = b.stands differ apart in
+            refused = λ differ runs.
+                let own : RunsApart script b.secret (rs ++ r ∷ []) =
+                subst (λ (x : Reported). RunsApart script b.secret (rs ++ x ∷ [])) (sym line_is) runs in
+                let s = b.stands differ (apart_in script b.secret (rs ++ r ∷ []) state.events own) in
                 let no = why b.secret s.last s.at in (
                   s.opened,
                   subst (λ (x : Reported). OpensWith (rs ++ x ∷ []) b.secret s.opened) line_is s.opens,
@@ -332,8 +371,10 @@ refused_all script first lines index l (refusal.NotAllowed number) is lines_are 
       first_is = is;
       secret = h.secret;
       secret_is = subst (λ (xs : List Reported). SecretOf xs h.secret) whole (secret_on (rs ++ r ∷ []) later h.secret (some_not_none rs r) h.secret_is);
-      refused = λ differ apart.
-          let x = h.refused differ apart in (
+      refused = λ differ runs.
+          let front_runs : RunsApart script h.secret (rs ++ r ∷ []) =
+          runs_front script h.secret (rs ++ r ∷ []) later (some_not_none rs r) (subst (RunsApart script h.secret) (sym whole) runs) in
+          let x = h.refused differ front_runs in (
             x.0,
             subst (λ (xs : List Reported). OpensWith xs h.secret x.0) whole (opens_on (rs ++ r ∷ []) later h.secret x.0 (some_not_none rs r) x.1),
             (rs, r, later, parted, x.2, x.3),
@@ -365,7 +406,8 @@ carries_none carry script first slots events is none no_events = record {
 
 carries_some : CarriedOfMoves → (script : Script) (first : Settings) (slots : Slots) (secret : Bytes) (k : Replaying) (events : List Event) → AreFirst first
     → SecretOf (reporting 1 first script.lines) secret → slots ≡ ends_slots k.ends
-    → (TokensDiffer secret → PasswordsApart script → HasPlayed script secret (reporting 1 first script.lines) k events)
+    → (TokensDiffer secret → ApartAlong script secret (reporting 1 first script.lines) events
+    → HasPlayed script secret (reporting 1 first script.lines) k events)
     → CarriesHeadline script slots (record { events = events })
 carries_some carry script first slots secret k events is secret_is same played = record {
   first = first;
@@ -373,7 +415,7 @@ carries_some carry script first slots secret k events is secret_is same played =
   secret = secret;
   secret_is = secret_is;
   carried = λ differ apart.
-      let p = played differ apart in
+      let p = played differ (apart_by script secret (reporting 1 first script.lines) events apart) in
       let legal : Legal (moves_in events) = subst Legal (sym p.moves_are) p.at.legal in
       subst (λ (s : Slots). Carried script s secret first events) (sym same)
       (record {

@@ -150,6 +150,7 @@ module _ (tell : CallsTell) (fit : EachFits) (keeps : Keeps) (stays : KeepsHeld)
     next_is = refl;
     moves_are = moves_told;
     by_losses = x.by_losses;
+    link_lost = x.link_lost;
     at = x.at;
     ended = ended;
     well = subst (λ (ms : List Move). EndsWell call name (end c.moves) (next.devices name) (end (c.moves ++ ms)) e.last) (sym moves_told)

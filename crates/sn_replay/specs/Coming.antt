@@ -1,11 +1,12 @@
 -- What came of a call, and the event that is told of it.
 use Rattle.std.specs.Prelude.{◌≡◌, ℕ, List, [], Bool, Option, Some, true}
 use Rattle.rand_chacha.specs.ChaCha.{ChaCha}
-use Rattle.sn_client.specs.Runs.{Act, Call, Halt}
+use Rattle.sn_client.specs.Runs.{Act, Call, Halt, refused}
+use Rattle.sn_client.specs.declared.error.ClientError.TheVariants as client
 use Rattle.sn_course.specs.Fits.{EndsSo}
 use Rattle.sn_events.specs.Calling.{host}
 use Rattle.sn_events.specs.Events.{AreServedAt}
-use Rattle.sn_events.specs.Fates.{AreByLosses}
+use Rattle.sn_events.specs.Fates.{AnyAskLost, AreByLosses}
 use Rattle.sn_events.specs.Growing.{EndsGoOn}
 use Rattle.sn_events.specs.Slots.{EndsGrow, device_slot, server_slot, slot_mark}
 use Rattle.sn_events.specs.Standing.{Stands}
@@ -43,6 +44,7 @@ pub record HasCame (secret : Bytes) (w : World) (s : Ideal) (name : Bytes) (call
   pub ended : EndsSo halt came.last
   pub whole : IsWhole halt
   pub by_losses : AreByLosses setting.losses 1 acts fates
+  pub link_lost : halt ≡ refused client.LinkFault → AnyAskLost setting.losses 1 acts
   pub at : AreServedAt setting.now fates
   pub told : AreTold host acts fates came.batches came.exchanged
   pub readable : AreReadable host acts

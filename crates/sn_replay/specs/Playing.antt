@@ -5,7 +5,7 @@ use Rattle.rand_chacha.specs.ChaCha.{ChaCha}
 use Rattle.sn_client.specs.Runs.{Act, Call, Halt}
 use Rattle.sn_course.specs.Stages.{Stage, Reported, made_by, past, reporting, start}
 use Rattle.sn_course.specs.Fits.{Called, EndsSo, EndsWell, Fits, HappensAs, ShowsAs, puts_item}
-use Rattle.sn_course.specs.Headline.{Goes, IsPasswordOf, MayStand, OpensWith, Opens, PasswordsApart, Recounts, SecretOf, Slots, moves_in}
+use Rattle.sn_course.specs.Headline.{Goes, IsPasswordOf, MayStand, OpensWith, Opens, PasswordsApart, Recounts, RunsApart, SecretOf, Slots, moves_in}
 use Rattle.sn_course.specs.Laws.{Grow, settings_behind}
 use Rattle.sn_course.specs.Lines.{device_of}
 use Rattle.sn_course.specs.Settings.{AreFirst, words_of}
@@ -137,10 +137,16 @@ pub record HasPlayed (script : Script) (secret : Bytes) (rs : List Reported) (re
 abbrev pub behind : Settings → List Line → Line → Reported
 behind first lines l = record { number = 1 + length lines; settings = settings_behind first lines; asks = l }
 
+-- wherever the first ones of these lines go by the first ones of these events, the passwords are apart
+abbrev pub ApartAlong : Script → Bytes → List Reported → List Event → Type 0
+ApartAlong script secret rs events = (before later : List Reported) (opened : World) (early more : List Event) (last : Stage) → rs ≡ before ++ later
+    → events ≡ early ++ more → OpensWith rs secret opened → Goes secret (start opened) before early last → PasswordsApart script (moves_in early)
+
 -- before the first line that reports nothing has begun
 abbrev pub PlaysAs : Script → Bytes → List Reported → Option Replaying → List Event → Type 0
 PlaysAs script secret rs None events = (rs ≡ []) × (events ≡ []) × (secret ≡ [])
-PlaysAs script secret rs (Some replaying) events = (rs ≢ []) × SecretOf rs secret × (TokensDiffer secret → PasswordsApart script → HasPlayed script secret rs replaying events)
+PlaysAs script secret rs (Some replaying) events =
+    (rs ≢ []) × SecretOf rs secret × (TokensDiffer secret → ApartAlong script secret rs events → HasPlayed script secret rs replaying events)
 
 pub record IsPlayed (script : Script) (first : Settings) (lines : List Line) (state : State) : Type 0 where
   pub settings_are : state.settings ≡ settings_behind first lines
@@ -157,7 +163,7 @@ pub record IsRefusedBehind (script : Script) (first : Settings) (lines : List Li
   pub reports_so : reports l ≡ true
   pub secret : Bytes
   pub secret_is : SecretOf (reporting 1 first lines ++ behind first lines l ∷ []) secret
-  pub refused : TokensDiffer secret → PasswordsApart script
+  pub refused : TokensDiffer secret → RunsApart script secret (reporting 1 first lines ++ behind first lines l ∷ [])
       → (opened : World) × OpensWith (reporting 1 first lines ++ behind first lines l ∷ []) secret opened × (1 + length lines ≡ number)
       × ((events : List Event) × (last : Stage) × Goes secret (start opened) (reporting 1 first lines) events last × ¬ (MayStand last l))
 

@@ -71,7 +71,7 @@ pub(crate) fn sign_in_line(
     fates: &[Fate],
 ) -> Result<LineTold, AllocError>
     requires identifier { IsIdentifier identifier.now }
-    ensures { (script : Script) (secret : Bytes) (c : Stage) → TokensDiffer secret → PasswordsApart script → IsPasswordOf script password.now
+    ensures { (script : Script) (secret : Bytes) (c : Stage) → TokensDiffer secret → PasswordsApart script c.moves → IsPasswordOf script password.now
         → IsAt script secret replaying c
         → IfOk result (Tells script secret replaying c (reported_at at.now (line.SignIn device.now identifier.now password.now fates.now))) }
 {
@@ -191,7 +191,7 @@ pub(crate) fn sync_line(
     device: &Text,
     fates: &[Fate],
 ) -> Result<LineTold, AllocError>
-    ensures { (script : Script) (secret : Bytes) (c : Stage) → TokensDiffer secret → PasswordsApart script → IsAt script secret replaying c
+    ensures { (script : Script) (secret : Bytes) (c : Stage) → TokensDiffer secret → PasswordsApart script c.moves → IsAt script secret replaying c
         → IfOk result (Tells script secret replaying c (reported_at at.now (line.Sync device.now fates.now))) }
 {
     runs_readable();
@@ -219,7 +219,7 @@ pub(crate) fn passwd_line(
     fates: &[Fate],
 ) -> Result<LineTold, AllocError>
     requires cost { 1 ≤ at.now.settings.cost }
-    ensures { (script : Script) (secret : Bytes) (c : Stage) → TokensDiffer secret → PasswordsApart script → IsPasswordOf script password.now
+    ensures { (script : Script) (secret : Bytes) (c : Stage) → TokensDiffer secret → PasswordsApart script c.moves → IsPasswordOf script password.now
         → IsAt script secret replaying c
         → IfOk result (Tells script secret replaying c (reported_at at.now (line.Passwd device.now password.now fates.now))) }
 {

@@ -31,7 +31,7 @@ pub(crate) fn line_told(
     requires bounded { IsBounded line.now }
     requires cost { 1 ≤ at.now.settings.cost }
     requires reports { reports line.now ≡ true }
-    ensures told { (script : Script) (secret : Bytes) (c : Stage) → TokensDiffer secret → PasswordsApart script → One (λ l. l ≡ line.now) script.lines
+    ensures told { (script : Script) (secret : Bytes) (c : Stage) → TokensDiffer secret → PasswordsApart script c.moves → One (λ l. l ≡ line.now) script.lines
         → IsAt script secret replaying c → IfOk result (Tells script secret replaying c (reported_at at.now line.now)) }
     ensures refused { (script : Script) (secret : Bytes) (c : Stage) → IsAt script secret replaying c → IfErr result (IsRefusalAt at.now.number c line.now) }
 {

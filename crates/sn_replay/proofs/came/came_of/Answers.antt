@@ -15,6 +15,7 @@ returns g c =
       ended = ends.0;
       whole = ends.1;
       by_losses = x.by_losses;
+      link_lost = x.link_lost;
       at = x.at;
       told = x.told;
       readable = x.readable;

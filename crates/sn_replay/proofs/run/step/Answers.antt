@@ -14,7 +14,7 @@ returns-clause-played c =
     subst (λ (es : List Event). IsPlayed script first (lines ++ l ∷ []) (record { settings = c.args.state.settings; replaying = Some c.in_ok-replaying-2.field-0.replaying; events = es }))
     (sym c.in_ok-push.ensures.ok)
     (played_line c.recounts_grow.ensures c.recounts_more.ensures c.moves_more.ensures script c.reporting_more.ensures first lines l c.args.state p c.args.number number_is
-    so c.in_ok-replaying.replaying c.in_ok-replaying.ensures c.in_ok-replaying-2.field-0
+    so c.in_ok-replaying.replaying c.in_ok-replaying.ensures c.recounts_go.ensures c.in_ok-replaying-2.field-0
     (λ secret stage differ apart at. c.in_ok-replaying-2.ensures.told script secret stage differ apart among at))
 
 pub returns-then-not-reports-clause-played : goal.returns-then-not-reports-clause-played
