@@ -222,6 +222,24 @@ class Stores(unittest.TestCase):
             done = subprocess.run([program.SN, *words, store], stdin=subprocess.DEVNULL, stdout=full, stderr=subprocess.PIPE)
             self.assertEqual((done.returncode, done.stderr), (7, b"sn: write fault\n"))
 
+    def test_a_standard_stream_that_is_closed(self):
+        """The store doesn't get the number of a closed stream, so that nothing is written into it that is none of its own."""
+        for closed in (0, 1, 2):
+            with serving.Store() as store:
+                with serving.Served(store) as server:
+                    self.assertEqual(serving.Client(server.port).register("alice", PW)[0], 200)
+                with open(store, "rb") as file:
+                    held = file.read()
+                words = [program.SN, "serve", "--port", "0", "--requests", "1", "--store", store]
+                full = os.open("/dev/full", os.O_WRONLY)
+                try:
+                    done = subprocess.run(words, stdin=full, stdout=full, stderr=full, preexec_fn=lambda: os.close(closed))
+                finally:
+                    os.close(full)
+                self.assertEqual(done.returncode, 7, closed)
+                with open(store, "rb") as file:
+                    self.assertEqual(file.read(), held, closed)
+
     def test_a_folder_that_is_not_there(self):
         with serving.Store() as store:
             self.assertEqual(self.serve(os.path.join(store, "x", "y")), (4, b"", b"sn: disk fault\n"))

@@ -7,6 +7,7 @@ use Rattle.sn_generator.specs.Playable.{IsPlayable}
 use Rattle.sn_keys.specs.Keys.{AreKeysOf}
 use Rattle.sn_laws.specs.Each.{One}
 use Rattle.sn_laws.specs.Lookups.{Bytes}
+use Rattle.sn_laws.specs.declared.moves.Move.{Move}
 use Rattle.sn_replay.specs.Lines.{IsBounded}
 use Rattle.sn_script.specs.declared.script.Line.{Line}
 use Rattle.sn_script.specs.declared.script.Line.TheVariants as line
@@ -101,9 +102,9 @@ one_set password p a b first second =
     let ak : a.ak ≡ b.ak = first.ak ∙ sym second.ak in
     λ i. record { params = params i; pw = pw i; mk = mk i; ak = ak i }
 
--- so no two passwords of the script have one check value and different keys
-pub passwords_apart : (number count : ℕ) (script : Script) → IsGenerated number count script → PasswordsApart script
-passwords_apart number count script is one other p a b one_is other_is one_keys other_keys same =
+-- so no two passwords of the script have one check value and different keys, whatever the moves are
+pub passwords_apart : (number count : ℕ) (script : Script) → IsGenerated number count script → (moves : List Move) → PasswordsApart script moves
+passwords_apart number count script is moves one other p a b one_is other_is used one_keys other_keys same =
     let first : AreKeysOf (codes "p") p a = subst (λ (w : Bytes). AreKeysOf w p a) (only_password number count script is one one_is) one_keys in
     let second : AreKeysOf (codes "p") p b = subst (λ (w : Bytes). AreKeysOf w p b) (only_password number count script is other other_is) other_keys in
     one_set (codes "p") p a b first second

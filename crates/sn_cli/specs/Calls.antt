@@ -16,6 +16,7 @@ use Rattle.sn_course.specs.Headline.{CarriesHeadline, IsNotAllowed, PasswordsApa
 use Rattle.sn_disk.specs.declared.mem_shelf.MemShelf.{MemShelf}
 use Rattle.sn_generator.specs.Generated.{IsGenerated}
 use Rattle.sn_laws.specs.Runs.{Legal}
+use Rattle.sn_laws.specs.declared.moves.Move.{Move}
 use Rattle.sn_report.specs.Text.{report_text}
 use Rattle.sn_report.specs.declared.report.Report.{Report}
 use Rattle.sn_script.specs.Scripts.{IsScript, IsFirstWrong}
@@ -97,11 +98,11 @@ ReplayRefuses text (PasswordLine length) = ⊥
 ReplayRefuses text (Client refusal) = ⊥
 
 -- `gen` calls for the summary of the report that the script of its number and its count carries over the disks that it leaves on this shelf in memory. That script has
--- one password alone, so of the premises of its report it meets that of passwords.
+-- one password alone, so of the premises of its report it meets that of passwords, whatever the moves are.
 pub record GenCallsFor (memory_shelf : MemShelf) (line : GenLine) (output : List ℕ) : Type 0 where
   pub script : Script
   pub generated : IsGenerated line.number line.count script
-  pub apart : PasswordsApart script
+  pub apart : (moves : List Move) → PasswordsApart script moves
   pub report : Report
   pub carries : CarriesHeadline script (shelf_slots memory_shelf) report
   pub summary : Summary

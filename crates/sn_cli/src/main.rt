@@ -27,12 +27,18 @@ use rand_core::Rng;
 use sn_disk::MemShelf;
 use sn_status::{Status, tell};
 use sn_system::{FileShelf, Input, Output, SystemClock, TcpLink, TcpPort};
+use std::fs::File;
 use std::io;
 use std::process::ExitCode;
 use std::random::RandomSource;
 use words::{arguments, status_without_words};
 
 fn main(rt: HostRuntime) -> ExitCode {
+    // A standard stream that is closed leaves its number to what is opened next, and a store must not get it: what the program
+    // writes would go into the store. A folder can neither be read nor written, so such a stream stays a fault.
+    let _input = File::open(&rt, "/");
+    let _output = File::open(&rt, "/");
+    let _error = File::open(&rt, "/");
     let status = match arguments(&rt) {
         Ok(words) => run_on_streams(&rt, &words),
         Err(error) => told(&rt, status_without_words(&error)),
