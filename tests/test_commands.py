@@ -7,6 +7,14 @@ import unittest
 import program
 
 LARGEST = 16777216
+USAGE = 2, b"", b"sn: usage\n"
+
+# Strings of an independent implementation, of no text and of a whole block; and one in form, of zeros alone.
+PARAMS = b"eyJpZGVudGlmaWVyIjoiYWxpY2UiLCJwd19jb3N0IjoxLCJwd19ub25jZSI6IjZlIiwidmVyc2lvbiI6IjAwMyJ9"
+FRONT = b"%s:00000000-0000-4000-8000-000000000001:76b8e0ada0f13d90405d6ae55386bd28:"
+EMPTY = FRONT % b"003:e02d68811276dd52ae7a25d507ed386516a18776e1e500cff15b5af94ef16f1a" + b"WbUbyVznKFwK2Nf+5HN/fw==:" + PARAMS
+BLOCK = FRONT % b"003:b575ce3c2695f7385e3d9b9fd8888357bc2fddb015d6fa35e3086f83c423e455" + b"//0LNp/oXedvv270MZbI7YEYIqJpGRG8VSSOyP2NKA0=:" + PARAMS
+ZEROS = b":".join((b"003", b"0" * 64, program.UUID.encode(), b"0" * 32, b"AAAAAAAAAAAAAAAAAAAAAA==", PARAMS))
 
 
 class Seal(unittest.TestCase):
@@ -46,7 +54,7 @@ class Seal(unittest.TestCase):
 
 class Usage(unittest.TestCase):
     def refused(self, words):
-        self.assertEqual(program.run(words), (2, b"", b"sn: usage\n"), words)
+        self.assertEqual(program.run(words), USAGE, words)
 
     def test_faulty_command_lines(self):
         seal, opened = program.seal_words(), program.open_words()
@@ -57,12 +65,15 @@ class Usage(unittest.TestCase):
         self.refused(seal[:-1])
         self.refused(seal + ["--nonce"])
         self.refused(seal + ["--nonce", "6e"])
+        self.refused(opened + opened[1:3])
         self.refused(opened + ["x"])
         self.refused(opened[:1] + opened[3:])
         self.refused(["--uuid"])
         self.refused(["help"])
         self.refused(["show", "--uuid", program.UUID])
-        self.refused(["open", "--uui=" + program.UUID] + opened[3:])
+        self.refused(["replay", "--cost", "1"])
+        for cut in (["--uui=" + program.UUID], ["--uui", program.UUID]):
+            self.refused(["open", *cut] + opened[3:])
 
     def test_values_out_of_their_bounds(self):
         words = program.seal_words
@@ -84,10 +95,11 @@ class Usage(unittest.TestCase):
         self.refused(words(nonce="n" * 257))
 
     def test_options_in_another_order(self):
-        words = program.open_words()
-        sealed = program.run(program.seal_words(), b"x")[1]
-        other = ["open", "--key=" + words[4], "--uuid", words[2]]
-        self.assertEqual(program.run(other, sealed), (0, b"x", b""))
+        key, uuid = program.KEY.hex(), program.UUID
+        seal = ["seal", "--nonce=6e", "--key", key, "--cost", "1", "--identifier=alice", "--uuid", uuid]
+        sealed = program.run(seal, b"0123456789abcdef")[1]
+        self.assertTrue(sealed.endswith(b":%s\n" % PARAMS))
+        self.assertEqual(program.run(["open", "--key=" + key, "--uuid", uuid], sealed), (0, b"0123456789abcdef", b""))
 
     def test_values_at_their_bounds(self):
         for words in (
@@ -104,9 +116,19 @@ class Open(unittest.TestCase):
             out = program.run(program.seal_words(), plain)[1]
             self.assertEqual(program.run(program.open_words(), out), (0, plain, b""))
 
-    def test_one_line_feed_only(self):
-        out = program.run(program.seal_words(), b"x")[1]
-        self.assertEqual(program.run(program.open_words(), out + b"\n")[0], 3)
+    def test_strings_of_another_implementation(self):
+        for given, plain in ((EMPTY, b""), (BLOCK, b"0123456789abcdef"), (BLOCK + b"\n", b"0123456789abcdef")):
+            self.assertEqual(program.run(program.open_words(), given), (0, plain, b""))
+
+    def test_what_opens_to_nothing(self):
+        other = program.UUID[:-1] + "2"
+        for given, uuid, line in (
+            (b"x", program.UUID, "string.1 Parts 1"),
+            (b"004" + BLOCK[3:], program.UUID, "string.2 Version 0"),
+            (BLOCK + b"\n\n", program.UUID, "string.7 Params 184"),
+            (BLOCK, other, "items.8 OtherUuid " + program.UUID),
+        ):
+            self.assertEqual(program.run(program.open_words(uuid), given), (3, b"", b"sn: %s\n" % line.encode()))
 
 
 class Show(unittest.TestCase):
@@ -127,10 +149,19 @@ class Show(unittest.TestCase):
         ]
         self.assertEqual(program.run(["show"], text), (0, ("\n".join(lines) + "\n").encode(), b""))
 
-    def test_a_line_feed_counts(self):
-        text = program.run(program.seal_words(), b"x")[1]
-        place = len(text) - len(text.split(b":")[5])
-        self.assertEqual(program.run(["show"], text), (3, b"", b"sn: string.7 Params %d\n" % place))
+    def test_zeros(self):
+        lines = ["version 003", "hash " + "0" * 64, "uuid " + program.UUID, "iv " + "0" * 32, "ciphertext 16"]
+        lines += ['identifier "alice"', "pw_cost 1", 'pw_nonce "6e"', 'salt-text "alice:SF:003:1:6e"']
+        self.assertEqual(program.run(["show"], ZEROS), (0, ("\n".join(lines) + "\n").encode(), b""))
+
+    def test_what_is_no_string(self):
+        """A line feed counts."""
+        for given, line in (
+            (b"", b"string.1 Parts 1"),
+            (ZEROS + b"\n", b"string.7 Params 164"),
+            (ZEROS.replace(b"003:0", b"003:A"), b"string.3 Hash 4"),
+        ):
+            self.assertEqual(program.run(["show"], given), (3, b"", b"sn: %s\n" % line))
 
 
 class Help(unittest.TestCase):

@@ -90,6 +90,8 @@ class Worked(Replays):
             "6 = ok",
         ]
         self.reports(script, text(report))
+        # The last line feed may be missing.
+        self.reports(script[:-1], text(report))
 
     def test_two_notes_in_one_request(self):
         script = text(BEGUN + ['put A {"n":1}', 'put A {"n":2}', "sync A", "sync A", "show"])
@@ -114,6 +116,16 @@ class Worked(Replays):
         ]
         self.reports(script, text(report))
 
+    def test_two_devices_and_losses(self):
+        lines = ["cost 1", "clock 1000", "register a u p", "put a {}", "sync a drop-reply", "sync a", "signin b u p", "sync b"]
+        lines += ['edit b #1 {"k":1}', "sync b drop-request", "late b 3", "put c {}", "show"]
+        report = ["3 register u set 1", "3 join a u set 1", "3 = ok", "4 edit a #1 {}", "4 = ok"]
+        report += ["5 post a #1", "5 accept #1 @1000 set 1", "5 = link", "6 settle a #1", "6 = ok", "7 join b u set 1", "7 = ok", "8 = ok"]
+        report += ['9 edit b #1 {"k":1}', "9 = ok", "10 post b #1", "10 = link", "11 = answer 200", "12 = refused client.1 NoAccount"]
+        report += ["13 account u set 1", "13 item #1 @1000 set 1 {}", "13 device a u sets 1", "13 device b u sets 1"]
+        report += ['13 draft b #1 {"k":1}', "13 device c none", "13 = ok"]
+        self.reports(text(lines), text(report))
+
     def test_stamps_rise_though_the_clock_goes_back(self):
         lines = BEGUN + ["put A {}", "sync A", "clock 5", "put A {}", "sync A"]
         self.lines_report(lines, {8: ["post A #2", "accept #2 @1001 set 1", "settle A #2", "= ok"]})
@@ -134,7 +146,8 @@ class Worked(Replays):
         self.lines_report(lines, last)
 
     def test_input_that_is_not_utf8(self):
-        self.assertEqual(program.run(["replay"], b"show\n\xff"), (3, b"", b"sn: cli.2 InputUtf8 5\n"))
+        for front in (b"show\n", b"cost 1\n"):
+            self.assertEqual(program.run(["replay"], front + b"\xff"), (3, b"", b"sn: cli.2 InputUtf8 %d\n" % len(front)))
 
     def test_a_password_of_any_kind(self):
         self.reports("register A é ü\n", text(["1 register é set 1", "1 join A é set 1", "1 = ok"]))
@@ -145,6 +158,9 @@ class Refused(Replays):
 
     def test_a_line_out_of_the_grammar(self):
         self.refuses(text(BEGUN + ["signin B alice", 'put A {"n":2}', "sync A"]), 4)
+        self.refuses(text(BEGUN + ["signup B alice p1", "put A {}", "sync A"]), 4)
+        self.refuses("cost 1\r\nclock 1000\r\n", 1)
+        self.refuses("cost 1\n\nshow\n", 2)
         self.refuses("show\n\n", 2)
         self.refuses("show \n", 1)
         self.refuses(text(BEGUN + ["put A drop-request"]), 4)
@@ -160,11 +176,12 @@ class Refused(Replays):
         self.allows_not(text(BEGUN + ["put A {}", "del A #2"]), 5)
         self.allows_not(text(BEGUN + ["put A {}", "del A #0"]), 5)
         self.allows_not(text(BEGUN + ["put A []", "edit A #1 {}"]), 5)
-        self.allows_not("edit A #1 {}\n", 1)
+        self.allows_not("cost 1\nedit A #1 {}\n", 2)
 
     def test_a_request_that_was_never_made(self):
         # The device made one request, its registration.
         self.allows_not(text(BEGUN + ["put A {}", "late A 2"]), 5)
+        self.allows_not("register a u p\nlate a 1\nlate a 2\n", 3)
         self.allows_not(text(BEGUN + ["late A 0"]), 4)
         self.allows_not(text(BEGUN + ["late A 18446744073709551617"]), 4)
         self.allows_not(text(BEGUN + ["late B 1", "signin B alice p1"]), 4)

@@ -178,9 +178,10 @@ class Counted(unittest.TestCase):
             self.assertEqual(server.ended(), (0, b""))
 
     def test_faulty_command_lines(self):
-        for words in (["--port", "65536", "--requests", "1"], ["--port", "0", "--requests", "0"], ["--port", "0", "--requests", "1000001"]):
+        for port, requests in (("65536", "1"), ("00", "1"), ("0", "0"), ("0", "1000001")):
             with serving.Store() as store:
-                self.assertEqual(program.run(["serve", "--store", store, *words]), (2, b"", b"sn: usage\n"))
+                words = ["serve", "--store", store, "--port", port, "--requests", requests]
+                self.assertEqual(program.run(words), (2, b"", b"sn: usage\n"))
                 self.assertFalse(os.path.exists(store))
 
 

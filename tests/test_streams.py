@@ -3,6 +3,7 @@
 import os
 import resource
 import signal
+import socket
 import subprocess
 import tempfile
 import unittest
@@ -51,6 +52,32 @@ class Input(unittest.TestCase):
         for words, _ in readers():
             with open(os.devnull, "wb") as writer:
                 self.assertEqual(run_with(words, stdin=writer), (6, b"", b"sn: read fault\n"), words)
+
+    def test_a_read_that_fails_later(self):
+        """The peer of a socket is gone, with something unread: what it had sent is read, and the next read fails."""
+        for words, given in readers():
+            peer, end = socket.socketpair()
+            with peer, end:
+                peer.sendall(given)
+                end.sendall(b"unread")
+                peer.close()
+                self.assertEqual(run_with(words, stdin=end), (6, b"", b"sn: read fault\n"), words)
+
+    def test_what_reads_nothing(self):
+        """A question and a faulty line end as they do over any input."""
+        usage = 2, b"", b"sn: usage\n"
+        for words, found in (
+            (["--version"], (0, b"sn 0.1.0\n", b"")),
+            ([], usage),
+            (program.seal_words()[:-1], usage),
+            (program.open_words() + ["x"], usage),
+            (["show", "--uuid", program.UUID], usage),
+            (["replay", "--cost", "1"], usage),
+            (["gen", "--number", "1", "--count", "0"], usage),
+            (["serve", "--store", "server", "--port", "00", "--requests", "1"], usage),
+        ):
+            with open(os.devnull, "wb") as writer:
+                self.assertEqual(run_with(words, stdin=writer), found, words)
 
     def test_small_pieces(self):
         for words, given in readers():
