@@ -16,8 +16,6 @@ mod replaying;
 mod sealing;
 mod serving;
 mod showing;
-#[cfg(test)]
-mod tests;
 mod words;
 
 use outside::DrawnSeed;
