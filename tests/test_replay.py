@@ -126,6 +126,29 @@ class Worked(Replays):
         report += ['13 draft b #1 {"k":1}', "13 device c none", "13 = ok"]
         self.reports(text(lines), text(report))
 
+    def test_who_may_enter_an_account(self):
+        last = {
+            3: ["= server 404 unknown"],
+            4: ["register alice set 1", "join A alice set 1", "= ok"],
+            5: ["= server 409 taken"],
+            6: ["= server 401 bad-auth"],
+            7: ["= refused client.13 HasAccount alice"],
+            8: ["= refused client.12 OtherAccount alice"],
+            9: ["= refused client.11 WrongPassword"],
+        }
+        lines = ["cost 1", "clock 1000", "signin A alice p1", "register A alice p1", "register B alice p2", "signin B alice p2"]
+        self.lines_report(lines + ["register A ben p", "signin A ben p", "signin A alice p2"], last)
+
+    def test_a_device_that_signs_in_again(self):
+        last = {
+            5: ["= ok"],
+            6: ['edit A #1 {"a":1}', "= ok"],
+            7: ["post A #1", "accept #1 @1000 set 1", "settle A #1", "= ok"],
+            10: ["account alice set 1", 'item #1 @1000 set 1 {"a":1}', "device A alice sets 1", "device B alice sets 1", "= ok"],
+        }
+        lines = BEGUN + ["put A {}", "signin A alice p1", 'edit A #1 {"a":1}', "sync A", "signin B alice p1", "sync B", "show"]
+        self.lines_report(lines, last)
+
     def test_stamps_rise_though_the_clock_goes_back(self):
         lines = BEGUN + ["put A {}", "sync A", "clock 5", "put A {}", "sync A"]
         self.lines_report(lines, {8: ["post A #2", "accept #2 @1001 set 1", "settle A #2", "= ok"]})
@@ -227,7 +250,8 @@ class Conflicts(Replays):
 
     def test_what_was_never_sent_is_dropped(self):
         last = {5: ["drop A #1", "= ok"], 6: ["account alice set 1", "device A alice sets 1", "= ok"]}
-        self.lines_report(BEGUN + ["put A {}", "del A #1", "show"], last)
+        last.update((number, ["= refused client.2 NoItem #1"]) for number in (7, 8))
+        self.lines_report(BEGUN + ["put A {}", "del A #1", "show", "edit A #1 {}", "del A #1"], last)
 
     def test_copies(self):
         """The member goes behind what is there, with a comma but in the empty object, and white space at the end goes."""
@@ -265,6 +289,18 @@ class Losses(Replays):
             8: ["= answer 200"],
         }
         self.lines_report(BEGUN + ['put A {"t":"x"}', "sync A drop-reply", 'edit A #1 {"t":"y"}', "sync A", "late A 2"], last)
+
+    def test_two_lost_answers(self):
+        """What the first answer settles stays, and the second edit was accepted too. The deletion stands on that."""
+        last = {
+            5: ["post A #1", "accept #1 @1000 set 1", "= link"],
+            7: ["settle A #1 @1000", "post A #1", "accept #1 @1001 set 1", "= link"],
+            8: ["account alice set 1", 'item #1 @1001 set 1 {"t":"y"}', "device A alice sets 1", 'draft A #1 {"t":"y"}', "= ok"],
+            9: ["edit A #1 deleted", "= ok"],
+            11: ["account alice set 1", "item #1 @1002 deleted", "device A alice sets 1", "= ok"],
+        }
+        lines = BEGUN + ['put A {"t":"x"}', "sync A drop-reply", 'edit A #1 {"t":"y"}', "sync A drop-reply=2", "show"]
+        self.lines_report(lines + ["del A #1", "sync A", "show"], last)
 
     def test_a_lost_registration(self):
         last = {
@@ -353,6 +389,9 @@ class Bounds(Replays):
 
 class Passwords(Replays):
     CHANGED = ["change alice set 2", "join A alice set 2", "rewrap #1 @1001 set 2", "retire A set 1", "= ok"]
+    # What ends a show where two devices have the second set alone, and no drafts; and what it shows of one note besides.
+    BOTH_SECOND = ["device A alice sets 2", "device B alice sets 2", "= ok"]
+    ONE_SECOND = ["account alice set 2", "item #1 @1001 set 2 {}", *BOTH_SECOND]
 
     def test_one_device(self):
         lines = BEGUN + ["put A {}", "sync A", "passwd A p2", "late A 4", "show"]
@@ -370,15 +409,18 @@ class Passwords(Replays):
 
     def test_more_than_one_request(self):
         lines = BEGUN + ["put A {}"] * 151 + ["sync A", "passwd A p2 drop-reply=2", "sync A drop-request=4", "show", "sync A"]
+        lines += ["signin B alice p2", "sync B", "show"]
         rewraps = ["rewrap #%d @%d set 2" % (n, 1150 + n) for n in range(1, 152)]
         last = {156: ["change alice set 2", "= link"], 157: ["join A alice set 2", *rewraps[:150], "= link"]}
         report = of_line(158, model.report(text(lines)))
         self.assertEqual(report[151:], ["item #151 @1150 set 1 {}", "device A alice sets 1 2", "= ok"])
-        self.lines_report(lines, last | {159: [rewraps[150], "retire A set 1", "= ok"]})
+        items = ["item #%d @%d set 2 {}" % (n, 1150 + n) for n in range(1, 152)]
+        last |= {159: [rewraps[150], "retire A set 1", "= ok"], 162: ["account alice set 2", *items, *self.BOTH_SECOND]}
+        self.lines_report(lines, last)
 
     def test_two_devices_through_two_changes(self):
         lines = BEGUN + ['put A {"n":1}', "sync A", "signin B alice p1", "sync B", 'edit B #1 {"n":2}', "passwd A p2", 'put A {"n":5}', "sync A"]
-        lines += ["passwd A p3 drop-reply=2", "signin B alice p3", "sync B", "show", "sync A", "sync B"]
+        lines += ["passwd A p3 drop-reply=2", "signin B alice p3", "sync B", "show", "sync A", "sync B", "show"]
         items = ['item #1 @1001 set 2 {"n":1}', 'item #2 @1002 set 2 {"n":5}', 'item #3 @1003 set 3 {"n":2,"conflict_of":"#1"}']
         last = {
             9: self.CHANGED,
@@ -389,14 +431,75 @@ class Passwords(Replays):
             15: ["account alice set 3", *items, "device A alice sets 2", "device B alice sets 3", "closed B #1 set 2", "closed B #2 set 2", "= ok"],
             16: ["join A alice set 3", "rewrap #1 @1004 set 3", "rewrap #2 @1005 set 3", "retire A set 2", "= ok"],
             17: ["= ok"],
+            18: ["account alice set 3", 'item #1 @1004 set 3 {"n":1}', 'item #2 @1005 set 3 {"n":5}', 'item #3 @1003 set 3 {"n":2,"conflict_of":"#1"}']
+            + ["device A alice sets 3", "device B alice sets 3", "= ok"],
         }
         self.lines_report(lines, last)
 
-    def test_a_device_that_signs_in_meanwhile(self):
-        lines = BEGUN + ["put A {}", "sync A", "passwd A p2 drop-reply=2", "signin B alice p2", "passwd B p3", "edit B #1 {}", "signin B alice wrong"]
-        last = {8: ["= refused rekey.1 ChangeRunning #1"], 9: ["= refused client.3 Closed set 1"], 10: ["= refused client.11 WrongPassword"]}
+    def cut_off(self, *lines):
+        """A change that these lines make in the end, on one device with one note; then another one signs in."""
+        script = BEGUN + ["put A {}", "sync A", *lines, "signin B alice p1", "signin B alice p2", "sync B", "show"]
+        count = len(script)
+        last = {count - 3: ["= server 401 bad-auth"], count - 2: ["join B alice set 2", "= ok"], count - 1: ["= ok"], count: self.ONE_SECOND}
+        report = model.report(text(script))
+        ends = [of_line(number, report)[-1] for number in range(6, count - 3)]
+        self.assertEqual(ends, ["= link" if " drop-" in line else "= ok" for line in lines])
+        self.lines_report(script, last)
+
+    def test_each_request_and_answer_is_lost(self):
+        """Nothing is asked for yet where the sync before the change is cut off. In the end each note is sealed again once."""
+        for what in ("request", "reply"):
+            for number in (1, 2, 3):
+                with self.subTest(what=what, number=number):
+                    again = ["passwd A p2"] if number == 1 else []
+                    self.cut_off("passwd A p2 drop-%s=%d" % (what, number), "sync A", *again)
+
+    def test_each_request_and_answer_of_what_resolves_it_is_lost(self):
+        for first in ("request", "reply"):
+            for what in ("request", "reply"):
+                for number in (1, 2, 3):
+                    with self.subTest(first=first, what=what, number=number):
+                        self.cut_off("passwd A p2 drop-%s=2" % first, "sync A drop-%s=%d" % (what, number), "sync A")
+
+    def test_a_change_that_another_one_overtook(self):
+        lines = TWO + ["put A {}", "sync A", "sync B", "passwd A p2 drop-request=2", "passwd B p3"]
+        lines += ["sync A", "signin A alice p2", "signin A alice p3", "sync A", "show"]
+        last = {
+            8: ["= link"],
+            9: ["change alice set 2", "join B alice set 2", "rewrap #1 @1001 set 2", "retire B set 1", "= ok"],
+            10: ["= server 401 bad-auth"],
+            11: ["= server 401 bad-auth"],
+            12: ["join A alice set 2", "= ok"],
+            13: ["retire A set 1", "= ok"],
+            14: self.ONE_SECOND,
+        }
         self.lines_report(lines, last)
-        self.lines_report(BEGUN + ["signin B alice wrong"], {4: ["= server 401 bad-auth"]})
+
+    def test_a_draft_while_a_set_is_asked_for(self):
+        lines = BEGUN + ["passwd A p2 drop-request=2", 'put A {"t":"x"}', "sync A", "signin B alice p2", "sync B", "show"]
+        last = {4: ["= link"], 5: ['edit A #1 {"t":"x"}', "= ok"], 7: ["join B alice set 2", "= ok"], 8: ["= ok"]}
+        self.lines_report(lines, last | {9: ["account alice set 2", 'item #1 @1000 set 2 {"t":"x"}', *self.BOTH_SECOND]})
+
+    def test_a_device_that_signs_in_meanwhile(self):
+        lines = BEGUN + ["put A {}", "sync A", "passwd A p2 drop-reply=2", "signin B alice wrong", "signin B alice p2"]
+        lines += ["passwd B p3", "edit B #1 {}", "signin B alice wrong", "sync A", "sync B", "passwd B p3"]
+        lines += ["sync A", "signin A alice p2", "signin A alice p3", "sync A", "show"]
+        last = {
+            7: ["= server 401 bad-auth"],
+            8: ["join B alice set 2", "= ok"],
+            9: ["= refused rekey.1 ChangeRunning #1"],
+            10: ["= refused client.3 Closed set 1"],
+            11: ["= refused client.11 WrongPassword"],
+            12: self.CHANGED[1:],
+            13: ["= ok"],
+            14: ["change alice set 3", "join B alice set 3", "rewrap #1 @1002 set 3", "retire B set 2", "= ok"],
+            15: ["= server 401 bad-auth"],
+            16: ["= server 401 bad-auth"],
+            17: ["join A alice set 3", "= ok"],
+            18: ["retire A set 2", "= ok"],
+            19: ["account alice set 3", "item #1 @1002 set 3 {}", "device A alice sets 3", "device B alice sets 3", "= ok"],
+        }
+        self.lines_report(lines, last)
 
 
 class Random(Replays):
