@@ -168,13 +168,19 @@ def versions(store, identifier, password):
     return versions_in(read(store, b"S"), identifier, password)
 
 
+def versions_then(file, identifier, password):
+    """By uuid the last versions of an account after each batch of a store's bytes; its password was never changed."""
+    for rows in journal.moments(file, b"S"):
+        if any(kind == 2 and row[0] == identifier for (kind, _), row in rows.items()):
+            yield versions_in(rows, identifier, password)
+
+
 def versions_ever(file, identifier, password):
     """By uuid the contents of all versions that an account ever had by a store's bytes; its password was never changed."""
     found = {}
-    for rows in journal.moments(file, b"S"):
-        if any(kind == 2 and row[0] == identifier for (kind, _), row in rows.items()):
-            for uuid, version in versions_in(rows, identifier, password).items():
-                found.setdefault(uuid, set()).add(version.content)
+    for last in versions_then(file, identifier, password):
+        for uuid, version in last.items():
+            found.setdefault(uuid, set()).add(version.content)
     return found
 
 
