@@ -216,6 +216,11 @@ def put_row(kind, key, value):
     return bytes([1, kind]) + text(key) + text(value)
 
 
+def remove_row(kind, key):
+    """The change that removes one."""
+    return bytes([0, kind]) + text(key)
+
+
 def owner_row(identifier=b"alice", account=bytes(16), token=b"token", tokens=(b"", b""), next_number=1):
     columns = text(identifier), account, text(token), *map(text, tokens), next_number.to_bytes(8, "big")
     return put_row(17, b"", b"".join(columns))
@@ -225,9 +230,10 @@ def set_row(which=0, cost=110000, nonce=b"6e", keys=bytes(96)):
     return put_row(18, bytes([which]), cost.to_bytes(4, "big") + text(nonce) + keys)
 
 
-def item_row(number, uuid, now=b"\1", kind=b"Note"):
+def item_row(number, uuid, now=b"\1", kind=b"Note", stamp=None, stale=False, base=b"\0", posted=b"\0"):
     """A row without a base, whose draft is a deletion where nothing else is said."""
-    columns = uuids.UUID(uuid).bytes, text(kind), b"\0", bytes(8), b"\0", b"\0", now, b"\0"
+    version = bytes([stamp is not None]) + (stamp or 0).to_bytes(8, "big") + bytes([stale])
+    columns = uuids.UUID(uuid).bytes, text(kind), version, base, now, posted
     return put_row(19, number.to_bytes(8, "big"), b"".join(columns))
 
 
