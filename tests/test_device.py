@@ -227,6 +227,8 @@ class TwoDevices(Case):
             self.assertEqual(len(a.list()), 201)
             self.assertEqual({uuid: row.base for uuid, row in a.items().items()}, wanted)
             self.assertIn('%s clean 7 "Tag \\"x\\""' % items[7]["uuid"], a.list())
+            a.edit(items[7]["uuid"], '{"title":"x"}')
+            self.assertIn('%s draft 13 "Tag \\"x\\""' % items[7]["uuid"], a.list())
 
     def sealed(self, n, keys, cost, nonce):
         uuid = "00000000-0000-4000-9000-%012x" % n
@@ -424,6 +426,16 @@ class Refused(Case):
             device.sync()
             self.assertEqual(device.list(), [])
             self.refused(device.run("del", "--uuid", uuid), 3, "client.2 NoItem " + uuid)
+
+    def test_an_item_that_is_dropped(self):
+        """It was never sent, so it goes where it is deleted, and is none then."""
+        device = self.device()
+        uuid = device.put("{}")
+        device.delete(uuid)
+        self.assertEqual(device.list(), [])
+        device.before = held(device)
+        for command in ("edit", "del", "list"):
+            self.stays(device, device.run(command, "--uuid", uuid, given=b"{}"), "client.2 NoItem " + uuid)
 
     def closed(self):
         """The content and the key of an item, sealed under a set that the device doesn't have."""
@@ -671,6 +683,8 @@ class ServerRefuses(Case):
                 device = Device(self.path(command + identifier), server.port)
                 self.refused(device.run(command, "--identifier", identifier, given=b"p\n"), 10, line)
                 self.assertEqual(device.rows(), {})
+            # A device that was refused since there is no such account may begin it.
+            Device(self.path("signinbob"), server.port).register("bob", PASSWORD)
 
     def test_a_session_that_is_over(self):
         with serving.Served(self.path("server")) as server:
@@ -687,6 +701,7 @@ class ServerRefuses(Case):
     def test_any_status_and_tag(self):
         for status, body, line in (
             (503, {"error": {"tag": "memory"}}, "server 503 memory"),
+            (401, {"error": {"tag": "bad-auth"}}, "server 401 bad-auth"),
             (418, {"error": {"tag": "t", "number": 1, "more": []}}, "server 418 t"),
             (201, {"error": {"tag": ""}}, "server 201 "),
         ):
