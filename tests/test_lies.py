@@ -26,8 +26,13 @@ def without(name):
     return body({member: value for member, value in scripted.sync_body().items() if member != name})
 
 
-def conflict(item, **members):
-    return {"type": "sync_conflict", "server_item": scripted.stored(item, **members)}
+def of_kind(kind, given):
+    """A conflict that gives an item: the server's version, or in other kinds what it didn't take."""
+    return {"type": kind, "server_item" if kind == "sync_conflict" else "unsaved_item": given}
+
+
+def conflict(item):
+    return of_kind("sync_conflict", scripted.stored(item))
 
 
 def deleted(item):
@@ -92,7 +97,7 @@ class Lying(Case):
         ("conflicts that are no list", body({**scripted.sync_body(), "conflicts": {}}), "member conflicts"),
         ("saved items that are no list", body({**scripted.sync_body(), "saved_items": {}}), "member saved_items"),
         ("a cursor that is no text", says(cursor=lambda item: 1), "member cursor_token"),
-        ("an item in a conflict of another kind", says(conflicts=lambda item: [{"type": "other", "unsaved_item": scripted.stored(item)}]), "member type"),
+        ("an item in a conflict of another kind", says(conflicts=lambda item: [of_kind("other", scripted.stored(item))]), "member type"),
         ("a conflict of another kind", body(scripted.sync_body(conflicts=[{"type": "x"}])), "member type"),
         ("a stamp out of form", says(saved=lambda item: [{**scripted.stored(item), "updated_at": "now"}]), "member updated_at"),
         ("a uuid out of form", says(saved=lambda item: [scripted.stored({**item, "uuid": "x"})]), "member uuid"),
@@ -105,7 +110,7 @@ class Lying(Case):
         ("saved and in a conflict", says(saved=lambda item: [scripted.stored(item)], conflicts=lambda item: [conflict(item)]), "conflict 0"),
         ("a conflict of another uuid", says(conflicts=another_conflict), "conflict 0"),
         ("a conflict twice", says(conflicts=lambda item: [conflict(other_string(item))] * 2), "conflict 1"),
-        ("conflicts of two kinds", says(conflicts=lambda item: [conflict(deleted(item)), {"type": "content_error", "unsaved_item": scripted.stored(item)}]), "conflict 1"),
+        ("conflicts of two kinds", says(conflicts=lambda item: [conflict(deleted(item)), of_kind("content_error", scripted.stored(item))]), "conflict 1"),
         ("a conflict's string out of form", says(conflicts=lambda item: [conflict({**item, "content": "x"})]), "conflict 0"),
         ("saved, and then the conflict", says(saved=lambda item: [scripted.stored(another(item))], conflicts=another_conflict), "saved 0"),
         ("saved, and then the others", says(saved=lambda item: [scripted.stored(exchanged(item))], conflicts=another_conflict, retrieved=no_string), "saved 0"),
@@ -179,7 +184,7 @@ class Lying(Case):
                 (item,) = asked.json()["items"]
                 said.append(item)
                 if len(said) == 1:
-                    return scripted.answer(200, scripted.sync_body(conflicts=[{"type": kind, "unsaved_item": item}]))
+                    return scripted.answer(200, scripted.sync_body(conflicts=[of_kind(kind, item)]))
                 return scripted.answer(200, scripted.sync_body([scripted.stored(item)]))
 
             with scripted.Scripted(answers) as server:
@@ -283,12 +288,9 @@ class Arbitrary(Case):
         found = self.STRINGS[choice.strings]({**sent, "content_type": choice.kind})
         return scripted.stored(found if choice.is_drafts else {**found, "uuid": UUID}, choice.stamp)
 
-    def conflict(self, kind, choice, sent):
-        return {"type": kind, {"sync_conflict": "server_item"}.get(kind, "unsaved_item"): self.item(choice, sent)}
-
     def answer(self, conflicts, retrieved, saved, sent):
         """An answer's bytes, one in four with an arbitrary byte somewhere."""
-        lists = {"conflicts": [self.conflict(*each, sent) for each in conflicts]}
+        lists = {"conflicts": [of_kind(kind, self.item(choice, sent)) for kind, choice in conflicts]}
         lists |= {name: [self.item(each, sent) for each in those] for name, those in (("retrieved", retrieved), ("saved", saved))}
         data = bytearray(scripted.answer(200, scripted.sync_body(cursor=self.draw.choice((None, None, None, "Mjox")), **lists)))
         if self.draw.random() < 0.25:
