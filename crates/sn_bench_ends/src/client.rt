@@ -17,7 +17,7 @@ use uuid::Uuid;
 #[derive(Drop)]
 pub(crate) struct Client {
     alloc: Global,
-    device: Option<Device<MemDisk>>,
+    device: Option<Box<Device<MemDisk>>>,
 }
 
 // Its rows are sound, whatever happens; no more of them is known.
@@ -26,7 +26,7 @@ impl Model for Client {
 
     ghost view = { λ _. tt };
 
-    ghost invariant = { λ client. IfSome client.device (λ device. IsSound (device_rows device)) };
+    ghost invariant = { λ client. IfSome client.device (λ device. IsSound (device_rows device.value)) };
 }
 
 /// A disk without bytes.
@@ -50,7 +50,7 @@ impl Client {
         match Device::load(alloc, disk, COST) {
             Ok(device) => Some(Client {
                 alloc,
-                device: Some(device),
+                device: Some(Box::new(alloc, device).ok()?),
             }),
             Err(_) => None,
         }
@@ -60,7 +60,7 @@ impl Client {
     fn taken(&mut self) -> Option<Device<MemDisk>>
         ensures { IfSome result (λ device. IsSound (device_rows device)) }
     {
-        self.device.take()
+        Some(Box::into_inner(self.device.take()?))
     }
 
     // Puts the device back behind a call, and gives what that gave.
@@ -69,7 +69,7 @@ impl Client {
     {
         match called {
             Called::Done(device, given) => {
-                self.device = Some(device);
+                self.device = Some(Box::new(self.alloc, device).ok()?);
                 Some(given)
             }
             _ => None,

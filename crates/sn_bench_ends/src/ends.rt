@@ -20,7 +20,7 @@ const NOW: u64 = 1_700_000_000_000_000;
 #[derive(Drop)]
 pub(crate) struct Ends {
     alloc: Global,
-    link: ServingLink,
+    link: Box<ServingLink>,
     words: Words,
     device: Client,
     items: Vec<Uuid>,
@@ -32,7 +32,7 @@ impl Ends {
         let mut words = Words::from_seed(SEED);
         let mut link = fresh_link(alloc, &mut words)?;
         let mut device = Client::fresh(alloc)?;
-        device.register(&mut link, &mut words)?;
+        device.register(&mut *link, &mut words)?;
         Some(Ends {
             alloc,
             link,
@@ -65,7 +65,7 @@ impl Ends {
     }
 
     pub(crate) fn sync(&mut self) -> Option<()> {
-        self.device.sync(&mut self.link, &mut self.words)
+        self.device.sync(&mut *self.link, &mut self.words)
     }
 
     /// The device is loaded again of its disk.
@@ -90,8 +90,8 @@ impl Ends {
     /// Another device, which signs in and gets what the server has.
     pub(crate) fn another(&mut self) -> Option<Client> {
         let mut device = Client::fresh(self.alloc)?;
-        device.sign_in(&mut self.link, &mut self.words)?;
-        device.sync(&mut self.link, &mut self.words)?;
+        device.sign_in(&mut *self.link, &mut self.words)?;
+        device.sync(&mut *self.link, &mut self.words)?;
         Some(device)
     }
 
@@ -101,9 +101,10 @@ impl Ends {
 }
 
 // A link to a server on an empty disk.
-fn fresh_link(alloc: Global, words: &mut Words) -> Option<ServingLink> {
+fn fresh_link(alloc: Global, words: &mut Words) -> Option<Box<ServingLink>> {
     let server = fresh_server(alloc, words)?;
-    Some(ServingLink::new(Held::Open(server), NOW, Losses::none()))
+    let link = ServingLink::new(Held::Open(server), NOW, Losses::none());
+    Box::new(alloc, link).ok()
 }
 
 fn fresh_server(alloc: Global, words: &mut Words) -> Option<Server<MemDisk>>

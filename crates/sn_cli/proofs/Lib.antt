@@ -1,6 +1,5 @@
 pub mod Accepting
 pub mod DeviceRuns
-pub mod GenLemmas
 pub mod MeetsLemmas
 pub mod RunLemmas
 pub mod ShownLemmas

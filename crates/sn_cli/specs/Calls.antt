@@ -12,17 +12,13 @@ use Rattle.sn_items.specs.Opens.{Opens}
 use Rattle.sn_items.specs.Refusals.{HasCause}
 use Rattle.sn_items.specs.Seals.{IsSealed}
 use Rattle.sn_items.specs.declared.error.ItemError.{ItemError}
-use Rattle.sn_course.specs.Headline.{CarriesHeadline, IsNotAllowed, PasswordsApart, moves_in, shelf_slots}
+use Rattle.sn_course.specs.Headline.{CarriesHeadline, IsNotAllowed, shelf_slots}
 use Rattle.sn_disk.specs.declared.mem_shelf.MemShelf.{MemShelf}
-use Rattle.sn_generator.specs.Generated.{IsGenerated}
-use Rattle.sn_laws.specs.Runs.{Legal}
-use Rattle.sn_laws.specs.declared.moves.Move.{Move}
+use Rattle.sn_gen.specs.Sums.{IsStopped, IsSummed}
 use Rattle.sn_report.specs.Text.{report_text}
 use Rattle.sn_report.specs.declared.report.Report.{Report}
 use Rattle.sn_script.specs.Scripts.{IsScript, IsFirstWrong}
 use Rattle.sn_script.specs.declared.script.Script.{Script}
-use Rattle.sn_summary.specs.Summaries.{IsSummaryOf, summary_text}
-use Rattle.sn_summary.specs.declared.summary.Summary.{Summary}
 use Rattle.sn_string.specs.Grammar.{parts_of}
 use Rattle.sn_string.specs.Refusals.{RefusedFor}
 use Rattle.sn_string.specs.declared.params.Params.{Params}
@@ -97,17 +93,9 @@ ReplayRefuses text (NotAllowed number) = (script : Script) × IsScript text scri
 ReplayRefuses text (PasswordLine length) = ⊥
 ReplayRefuses text (Client refusal) = ⊥
 
--- `gen` calls for the summary of the report that the script of its number and its count carries over the disks that it leaves on this shelf in memory. That script has
--- one password alone, so of the premises of its report it meets that of passwords, whatever the moves are.
-pub record GenCallsFor (memory_shelf : MemShelf) (line : GenLine) (output : List ℕ) : Type 0 where
-  pub script : Script
-  pub generated : IsGenerated line.number line.count script
-  pub apart : (moves : List Move) → PasswordsApart script moves
-  pub report : Report
-  pub carries : CarriesHeadline script (shelf_slots memory_shelf) report
-  pub summary : Summary
-  pub sums : Legal (moves_in report.events) → IsSummaryOf report summary
-  pub spelled : output ≡ summary_text summary
+-- `gen` calls for the summary of the report that the script of its number and its count carries over the disks that it leaves on this shelf in memory
+abbrev pub GenCallsFor : (memory_shelf : MemShelf) → GenLine → (output : List ℕ) → Type 0
+GenCallsFor memory_shelf line output = IsSummed memory_shelf line.number line.count output
 
 -- or the line of this number is the first of that script that may not come
 abbrev pub GenRefuses : GenLine → Refusal → Type 0
@@ -116,6 +104,6 @@ GenRefuses line (InputUtf8 place) = ⊥
 GenRefuses line (Form refusal) = ⊥
 GenRefuses line (Item refusal) = ⊥
 GenRefuses line (Line number) = ⊥
-GenRefuses line (NotAllowed number) = (script : Script) × IsGenerated line.number line.count script × IsNotAllowed script number
+GenRefuses line (NotAllowed number) = IsStopped line.number line.count number
 GenRefuses line (PasswordLine length) = ⊥
 GenRefuses line (Client refusal) = ⊥

@@ -1,24 +1,19 @@
 // `gen`.
-ghost use Rattle.std.specs.Prelude.{◌≡◌, List, ℕ, IfOk, IsErrOf};
+ghost use Rattle.std.specs.Prelude.{◌≡◌, List, ℕ};
 ghost use Rattle.std.specs.Io.KnownBytes.{Keeps};
 ghost use Rattle.sn_io.specs.Causes.{Rose};
 ghost use Rattle.sn_command.specs.Commands.{gen_line};
 ghost use Rattle.sn_disk.specs.MemShelf.{shelf_slot};
 ghost use Rattle.sn_disk.specs.Shelf.{unknown};
-ghost use Rattle.sn_replay.specs.declared.error.ReplayError.TheVariants as refused;
-ghost use Rattle.sn_status.specs.declared.refusal.Refusal.TheVariants.{NotAllowed};
-ghost use Rattle.sn_cli.specs.Calls.{GenCallsFor, GenRefuses};
 ghost use Rattle.sn_cli.specs.Runs.{GenRuns, IsOfInput, IsSilent};
 
 use crate::output::write_out;
 use sn_command::GenOptions;
 use sn_disk::MemShelf;
-use sn_generator::generate;
+use sn_gen::generated_summary;
 use sn_io::Sink;
-use sn_replay::{ReplayError, replay};
+use sn_replay::ReplayError;
 use sn_status::{Refusal, Status};
-use sn_string::Text;
-use sn_summary::{summary_of, summary_text};
 use std::alloc::Global;
 
 /// Makes the script of the number, carries it out over disks that it leaves on the shelf in memory, and writes the summary of its report.
@@ -34,29 +29,11 @@ pub fn generate_and_replay<O: Sink>(
     ensures silent { IsSilent result → Keeps (O.held out.old) (O.held out.new) }
     ensures write { result ≡ Status.WriteFault → Rose (O.fault_count out.old) (O.fault_count out.new) }
 {
-    match summary_for(alloc, options, memory_shelf) {
+    match generated_summary(alloc, options.number, options.count, memory_shelf) {
         Ok(summary) => write_out(out, summary.as_str().as_bytes()),
         Err(ReplayError::NotAllowed { number }) => {
             Status::Refused(Refusal::NotAllowed { number })
         }
         Err(ReplayError::Memory) => Status::Memory,
     }
-}
-
-// The summary of the report that the script of the number carries over the disks that it leaves.
-fn summary_for(
-    alloc: Global,
-    options: &GenOptions,
-    memory_shelf: &mut MemShelf,
-) -> Result<Text, ReplayError>
-    requires fresh { (name : List ℕ) → shelf_slot memory_shelf.old name ≡ unknown }
-    ensures called { IfOk result (GenCallsFor memory_shelf.new (gen_line options.now)) }
-    ensures refused { (number : ℕ) → IsErrOf result (refused.NotAllowed number) → GenRefuses (gen_line options.now) (NotAllowed number) }
-    ensures untouched { (number : ℕ) → IsErrOf result (refused.NotAllowed number) → memory_shelf.new ≡ memory_shelf.old }
-{
-    let script = generate(alloc, options.number, options.count)?;
-    let report = replay(alloc, &script, memory_shelf)?;
-    let summary = summary_of(alloc, &report)?;
-    let text = summary_text(alloc, &summary)?;
-    Ok(text)
 }
