@@ -11,22 +11,22 @@ import sys
 TOP = os.path.normpath(os.path.join(os.path.dirname(os.path.realpath(__file__)), ".."))
 
 
-def module_of(name, path):
-    loader = importlib.machinery.SourceFileLoader(name, path)
-    module = importlib.util.module_from_spec(importlib.util.spec_from_loader(name, loader))
-    sys.modules[name] = module
+def toolchain():
+    """The toolchain's own account of crates and of what they are made from."""
+    path = os.path.join(os.path.dirname(os.path.realpath(shutil.which("rt"))), "rtlib.py")
+    loader = importlib.machinery.SourceFileLoader("rtlib", path)
+    module = importlib.util.module_from_spec(importlib.util.spec_from_loader("rtlib", loader))
+    sys.modules["rtlib"] = module
     loader.exec_module(module)
     return module
 
 
 def mark(top):
     """The names of the crates whose libraries are marked."""
-    tools = os.path.dirname(os.path.realpath(shutil.which("rt")))
-    module_of("rtlib", os.path.join(tools, "rtlib.py"))
     os.chdir(top)
     marked = []
-    for crate in module_of("rt_command", os.path.join(tools, "rt")).crates_of(top):
-        if crate.makes_rlib() and os.path.isfile(os.path.join(crate.rlib, "format")):
+    for crate in toolchain().crates_below(top):
+        if os.path.isfile(os.path.join(crate.rlib, "format")):
             with open(os.path.join(os.path.dirname(crate.rlib), "stamp"), "w") as file:
                 file.write(crate.stamp())
             marked.append(crate.name)
