@@ -40,20 +40,17 @@ class Faulty(unittest.TestCase):
 
 
 class Disk(Faulty):
-    """A first load makes eleven calls on the file that change it or wait for it, and a commit four, each a write and then a sync
-    but for the first: the sync of the load."""
+    """A first load makes eleven calls on the file that change it or wait for it, and a commit four: first a sync, and then each time a
+    write and a sync."""
 
     LOAD, COMMIT = 11, 4
     # The write of the open gate behind which the account stands.
     GATE = LOAD + 2
 
     def parts(self, call):
-        """How much is done of a write that fails. A sync that fails leaves the bytes as they are: that the write before it got lost
-        is as if that had failed."""
-        return (0, 1, 2) if self.is_write(call) else (0,)
-
-    def is_write(self, call):
-        return call % 2 == (1 if call < self.LOAD else 0) if call != self.LOAD else True
+        """How much is done of a write that fails: nothing, half its bytes, or all. A sync that fails leaves the bytes as they are, and
+        if the write before it got lost, that is as if it had failed with nothing done."""
+        return (0, 1, 2) if call % 2 else (0,)
 
     def fails(self, store, call, part):
         """The server whose call of this number fails ends, and has answered nothing."""

@@ -88,6 +88,8 @@ ALICE = register("alice@example.org", "4c6f")
 
 # ---- answers, as a line
 
+CONFLICTS = {"sync_conflict": "stored", "uuid_conflict": "foreign", "content_error": "unread"}
+
 
 def short(stamp):
     """A stamp as a number from BASE on, but for 0, which stands for none, and the last one of all."""
@@ -110,9 +112,8 @@ def told(text):
         return "token " + body["token"]
     if "identifier" in body:
         return "%s %d %s" % (body["identifier"], body["pw_cost"], body["pw_nonce"])
-    kinds = {"sync_conflict": ("stored", "server_item"), "uuid_conflict": ("foreign", "unsaved_item"), "content_error": ("unread", "unsaved_item")}
     line = "".join(shown("saved", item) for item in body["saved_items"])
-    line += "".join(shown(kinds[each["type"]][0], each[kinds[each["type"]][1]]) for each in body["conflicts"])
+    line += "".join(shown(CONFLICTS[each["type"]], each[messages.PLACES[each["type"]]]) for each in body["conflicts"])
     line += "".join(shown("retrieved", item) for item in body["retrieved_items"])
     token = body["sync_token"]
     assert body["cursor_token"] in (None, token)

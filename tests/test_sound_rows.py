@@ -9,7 +9,7 @@ import independent
 import program
 import rule
 import serving
-from test_serve import Answers, raw
+import test_serve
 
 PART = independent.params_part("alice@example.org", 110000, "4c6f")
 
@@ -121,7 +121,8 @@ class Rows(unittest.TestCase):
         for name, change in STILL_SOUND.items():
             for path in self.each_way(change):
                 with self.subTest(name), serving.Served(path, 1) as server:
-                    self.assertEqual(raw(server.port, Answers.TABLE[0][0]), Answers.TABLE[0][1])
+                    given, wanted = test_serve.Answers.TABLE[0]
+                    self.assertEqual(test_serve.raw(server.port, given), wanted)
                     self.assertEqual(server.ended(), (0, b""))
 
     def test_the_first_kind_is_told(self):
