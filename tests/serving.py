@@ -13,19 +13,21 @@ import subprocess
 import tempfile
 
 import independent
+import journal
 import program
 
 MOST_REQUESTS = 1_000_000
 
 
 class Served:
-    """A server over one store, in a process of its own, which gets no more memory than is said. The system chooses the port."""
+    """A server over one store, in a process of its own, which gets no more memory than is said, and these names of the
+    environment besides. The system chooses the port."""
 
-    def __init__(self, store, requests=MOST_REQUESTS, port=0, memory=None):
+    def __init__(self, store, requests=MOST_REQUESTS, port=0, memory=None, environment=()):
         words = ["serve", "--store", store, "--port", str(port), "--requests", str(requests)]
         pipes = dict(stdin=subprocess.DEVNULL, stdout=subprocess.PIPE, stderr=subprocess.PIPE)
         limits = None if memory is None else lambda: resource.setrlimit(resource.RLIMIT_AS, (memory, memory))
-        self.process = subprocess.Popen([program.SN] + words, preexec_fn=limits, **pipes)
+        self.process = subprocess.Popen([program.SN] + words, preexec_fn=limits, env={**os.environ, **dict(environment)}, **pipes)
         line = self.process.stdout.readline()
         self.port = int(line.split()[1]) if line.startswith(b"listening ") else None
 
@@ -56,6 +58,15 @@ class Store:
 
     def __exit__(self, *raised):
         shutil.rmtree(self.folder)
+
+
+def make_store(path, *payloads):
+    """Writes the file of a server's store, of these batches."""
+    with open(path, "wb") as file:
+        file.write(journal.MAGIC + b"S1")
+        for payload in payloads:
+            file.write(b"\1" + len(payload).to_bytes(4, "big") + payload)
+        file.write(b"\0")
 
 
 class Client:

@@ -14,10 +14,17 @@ CLOSING = ["sync A", "sync B", "sync A"]
 # The events that the rules make, worked out by hand.
 EVENTS_1 = ["sync A", 'put A {"n":2}', 'put B {"n":3}', 'edit B #2 {"n":4}', 'put A {"n":5}', 'put A {"n":6}', "sync B drop-reply", 'put A {"n":8}']
 WORKED = {(1, 3): (8, 2, 2, 0, 0), (1, 8): (13, 5, 5, 0, 0)}
+# Others: the bounds of the number, an edit that is a put where its device put none, and edits of what each device put last.
+EVENTS = {
+    (0, 1): ['put B {"n":1}'],
+    (65536, 1): ['put A {"n":1}'],
+    (6, 4): ['put B {"n":1}', "sync B", "sync A drop-reply", 'put A {"n":4}'],
+    (19, 6): ['put B {"n":1}', 'put A {"n":2}', 'put B {"n":3}', 'edit B #3 {"n":4}', 'put A {"n":5}', 'edit A #4 {"n":6}'],
+}
 
 # Numbers and counts: the bounds, each kind of first event, and lengths at which devices' requests are cut into several.
-MADE = [(0, 1), (0, 2), (0, 40), (1, 1), (1, 8), (2, 100), (3, 7), (4, 60), (5, 61), (6, 62), (7, 63), (7, 300), (8, 9), (149, 25)]
-MADE += [(11249, 12), (57305, 13), (31337, 700), (65535, 100), (65536, 1), (65536, 33), (65536, 500)]
+MADE = [*EVENTS, (0, 2), (0, 40), (1, 1), (1, 8), (2, 100), (3, 7), (4, 60), (5, 61), (6, 62), (7, 63), (7, 300), (8, 9), (149, 25)]
+MADE += [(11249, 12), (57305, 13), (31337, 700), (65535, 100), (65536, 33), (65536, 500)]
 
 
 def events(number, count):
@@ -88,6 +95,8 @@ class Made(unittest.TestCase):
     def test_the_worked_scripts(self):
         for count in range(1, len(EVENTS_1) + 1):
             self.assertEqual(events(1, count), EVENTS_1[:count])
+        for (number, count), lines in EVENTS.items():
+            self.assertEqual(events(number, count), lines)
         for (number, count), summary in WORKED.items():
             self.writes(number, count, summary)
 

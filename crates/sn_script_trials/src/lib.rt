@@ -1,5 +1,5 @@
-//! Tests of scripts, reports and moves, by the public calls of their crates. They stand above these, since a crate with tests of its own
-//! is proved twice. There is nothing else here.
+//! Tests of scripts, reports and moves, by the public calls of their crates, of what no run of the program shows. They stand above
+//! these, since a crate with tests of its own is proved twice. There is nothing else here.
 #![tactic(auto)]
 
 #[cfg(test)]
@@ -10,10 +10,6 @@ mod laws;
 mod moves;
 #[cfg(test)]
 mod report;
-#[cfg(test)]
-mod script;
-#[cfg(test)]
-mod shown;
 #[cfg(test)]
 mod summary;
 #[cfg(test)]

@@ -1,13 +1,11 @@
-//! Batches whose moves were worked out by hand.
+//! A batch whose moves were worked out by hand, with such as no run of the program says: what another account's uuids make of items.
 
 use sn_laws::Move;
-use sn_moves::{Done, foreign_in, moves_for, moves_of};
+use sn_moves::{Done, foreign_in, moves_of};
 use sn_row_map::RowMap;
-use sn_rows::{
-    AccountRow, Boxed, Change, ItemRow, Key, LocalItem, Row, RowBody, RowStrings, Value,
-};
+use sn_rows::{Boxed, Change, Key, LocalItem, Row, RowBody, RowStrings, Value};
 use sn_string::{OwnedList, Text};
-use sn_sync::{Answer, Body, Conflict, Item, Request};
+use sn_sync::{Answer, Body, Conflict, Item};
 use std::alloc::{AllocError, Global};
 use std::test::Fail;
 use uuid::Uuid;
@@ -60,13 +58,9 @@ fn put(alloc: Global, number: u64, row: LocalItem) -> Result<Change, Fail> {
 
 fn word_of(said: &Move) -> &'static str {
     match said {
-        Move::Accept { .. } => "accept",
         Move::Drop { .. } => "drop",
-        Move::Edit { .. } => "edit",
         Move::Fork { .. } => "fork",
         Move::GiveWay { .. } => "giveway",
-        Move::Join { .. } => "join",
-        Move::Post { .. } => "post",
         Move::Rename { .. } => "rename",
         Move::Settle { .. } | Move::SettlePosted { .. } => "settle",
         _ => "other",
@@ -77,16 +71,12 @@ fn first(uuid: &Uuid) -> u64 {
     u64::from(uuid.as_bytes()[0])
 }
 
-// The number of the uuid that a move is of, or of the set that a device joins by.
+// The number of the uuid that a move is of.
 fn number_of(said: &Move) -> u64 {
     match said {
-        Move::Join { number, .. } => *number,
-        Move::Accept { uuid, .. }
-        | Move::Drop { uuid, .. }
-        | Move::Edit { uuid, .. }
+        Move::Drop { uuid, .. }
         | Move::Fork { uuid, .. }
         | Move::GiveWay { uuid, .. }
-        | Move::Post { uuid, .. }
         | Move::Rename { uuid, .. }
         | Move::Settle { uuid, .. }
         | Move::SettlePosted { uuid, .. } => first(uuid),
@@ -97,9 +87,6 @@ fn number_of(said: &Move) -> u64 {
 // What stands behind that number.
 fn rest_of(alloc: Global, said: &Move) -> Result<String, AllocError> {
     match said {
-        Move::Accept { stamp, under, .. } => {
-            format!(in alloc; " @{stamp} {}", under.unwrap_or(0))
-        }
         Move::Fork { other, .. } | Move::Rename { other, .. } => {
             format!(in alloc; " {}", first(other))
         }
@@ -157,12 +144,6 @@ const ANSWERED: [Written; 12] = [
     (11, 11, 0, "copy", ""),
     (8, 0, 0, "", ""),
 ];
-
-const EDITED: [Written; 1] = [(7, 7, 5, "draft", "")];
-
-const DELETED: [Written; 1] = [(7, 7, 5, "gone", "")];
-
-const POSTED: [Written; 2] = [(1, 1, 5, "draft", "draft"), (2, 2, 5, "gone", "gone")];
 
 fn change(alloc: Global, written: &Written) -> Result<Change, Fail> {
     let (number, uuid, base, latest, posted) = *written;
@@ -243,82 +224,5 @@ fn says_an_answer(rt: HostRuntime) -> Result<(), Fail> {
     let want =
         "fork 1 9, giveway 2, settle 3 @8, settle 3, drop 4, settle 5, rename 6 16, fork 8 11";
     assert!(rt; is_said(rt.alloc(), &Done::Applies { foreign }, &ANSWERED, want)?);
-    Ok(())
-}
-
-#[test]
-fn says_an_edit(rt: HostRuntime) -> Result<(), Fail> {
-    let text = Text::of(rt.alloc(), "{}")?;
-    assert!(rt; is_said(rt.alloc(), &Done::Edits { text }, &EDITED, "edit 7")?);
-    Ok(())
-}
-
-#[test]
-fn says_a_deletion(rt: HostRuntime) -> Result<(), Fail> {
-    assert!(rt; is_said(rt.alloc(), &Done::Deletes, &DELETED, "edit 7")?);
-    Ok(())
-}
-
-#[test]
-fn says_posts(rt: HostRuntime) -> Result<(), Fail> {
-    assert!(rt; is_said(rt.alloc(), &Done::Posts, &POSTED, "post 1, post 2")?);
-    Ok(())
-}
-
-fn stored(alloc: Global, uuid: u8, deleted: bool) -> Result<Change, Fail> {
-    let row = ItemRow::new(alloc, 1, "Note", 3, 7, deleted, "content", "key")?;
-    Ok(Change::Put(Row {
-        key: Key::Item(named(uuid)),
-        value: Value::Item(row.ok_or("item")?),
-    }))
-}
-
-// A version and a deletion.
-fn stored_both(alloc: Global) -> Result<Vec<Change>, Fail> {
-    let mut changes = Vec::new(alloc);
-    changes.push(stored(alloc, 1, false)?)?;
-    changes.push(stored(alloc, 2, true)?)?;
-    Ok(changes)
-}
-
-fn account(alloc: Global) -> Result<Change, Fail> {
-    let identifier = Text::of(alloc, "a@b")?;
-    let account = AccountRow::new(identifier, 2, [0; 32]).ok_or("account")?;
-    Ok(Change::Put(Row {
-        key: Key::Account(1),
-        value: Value::Account(Boxed::of(alloc, account)?),
-    }))
-}
-
-fn server_rows(alloc: Global) -> Result<RowMap, Fail> {
-    let mut changes = Vec::new(alloc);
-    changes.push(account(alloc)?)?;
-    Ok(rows(alloc, changes)?)
-}
-
-fn request(alloc: Global) -> Result<Request, AllocError> {
-    let token = Text::of(alloc, "t")?;
-    Ok(Request::Sync {
-        token,
-        items: OwnedList::new(alloc),
-        limit: 1,
-        sync_token: None,
-        cursor_token: None,
-    })
-}
-
-fn said_for(alloc: Global, request: &Request, changes: &[Change]) -> Result<String, Fail> {
-    let rows = server_rows(alloc)?;
-    let name = Text::of(alloc, "a")?;
-    let moves = moves_for(alloc, &rows, &name, None, request, changes)?;
-    Ok(lines(alloc, moves.as_slice())?)
-}
-
-#[test]
-fn says_a_server(rt: HostRuntime) -> Result<(), Fail> {
-    let changes = stored_both(rt.alloc())?;
-    let request = request(rt.alloc())?;
-    let said = said_for(rt.alloc(), &request, &changes)?;
-    assert!(rt; said.as_str() == "accept 1 @7 2, accept 2 @7 0");
     Ok(())
 }

@@ -4,7 +4,7 @@ use crate::written::{moves_of, number, pieces_of};
 use sn_laws::{Move, first_illegal};
 use sn_report::{Event, Last, Report};
 use sn_string::OwnedList;
-use sn_summary::{Summary, summary_of, summary_text};
+use sn_summary::{Summary, summary_of};
 use std::alloc::{AllocError, Global};
 use std::test::Fail;
 use tables::REPORTS;
@@ -68,26 +68,5 @@ fn summarizes(rt: HostRuntime) -> Result<(), Fail> {
             assert!(rt; is_right(rt.alloc(), line)?, "at {line}");
         }
     }
-    Ok(())
-}
-
-#[test]
-fn no_moves(rt: HostRuntime) -> Result<(), Fail> {
-    assert!(rt; is_summarized(rt.alloc(), "", "0 0 0 0")?);
-    Ok(())
-}
-
-#[test]
-fn writes(rt: HostRuntime) -> Result<(), Fail> {
-    let summary = Summary {
-        events: 13,
-        items: 5,
-        versions: 0,
-        forks: u64::MAX,
-        drafts: 1,
-    };
-    let text = summary_text(rt.alloc(), &summary)?;
-    let want = "events 13\nitems 5\nversions 0\nforks 18446744073709551615\ndrafts 1\n";
-    assert!(rt; text.as_str() == want);
     Ok(())
 }

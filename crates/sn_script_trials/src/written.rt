@@ -4,11 +4,11 @@
 //! `accept DEVICE ITEM STAMP SET`, `settle DEVICE ITEM`, `drop DEVICE ITEM`, `unpost DEVICE ITEM`,
 //! `rewrap ITEM STAMP SET`, `settle-posted DEVICE ITEM STAMP`, `fork DEVICE ITEM OTHER`, `rename DEVICE ITEM OTHER`,
 //! `give-way DEVICE ITEM`, `change IDENTIFIER NONCE NUMBER`, `retire DEVICE SET`. An account's first set has the nonce 6e.
-//! An item is a uuid, or the last byte of one whose others are 0. A base or a set is `-` for none. A text is `deleted` for
-//! a deletion, and `*N` for an object text of N bytes.
+//! An item is the last byte of a uuid whose others are 0. A base or a set is `-` for none. A text is `deleted` for a
+//! deletion, and `*N` for an object text of N bytes.
 
 use sn_laws::{Content, Move};
-use sn_string::{KeySet, OwnedList, Params, Text, uuid_of};
+use sn_string::{KeySet, OwnedList, Params, Text};
 use std::alloc::{AllocError, Global};
 use std::test::Fail;
 use uuid::Uuid;
@@ -51,11 +51,7 @@ pub fn numbered(number: u8) -> Uuid {
 }
 
 fn item(words: &[&str], place: usize) -> Result<Uuid, Fail> {
-    let word = word(words, place);
-    match uuid_of(word) {
-        Some(uuid) => Ok(uuid),
-        None => Ok(numbered(word.parse::<u8>()?)),
-    }
+    Ok(numbered(word(words, place).parse::<u8>()?))
 }
 
 fn set_of(alloc: Global, identifier: &str, nonce: &str) -> Result<KeySet, Fail> {

@@ -2,6 +2,7 @@
 //! definitions; `-` where each move is legal. A place counts the moves from 0.
 
 pub const LISTS: &str = r#"
+|-
 register alice|-
 register alice;register bob|-
 register alice;register alice|1
@@ -49,6 +50,7 @@ register alice;join A alice 1;edit A 1 Note - {};post A 1;accept A 1 1000 -|4
 register alice;join A alice 1;edit A 1 Note - {};post A 1;accept A 1 253402300799999999 1|-
 register alice;join A alice 1;edit A 1 Note - {};post A 1;accept A 1 253402300800000000 1|4
 register alice;join A alice 1;edit A 1 Note - {};post A 1;accept A 1 1000 1;accept A 1 1001 1|5
+register alice;join A alice 1;edit A 1 Note - {};post A 1;edit A 1 Note - {"n":2};accept A 1 1000 1;accept A 1 1001 1|6
 register alice;join A alice 1;edit A 1 Note - {};edit A 2 Note - {};post A 1;post A 2;accept A 2 1000 1;accept A 1 1001 1|-
 register alice;join A alice 1;edit A 1 Note - {};edit A 2 Note - {};post A 1;post A 2;accept A 1 1000 1;accept A 2 1000 1|7
 register alice;join A alice 1;edit A 1 Note - {};edit A 2 Note - {};post A 1;post A 2;accept A 1 1000 1;accept A 2 999 1|7

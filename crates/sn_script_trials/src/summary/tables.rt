@@ -2,6 +2,7 @@
 //! out by hand from the definitions.
 
 pub const REPORTS: &str = r#"
+|0 0 0 0
 register alice;join A alice 1|0 0 0 0
 register alice;join A alice 1;edit A 1 Note - {}|0 0 0 1
 register alice;join A alice 1;edit A 1 Note - {};edit A 1 Note - {"n":2}|0 0 0 1
