@@ -19,9 +19,9 @@ import independent
 import journal
 import messages
 import program
+import random_requests
 import rule
 import serving
-import test_rule
 from test_serve import answer, raw
 
 PATHS = {"register": "/auth", "params": "/auth/params", "sign_in": "/auth/sign_in", "change_pw": "/auth/change_pw", "sync": "/items/sync"}
@@ -384,7 +384,7 @@ class Drawn(Rules):
         draw, tags = random.Random(int(os.environ.get("SN_SEED", "20190520"))), set()
         for history in range(self.HISTORIES):
             self.begin(draw.choice([BASE, rule.LAST_STAMP - 10]), draw.randbytes(32))
-            client = test_rule.Client(draw, self.model)
+            client = random_requests.Client(draw, self.model)
             with self.subTest(history=history), self.served():
                 for _ in range(self.LENGTH):
                     status, text = self.takes(client.next()[:3])

@@ -5,7 +5,7 @@ ghost use Rattle.sn_http.specs.Answers.{answer};
 ghost use Rattle.sn_http.specs.Requests.{request};
 
 use itoa::Buffer;
-use sn_http::{Carry, Incoming, read_answer, read_message, write_answer, write_request};
+use sn_http::{Carry, Incoming, Message, read_answer, read_message, write_answer, write_request};
 use sn_io::{Failed, MemSink, Source};
 use std::alloc::{AllocError, Global};
 
@@ -77,7 +77,7 @@ fn lines_of(alloc: Global, bytes: &[u8], sizes: &[u32]) -> Result<Vec<u8>, Alloc
     let mut lines = Vec::new(alloc);
     'messages: for _ in 0..=bytes.len() {
         let incoming = read_message(alloc, &mut source, &mut carry);
-        if !push_line(&mut lines, incoming)? {
+        if !push_line(&mut lines, &incoming)? {
             break;
         }
     }
@@ -85,24 +85,14 @@ fn lines_of(alloc: Global, bytes: &[u8], sizes: &[u32]) -> Result<Vec<u8>, Alloc
 }
 
 // Whether a message may follow.
-fn push_line(lines: &mut Vec<u8>, incoming: Incoming) -> Result<bool, AllocError> {
+fn push_line(lines: &mut Vec<u8>, incoming: &Incoming) -> Result<bool, AllocError> {
     match incoming {
         Incoming::Message(message) => {
-            lines.extend_from_slice(b"message ")?;
-            push_number(lines, message.place)?;
-            push_number(lines, message.closing as u64)?;
-            push_hex(lines, message.method.as_slice())?;
-            push_hex(lines, message.target.as_slice())?;
-            push_hex(lines, message.token.as_slice())?;
-            push_hex(lines, message.body.as_slice())?;
-            lines.extend_from_slice(b"\n")?;
+            push_message(lines, message)?;
             Ok(true)
         }
         Incoming::Check { status, place } => {
-            lines.extend_from_slice(b"check ")?;
-            push_number(lines, status as u64)?;
-            push_number(lines, place)?;
-            lines.extend_from_slice(b"\n")?;
+            push_check(lines, *status, *place)?;
             Ok(false)
         }
         Incoming::End => {
@@ -115,6 +105,24 @@ fn push_line(lines: &mut Vec<u8>, incoming: Incoming) -> Result<bool, AllocError
         }
         Incoming::Memory => Err(AllocError),
     }
+}
+
+fn push_message(lines: &mut Vec<u8>, message: &Message) -> Result<(), AllocError> {
+    lines.extend_from_slice(b"message ")?;
+    push_number(lines, message.place)?;
+    push_number(lines, message.closing as u64)?;
+    push_hex(lines, message.method.as_slice())?;
+    push_hex(lines, message.target.as_slice())?;
+    push_hex(lines, message.token.as_slice())?;
+    push_hex(lines, message.body.as_slice())?;
+    lines.extend_from_slice(b"\n")
+}
+
+fn push_check(lines: &mut Vec<u8>, status: u16, place: u64) -> Result<(), AllocError> {
+    lines.extend_from_slice(b"check ")?;
+    push_number(lines, status as u64)?;
+    push_number(lines, place)?;
+    lines.extend_from_slice(b"\n")
 }
 
 fn push_number(lines: &mut Vec<u8>, number: u64) -> Result<(), AllocError> {

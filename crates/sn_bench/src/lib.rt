@@ -1,4 +1,4 @@
-//! The primitives, the keys of passwords, the journal, the rows, the table, the server's rules, HTTP, and the messages, stamps
+//! The primitives, the keys of passwords, the journal, the rows, the table, HTTP, and the messages, stamps
 //! and tokens as C functions, so that a program outside can time them beside other implementations and compare what they answer.
 //!
 //! A slice is a pointer and then a length in C, an array behind a reference a pointer, and a `Global` nothing.
@@ -12,6 +12,5 @@ mod keys;
 mod messages;
 mod pbkdf;
 mod rows;
-mod rules;
 mod stamps;
 mod table;
