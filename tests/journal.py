@@ -3,7 +3,7 @@
 MAGIC = b"SNSYNC-JOURNAL"
 LONGEST = 1 << 30
 LAST_STAMP = 253402300799999999
-KINDS = {b"S": (1, 2, 3, 4), b"D": (17, 18, 19)}
+KINDS = {b"S": (1, 2, 3, 4), b"D": (17, 18, 19), b"SD": (1, 2, 3, 4, 17, 18, 19)}
 
 
 class Foreign(Exception):
@@ -15,7 +15,7 @@ class Damaged(Exception):
 
 
 class Fault(Exception):
-    """Bytes that spell no changes."""
+    """Bytes that spell no changes; the kind of their first fault, and its place."""
 
 
 def payloads(file, owner):
@@ -42,36 +42,42 @@ def payloads(file, owner):
 
 
 class Cells:
-    """Columns, one after the other."""
+    """Columns, one after the other, of which the first begins at this place."""
 
-    def __init__(self, data):
-        self.data, self.place = data, 0
+    def __init__(self, data, begin=0):
+        self.data, self.begin, self.place = data, begin, 0
+
+    def require(self, right, kind, behind=0):
+        """Raises a fault of this kind so many bytes before this place, where this isn't right."""
+        if not right:
+            raise Fault(kind, self.begin + self.place - behind)
 
     def bytes(self, count):
-        if len(self.data) - self.place < count:
-            raise Fault("short")
+        self.require(len(self.data) - self.place >= count, "Short")
         self.place += count
         return self.data[self.place - count : self.place]
 
-    def number(self, count=8, least=0, most=(1 << 64) - 1):
+    def inner(self):
+        """The columns of so many bytes as stand before them."""
+        data = self.bytes(self.number(4))
+        return Cells(data, self.begin + self.place - len(data))
+
+    def number(self, count=8, least=0, most=(1 << 64) - 1, kind="Range"):
         value = int.from_bytes(self.bytes(count), "big")
-        if not least <= value <= most:
-            raise Fault("range")
+        self.require(least <= value <= most, kind, count)
         return value
 
     def text(self, least=0, most=33554432):
         data = self.bytes(self.number(4))
-        if not least <= len(data) <= most:
-            raise Fault("range")
+        self.require(least <= len(data) <= most, "Range", len(data))
         try:
             return data.decode()
         except UnicodeDecodeError:
-            raise Fault("range")
+            self.require(False, "Range", len(data))
 
     def token(self):
         text = self.text(1, 1024)
-        if any(not "!" <= character <= "~" for character in text):
-            raise Fault("range")
+        self.require(all("!" <= character <= "~" for character in text), "Range", len(text.encode()))
         return text
 
     def string(self):
@@ -79,8 +85,7 @@ class Cells:
         before, colon, after = text.rpartition(b":")
         if not colon:
             before, after = text, b""
-        if len(before) > 1048576 or len(after) > 8192:
-            raise Fault("range")
+        self.require(len(before) <= 1048576 and len(after) <= 8192, "Range", len(text))
         return text.decode()
 
     def flag(self):
@@ -91,8 +96,7 @@ class Cells:
         return ("none", "deleted")[kind] if kind < 2 else (self.string(), self.string())
 
     def rest(self):
-        if self.place != len(self.data):
-            raise Fault("extra")
+        self.require(self.place == len(self.data), "Extra")
 
 
 def key(kind, cells):
@@ -107,8 +111,7 @@ def item(cells):
     account = cells.number()
     kind, created, updated = cells.text(0, 255), cells.number(most=LAST_STAMP), cells.number(most=LAST_STAMP)
     deleted = cells.flag()
-    if kind == "" and not deleted:
-        raise Fault("range")
+    cells.require(kind != "" or deleted, "Range", 17)
     strings = [cells.text(0, 1048576), cells.text(0, 1048576)]
     return account, kind, created, updated, deleted, *strings
 
@@ -126,22 +129,20 @@ def value(kind, cells):
         return cells.text(1, 254), cells.bytes(16), cells.token(), cells.text(), cells.text(), cells.number()
     if kind == 18:
         return cells.number(4, least=1), cells.text(1, 256), cells.bytes(32), cells.bytes(32), cells.bytes(32)
-    columns = cells.bytes(16), cells.text(1, 255), cells.flag(), cells.number(most=LAST_STAMP), cells.flag()
-    if columns[2] == 0 and columns[3] != 0:
-        raise Fault("range")
-    return *columns, cells.body(), cells.body(), cells.body()
+    columns = cells.bytes(16), cells.text(1, 255), cells.flag(), cells.number(most=LAST_STAMP)
+    cells.require(columns[2] or columns[3] == 0, "Range", 8)
+    return *columns, cells.flag(), cells.body(), cells.body(), cells.body()
 
 
 def changes(payload, owner):
     """What a payload spells: puts as kind, key and value, removes as kind and key."""
     cells, found = Cells(payload), []
     while cells.place < len(payload):
-        put, kind = cells.number(1, 0, 1), cells.number(1)
-        if kind not in KINDS[owner]:
-            raise Fault("kind")
+        put, kind = cells.number(1, 0, 1, "Kind"), cells.number(1)
+        cells.require(kind in KINDS[owner], "Kind", 1)
         parts = []
         for column in (key, value)[: 1 + put]:
-            inner = Cells(cells.bytes(cells.number(4)))
+            inner = cells.inner()
             parts.append(column(kind, inner))
             inner.rest()
         found.append((kind, *parts))

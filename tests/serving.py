@@ -20,13 +20,20 @@ MOST_REQUESTS = 1_000_000
 
 
 class Served:
-    """A server over one store, in a process of its own, which gets no more memory than is said, and these names of the
-    environment besides. The system chooses the port."""
+    """A server over one store, in a process of its own, which gets no more memory than is said, whose files don't grow past so many
+    bytes, and which gets these names of the environment besides. The system chooses the port."""
 
-    def __init__(self, store, requests=MOST_REQUESTS, port=0, memory=None, environment=()):
+    def __init__(self, store, requests=MOST_REQUESTS, port=0, memory=None, file_limit=None, environment=()):
         words = ["serve", "--store", store, "--port", str(port), "--requests", str(requests)]
         pipes = dict(stdin=subprocess.DEVNULL, stdout=subprocess.PIPE, stderr=subprocess.PIPE)
-        limits = None if memory is None else lambda: resource.setrlimit(resource.RLIMIT_AS, (memory, memory))
+
+        def limits():
+            for which, most in ((resource.RLIMIT_AS, memory), (resource.RLIMIT_FSIZE, file_limit)):
+                if most is not None:
+                    resource.setrlimit(which, (most, most))
+            if file_limit is not None:
+                signal.signal(signal.SIGXFSZ, signal.SIG_IGN)
+
         self.process = subprocess.Popen([program.SN] + words, preexec_fn=limits, env={**os.environ, **dict(environment)}, **pipes)
         line = self.process.stdout.readline()
         self.port = int(line.split()[1]) if line.startswith(b"listening ") else None

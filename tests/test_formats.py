@@ -1,4 +1,5 @@
-"""The worked file of docs/FORMATS.md, read by the independent reader and, built as a library, by the proved one."""
+"""The worked file of docs/FORMATS.md and payloads worked out by hand, read by the independent reader and, built as a library, by the
+proved one."""
 
 import ctypes
 import os
@@ -8,6 +9,7 @@ import unittest
 
 import journal
 import program
+import row_bytes
 
 LIBRARY = os.environ.get("SN_LIBRARY")
 REFUSED = (1 << 64) - 1
@@ -53,14 +55,28 @@ class Worked(unittest.TestCase):
         self.assertEqual(refusal.exception.args, (14,))
 
 
+class Payloads(unittest.TestCase):
+    def told(self, payload):
+        try:
+            return "Ok", len(journal.changes(payload, b"SD"))
+        except journal.Fault as fault:
+            return fault.args
+
+    def test_they_are_read(self):
+        for payload, *told in row_bytes.rows():
+            self.assertEqual(self.told(payload), tuple(told), payload[:80].hex())
+
+
 @unittest.skipUnless(LIBRARY, "the proved functions are no shared library, as tests/run makes one where `cc` is installed")
 class Proved(unittest.TestCase):
     """The proved reader takes just the files that the independent one takes, and finds as many rows of a kind."""
 
     @classmethod
     def setUpClass(cls):
-        cls.range = ctypes.CDLL(LIBRARY).sn_bench_range_rows
-        cls.range.restype = ctypes.c_uint64
+        library = ctypes.CDLL(LIBRARY)
+        cls.range, cls.read, cls.write = library.sn_bench_range_rows, library.sn_bench_read_rows, library.sn_bench_write_rows
+        for function in (cls.range, cls.read, cls.write):
+            function.restype = ctypes.c_uint64
 
     def agree(self, file):
         try:
@@ -72,6 +88,15 @@ class Proved(unittest.TestCase):
             found = self.range(file, ctypes.c_size_t(len(file)), ctypes.c_uint8(kind), ctypes.c_uint64(1))
             self.assertEqual(found, wanted, (kind, file.hex()))
         return rows is not None
+
+    def test_payloads(self):
+        """What is read is written with as many bytes."""
+        for payload, told, count in row_bytes.rows():
+            given = payload, ctypes.c_size_t(len(payload))
+            taken = told == "Ok"
+            self.assertEqual(self.read(*given), count if taken else REFUSED, payload[:80].hex())
+            if taken:
+                self.assertEqual(self.write(*given, ctypes.c_uint64(1)), len(payload), payload[:80].hex())
 
     def test_the_worked_file(self):
         self.assertTrue(self.agree(worked_file()))

@@ -65,13 +65,18 @@ class Proved:
         return told >> 32, data[len(data) - length :]
 
 
-def message(method=b"GET", target=b"/", token=b"", closing=False, body=b""):
+def message(method=b"GET", target=b"/", token=b"", closing=False, body=b"", place=0):
     texts = "".join("x%s " % text.hex() for text in (method, target, token, body))
-    return ["message 0 %d %s" % (closing, texts)]
+    return ["message %d %d %s" % (place, closing, texts)]
 
 
-def check(status):
-    return ["check %d 0 " % status]
+def check(status, place=0):
+    return ["check %d %d " % (status, place)]
+
+
+def with_end(lines):
+    """The lines of an input that ends behind its message, or at a check."""
+    return lines + (["end"] if lines[0].startswith("message") else [])
 
 
 def get(*fields, method=b"GET", version=b"1.1", body=b""):
@@ -208,6 +213,20 @@ TABLE = [
     (get(b"Connection: ,,"), message()),
 ]
 
+# An input of several messages, of which the last is cut short, and the line of each.
+SEVERAL = (
+    b"\r\nPOST /a HTTP/1.1\r\nHost: x\ncontent-LENGTH: 3\r\nAuthorization: bearer tk\r\n\r\nabc"
+    b"GET /b HTTP/1.0\r\n\r\n"
+    b"GET /c?d HTTP/1.1\r\nConnection: x , Close\r\nContent-Encoding: Identity\r\nContent-Length: 0\r\n\r\n"
+    b"PUT /e HTTP"
+)
+LINES = [
+    *message(b"POST", b"/a", b"tk", False, b"abc"),
+    *message(target=b"/b", closing=True, place=78),
+    *message(target=b"/c?d", closing=True, place=97),
+    *check(400, place=188),
+]
+
 # Bytes that mean something, for mutations.
 PARTS = [
     b"\r", b"\n", b"\r\n", b"\r\n\r\n", b" ", b"\t", b":", b",", b"0", b"1", b"\x00", b"\x7f", b"\x80", b"\xc3\xa4", b"GET ", b"POST ",
@@ -240,18 +259,35 @@ def random_sizes(rng):
     return [rng.randint(1, largest) for _ in range(rng.choice([1, 3, 17]))]
 
 
+class Independent(unittest.TestCase):
+    def test_the_reader_in_python(self):
+        """It has the lines of the heads, and of several messages behind one another."""
+        for data, expected in TABLE:
+            self.assertEqual(http_reader.lines(data), with_end(expected), data)
+        self.assertEqual(http_reader.lines(SEVERAL), LINES)
+
+
 @unittest.skipUnless(LIBRARY, "the proved functions are no shared library, as tests/run makes one where `cc` is installed")
 class Http(unittest.TestCase):
     @classmethod
     def setUpClass(cls):
         cls.proved = Proved(LIBRARY)
 
+    def test_several_messages(self):
+        """In pieces of any size."""
+        for size in (1, 2, 7, 50, 5000, WHOLE):
+            self.assertEqual(self.proved.lines(SEVERAL, [size]), LINES, size)
+
+    def test_empty_lines(self):
+        """They come a byte at a time, and aren't parsed again at each."""
+        for size in (1, WHOLE):
+            self.assertEqual(self.proved.lines(b"\n" * 20000, [size]), check(400), size)
+
     def test_table(self):
         """Each head, whole and cut at every place."""
         self.assertGreaterEqual(len(TABLE), 80)
         for data, expected in TABLE:
-            ended = expected + (["end"] if expected[0].startswith("message") else [])
-            self.assertEqual(http_reader.lines(data), ended, data)
+            ended = with_end(expected)
             self.assertEqual(self.proved.lines(data, [WHOLE]), ended, data)
             self.assertEqual(self.proved.lines(data, [1]), ended, data)
             sizes = sizes_of([WHOLE] * len(data))

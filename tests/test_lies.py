@@ -193,6 +193,27 @@ class Lying(Case):
                 self.assertEqual(said[0]["uuid"] == said[1]["uuid"], kind == "content_error")
                 self.assertEqual(device.list(), ['%s clean 9 "Note"' % said[1]["uuid"]])
 
+    def test_of_an_item_with_a_version(self):
+        """What takes a version's place has no lower stamp, and its uuid is no other account's."""
+        device = self.device(holds=self.draft)
+        with scripted.Scripted(lambda asked: scripted.answer(200, scripted.sync_body(map(scripted.stored, asked.json()["items"])))) as server:
+            device.server = "127.0.0.1:%d" % server.port
+            device.sync()
+        device.edit(self.uuid, '{"t":"b"}')
+        edited = held(device)
+        for lie, place in (
+            (says(saved=lambda item: [scripted.stored(item, 4)]), "saved 0"),
+            (says(conflicts=lambda item: [of_kind("uuid_conflict", item)]), "conflict 0"),
+            (says(saved=lambda item: [scripted.stored(item, 5)]), None),
+        ):
+            with self.subTest(place=place), scripted.Scripted(lambda asked: lie(*asked.json()["items"])) as server:
+                device = self.device(server.port, holds=edited)
+                if place is None:
+                    device.sync()
+                else:
+                    self.refused(device.run("sync"), 11, "answer " + place)
+                self.assertEqual(device.items()[self.uuid].base, '{"t":"a"}' if place else '{"t":"b"}')
+
     def test_answers_to_accounts(self):
         params = scripted.answer(200, scripted.params_body())
         for command, answers, place in (

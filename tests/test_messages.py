@@ -1,5 +1,5 @@
-"""The proved readers and writers of messages, stamps and tokens beside those of messages.py, on 100,000 messages that were
-changed at random, and on stamps and tokens.
+"""The proved readers and writers of messages, stamps and tokens beside those of messages.py: on the rows that were worked out by
+hand, on 100,000 messages that were changed at random, and on stamps and tokens.
 
 No command reads a message, so the proved functions are called in `crates/sn_bench` as a shared library. `tests/run` builds
 it and names it in SN_LIBRARY. The messages are the same in each run; another SN_SEED gives others.
@@ -12,6 +12,7 @@ import random
 import unittest
 from collections import Counter
 
+import message_rows
 import messages
 
 LIBRARY = os.environ.get("SN_LIBRARY")
@@ -327,11 +328,62 @@ def query_text(rng):
 # ---- the checks
 
 
+class Rows:
+    """The rows that were worked out by hand, for a reader with the functions of messages.py."""
+
+    def read(self, function, words, line):
+        """What is read is so, and what is written for it is read likewise."""
+        with self.subTest(words=words):
+            self.assertEqual(function(*words), line)
+            if not line.startswith(b"!"):
+                self.assertEqual(function(*words[:-1], line), line)
+
+    def test_rows_of_requests(self):
+        self.assertEqual(len(message_rows.REQUESTS), 121)
+        for *words, line in message_rows.REQUESTS:
+            self.read(self.reader.request_line, words, line)
+
+    def test_rows_of_answers(self):
+        self.assertEqual(len(message_rows.ANSWERS), 81)
+        for *words, line in message_rows.ANSWERS:
+            self.read(self.reader.answer_line, words, line)
+
+    def test_rows_of_stamps(self):
+        for stamp, made in message_rows.STAMPS:
+            self.assertEqual((self.reader.stamp_text(stamp), self.stamp(made)), (made, stamp))
+        for other in message_rows.NO_STAMPS:
+            self.assertIsNone(self.stamp(other), other)
+
+    def test_rows_of_tokens(self):
+        for stamp, made in message_rows.TOKENS:
+            self.assertEqual((self.reader.token_text(stamp), self.token(made)), (made, stamp))
+        for other in message_rows.NO_TOKENS:
+            self.assertIsNone(self.token(other), other)
+
+
+class Independent(Rows, unittest.TestCase):
+    """The reader in Python has the lines of the rows."""
+
+    reader = messages
+
+    def stamp(self, text):
+        return messages.stamp_of(text)
+
+    def token(self, text):
+        return messages.token_of(text)
+
+
 @unittest.skipUnless(LIBRARY, "the proved functions are no shared library, as tests/run makes one where `cc` is installed")
-class Messages(unittest.TestCase):
+class Messages(Rows, unittest.TestCase):
     @classmethod
     def setUpClass(cls):
-        cls.proved = Proved(LIBRARY)
+        cls.reader = cls.proved = Proved(LIBRARY)
+
+    def stamp(self, text):
+        return self.proved.stamp(text.encode())
+
+    def token(self, text):
+        return self.proved.token(text)
 
     def counted(self, told, least):
         """Each kind was told at least so often."""

@@ -27,48 +27,6 @@ fn counts(disk: &MemDisk, faults: u64, wants: u64) -> bool {
     disk.faults() == faults && disk.wants() == wants
 }
 
-// What a disk begins with, where what is written, and what it has then.
-static WRITES: [(&[u8], u64, &[u8], &[u8]); 4] = [
-    (b"", 0, b"ab", b"ab"),
-    (b"abcdef", 2, b"XY", b"abXYef"),
-    (b"abc", 2, b"XYZ", b"abXYZ"),
-    (b"abc", 3, b"", b"abc"),
-];
-
-fn has(disk: &mut MemDisk, expected: &[u8]) -> bool {
-    disk.len() == Ok(expected.len() as u64) && disk.bytes() == expected
-}
-
-fn reads_two(disk: &mut MemDisk, expected: &[u8]) -> bool {
-    if disk.bytes().len() < 2 {
-        return false;
-    }
-    let mut pair = [0; 2];
-    disk.read(0, &mut pair).is_ok() && expected.starts_with(&pair)
-}
-
-fn writes(alloc: Global, start: &[u8], at: u64, bytes: &[u8], expected: &[u8]) -> bool {
-    match disk_of(alloc, start, &[]) {
-        Ok(mut disk) => {
-            put(&mut disk, at, bytes).is_ok()
-                && has(&mut disk, expected)
-                && reads_two(&mut disk, expected)
-                && counts(&disk, 0, 0)
-        }
-        Err(_) => false,
-    }
-}
-
-#[test]
-fn writes_and_reads(rt: HostRuntime) {
-    for (start, at, bytes, expected) in &WRITES {
-        assert!(rt;
-            writes(rt.alloc(), start, *at, bytes, expected),
-            "{start:?} {at}"
-        );
-    }
-}
-
 // Four changing calls. From "abcd" reads give "aXYd", the same, "aX" and "aXZ" after them.
 fn four_calls(disk: &mut MemDisk) -> Result<(), Failed> {
     put(disk, 1, b"XY")?;

@@ -1,5 +1,4 @@
-//! The adapters over the real system, and over one that fails or goes by small pieces.
+//! The adapters over a file that can't be synced, and over a reader and a writer that go by small pieces and are interrupted.
 
 mod files;
-mod network;
 mod streams;

@@ -1,9 +1,7 @@
 // What stands behind the places of small stores, whose bytes are laid out by hand; and that nothing answers want of memory.
-use sn_disk::{Disk, MemDisk};
 use sn_journal::Owner;
-use sn_rows::{Change, Key};
-use sn_tail::{Tail, TailError, batches_behind, first_place, mark_of, place_of_end, tail_of};
-use std::alloc::{AllocError, Global};
+use sn_tail::{Tail, TailError, batches_behind, place_of_end};
+use std::alloc::Global;
 
 // A batch at 16, 27 and 44, of one change, of two and of none, and a closed gate at 49.
 const STORE: &[u8] =
@@ -29,48 +27,24 @@ fn finds(alloc: Global, bytes: &[u8], place: u64, sizes: &[usize], gate: u64) ->
     }
 }
 
-// How many changes each batch behind a gate has.
-static SIZES: [(u64, &[usize]); 4] = [(16, &[1, 2, 0]), (27, &[2, 0]), (44, &[0]), (49, &[])];
-
-#[test]
-fn batches_behind_each_gate(rt: HostRuntime) {
-    for (place, sizes) in &SIZES {
-        assert!(rt; finds(rt.alloc(), STORE, *place, sizes, 49), "{place}");
-    }
-}
-
-static EMPTY: [&[u8]; 5] = [
-    b"",
-    b"\0",
-    b"SNSYNC-JOURNALD1\0",
-    b"SNSYNC-JOURNALD1\x02\x01",
-    b"\0NSYNC-JOURNALD1\x01",
+// A store, a place, how many changes each batch behind it has, and the gate behind them.
+static FOUND: [(&[u8], u64, &[usize], u64); 9] = [
+    (STORE, 16, &[1, 2, 0], 49),
+    (STORE, 27, &[2, 0], 49),
+    (STORE, 44, &[0], 49),
+    (STORE, 49, &[], 49),
+    (b"", 16, &[], 16),
+    (b"\0", 16, &[], 16),
+    (b"SNSYNC-JOURNALD1\0", 16, &[], 16),
+    (b"SNSYNC-JOURNALD1\x02\x01", 16, &[], 16),
+    (b"\0NSYNC-JOURNALD1\x01", 16, &[], 16),
 ];
 
 #[test]
-fn stores_without_batches(rt: HostRuntime) {
-    for file in &EMPTY {
-        assert!(rt; finds(rt.alloc(), file, first_place(), &[], 16), "{file:?}");
+fn batches_behind_each_place(rt: HostRuntime) {
+    for (store, place, sizes, gate) in &FOUND {
+        assert!(rt; finds(rt.alloc(), store, *place, sizes, *gate), "{store:?} {place}");
     }
-}
-
-fn removes_the_owner(tail: &Tail) -> bool {
-    match tail.batches.as_slice() {
-        [first, ..] => matches!(first.as_slice(), [Change::Remove(Key::Owner)]),
-        [] => false,
-    }
-}
-
-fn is_read(alloc: Global) -> bool {
-    match batches_behind(alloc, Owner::Device, STORE, 16) {
-        Ok(tail) => removes_the_owner(&tail),
-        Err(_) => false,
-    }
-}
-
-#[test]
-fn changes_as_they_stand(rt: HostRuntime) {
-    assert!(rt; is_read(rt.alloc()));
 }
 
 static DAMAGED: [(&[u8], u64); 2] = [
@@ -84,7 +58,7 @@ static DAMAGED: [(&[u8], u64); 2] = [
 ];
 
 fn is_damaged(alloc: Global, file: &[u8], gate: u64) -> bool {
-    match batches_behind(alloc, Owner::Device, file, first_place()) {
+    match batches_behind(alloc, Owner::Device, file, 16) {
         Ok(_) => false,
         Err(error) => error == TailError::Damaged { gate },
     }
@@ -95,27 +69,4 @@ fn damaged_batches(rt: HostRuntime) {
     for (file, gate) in &DAMAGED {
         assert!(rt; is_damaged(rt.alloc(), file, *gate), "{file:?}");
     }
-}
-
-fn disk_of(alloc: Global) -> Result<MemDisk, AllocError> {
-    MemDisk::new(alloc, STORE.to_vec(alloc)?, Vec::new(alloc))
-}
-
-fn has_two(alloc: Global, disk: &MemDisk) -> bool {
-    match tail_of(alloc, Owner::Device, disk, 27) {
-        Ok(tail) => tail.batches.len() == 2 && tail.gate == 49,
-        Err(_) => false,
-    }
-}
-
-fn is_read_at_a_mark(alloc: Global) -> bool {
-    let Ok(mut disk) = disk_of(alloc) else {
-        return false;
-    };
-    mark_of(&disk) == 0 && disk.sync().is_ok() && mark_of(&disk) == 1 && has_two(alloc, &disk)
-}
-
-#[test]
-fn tail_of_a_disk(rt: HostRuntime) {
-    assert!(rt; is_read_at_a_mark(rt.alloc()));
 }

@@ -1,7 +1,22 @@
-//! Byte strings with the answer that the grammar gives, worked out by hand: the number of changes, or
-//! the refusal and its place. `61*254` stands for 254 bytes of 61.
+"""Payloads worked out by hand from docs/FORMATS.md ('Rows'): bytes in hex, where `61*254` stands for 254 bytes of 61, and the number
+of their changes, or the first fault and its place. The kinds are those of both owners.
+"""
 
-pub const BYTES: &str = r#"
+
+def written_out(words):
+    pairs = (word.split("*") for word in words.split())
+    return b"".join(bytes.fromhex(digits) * int(*count or ["1"]) for digits, *count in pairs)
+
+
+def rows():
+    """The bytes of each, Ok or the fault's kind, and the number."""
+    for line in TABLE.split("\n")[1:-1]:
+        words, answer = line.split("|")
+        told, number = answer.split(" ")
+        yield written_out(words), told, int(number)
+
+
+TABLE = """
 |Ok 0
 02|Kind 0
 00 09|Kind 1
@@ -137,4 +152,4 @@ ff 01|Kind 0
 01 13 00000008 00*8 0010202c 00*16 00000001 61 00 00*8 00 02 00102002 61*1048576 3a 62*8193 00000000 00 00|Range 54
 01 13 00000008 00*8 0010002c 00*16 00000001 61 00 00*8 00 02 00100002 61*1048577 3a 00000000 00 00|Range 54
 01 13 00000008 00*8 0010202b 00*16 00000001 61 00 00*8 00 02 00102001 61*10 3a 61*1048565 3a 62*8192 00000000 00 00|Ok 1
-"#;
+"""
