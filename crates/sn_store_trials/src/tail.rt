@@ -43,7 +43,10 @@ static FOUND: [(&[u8], u64, &[usize], u64); 9] = [
 #[test]
 fn batches_behind_each_place(rt: HostRuntime) {
     for (store, place, sizes, gate) in &FOUND {
-        assert!(rt; finds(rt.alloc(), store, *place, sizes, *gate), "{store:?} {place}");
+        assert!(rt;
+            finds(rt.alloc(), store, *place, sizes, *gate),
+            "{store:?} {place}"
+        );
     }
 }
 
