@@ -136,7 +136,7 @@ fn report(alloc: Global) -> Result<Report, Fail> {
     Ok(Report { events })
 }
 
-fn text(alloc: Global) -> Result<String, Fail> {
+fn text(alloc: Global) -> Result<Text, Fail> {
     let report = report(alloc)?;
     Ok(report_text(alloc, &report)?)
 }
