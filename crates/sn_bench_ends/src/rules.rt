@@ -3,7 +3,7 @@
 //! A request is spelled by the number of its route, the moment in 8 bytes, its session token and its text, each text behind its
 //! length in 4 bytes. Numbers begin with their highest byte.
 
-ghost use Rattle.std.specs.Prelude.{IfSome, IsTrue};
+ghost use Rattle.std.specs.Prelude.{IfOk, IfSome, OnOk};
 ghost use Rattle.sn_account.specs.Sound.{IsSound};
 ghost use Rattle.sn_account.specs.States.{IsUnmarked, state_rows};
 ghost use Rattle.sn_sync.specs.Laws.{FitsRequest};
@@ -11,7 +11,7 @@ ghost use Rattle.sn_sync.specs.Laws.{FitsRequest};
 use crate::setting::text_of;
 use sn_account::{State, answer, first_state};
 use sn_sync::{Request, Route, read_request};
-use std::alloc::Global;
+use std::alloc::{AllocError, Global};
 
 /// Answers requests one after another, from a server without accounts that has this secret, and makes their changes; and then
 /// one more so many times, without its changes. Answers how many changes it had in all, and 2^64 - 1 where a request isn't
@@ -28,8 +28,8 @@ pub extern "C" fn sn_bench_answer_again(
         return u64::MAX;
     };
     match served(alloc, secret, requests) {
-        Some(state) => changes_in(alloc, &state, &asked, rounds),
-        None => u64::MAX,
+        Ok(state) => changes_in(alloc, &state, &asked, rounds),
+        Err(_) => u64::MAX,
     }
 }
 
@@ -80,41 +80,37 @@ fn counted_in(bytes: &[u8]) -> Option<(&[u8], &[u8])> {
 }
 
 // The state after these requests.
-fn served(alloc: Global, secret: &[u8; 32], requests: &[u8]) -> Option<Box<State>>
-    ensures unmarked { IfSome result (λ state. IsUnmarked state.value) }
-    ensures sound { IfSome result (λ state. IsSound (state_rows state.value)) }
+fn served(alloc: Global, secret: &[u8; 32], requests: &[u8]) -> Result<Box<State>, AllocError>
+    ensures unmarked { IfOk result (λ state. IsUnmarked state.value) }
+    ensures sound { IfOk result (λ state. IsSound (state_rows state.value)) }
 {
-    let mut state = Box::new(alloc, first_state(alloc, *secret).ok()?).ok()?;
+    let mut state = Box::new(alloc, first_state(alloc, *secret)?)?;
     let mut left = requests;
     'requests: for _ in 0..requests.len() {
         if left.is_empty() {
             break;
         }
-        let (asked, behind) = first_of(alloc, left)?;
-        if !serve(alloc, &mut *state, &asked) {
-            return None;
-        }
+        let Some((asked, behind)) = first_of(alloc, left) else {
+            return Err(AllocError);
+        };
+        serve(alloc, &mut *state, &asked)?;
         left = behind;
     }
-    Some(state)
+    Ok(state)
 }
 
-// Answers one request, and makes its changes. Whether memory sufficed.
-fn serve(alloc: Global, state: &mut State, asked: &Asked) -> bool
+// Answers one request, and makes its changes.
+fn serve(alloc: Global, state: &mut State, asked: &Asked) -> Result<(), AllocError>
     requires unmarked { IsUnmarked state.old }
     requires sound { IsSound (state_rows state.old) }
     requires within { FitsRequest asked.now.request }
-    ensures unmarked { IsTrue result → IsUnmarked state.new }
-    ensures sound { IsTrue result → IsSound (state_rows state.new) }
+    ensures unmarked { OnOk result (IsUnmarked state.new) }
+    ensures sound { OnOk result (IsSound (state_rows state.new)) }
 {
-    let Ok(ruled) = answer(alloc, state, &asked.request, asked.now) else {
-        return false;
-    };
-    if state.apply(ruled.changes.as_slice()).is_err() {
-        return false;
-    }
+    let ruled = answer(alloc, state, &asked.request, asked.now)?;
+    state.apply(ruled.changes.as_slice())?;
     state.keep();
-    true
+    Ok(())
 }
 
 fn changes_in(alloc: Global, state: &State, asked: &Asked, rounds: u64) -> u64

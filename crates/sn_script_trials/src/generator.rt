@@ -71,9 +71,10 @@ fn command_text(
     words: &[&Text],
     fates: &OwnedList<Fate>,
 ) -> Result<String, AllocError> {
-    let words = words_text(alloc, words)?;
-    let fates = fates_text(fates.as_slice());
-    joined(alloc, &[command, words.as_str(), fates])
+    let mut text = command.to_string(alloc)?;
+    text.push_str(words_text(alloc, words)?.as_str())?;
+    text.push_str(fates_text(fates.as_slice()))?;
+    Ok(text)
 }
 
 fn label_text(alloc: Global, label: Ordinal) -> Result<String, AllocError> {
