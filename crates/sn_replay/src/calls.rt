@@ -11,14 +11,13 @@ ghost use Rattle.sn_script.specs.declared.script.Script.{Script};
 ghost use Rattle.sn_string.specs.Bounds.{IsIdentifier};
 ghost use Rattle.sn_world.specs.Holds.{TokensDiffer};
 
-use crate::came::came_of;
 use crate::error::ReplayError;
 use crate::labelled::labelled_item;
 use crate::losses::losses_of;
 use crate::new_set::new_set;
 use crate::replaying::{LineTold, Replaying};
 use crate::settings::{Moment, line_words};
-use crate::told::told;
+use crate::told::heard;
 use sn_events::Setting;
 use sn_passwd::{every_sync_ends, passwds_end};
 use sn_readable::runs_readable;
@@ -56,8 +55,8 @@ pub(crate) fn register_line(
         identifier.as_str(),
         password.as_str(),
         at.settings.cost,
-    )?;
-    told(alloc, seen, came_of(outcome)?, at.number, device, &calling)
+    );
+    heard(alloc, seen, outcome, at.number, device, calling)
 }
 
 /// A line that signs in to an account.
@@ -87,8 +86,8 @@ pub(crate) fn sign_in_line(
         &mut words,
         identifier.as_str(),
         password.as_str(),
-    )?;
-    told(alloc, seen, came_of(outcome)?, at.number, device, &calling)
+    );
+    heard(alloc, seen, outcome, at.number, device, calling)
 }
 
 /// A line that puts a new item.
@@ -115,8 +114,8 @@ pub(crate) fn put_line(
         &mut words,
         KIND,
         text.as_str(),
-    )?;
-    told(alloc, seen, came_of(outcome)?, at.number, device, &calling)
+    );
+    heard(alloc, seen, outcome, at.number, device, calling)
 }
 
 /// A line that gives an item a new content.
@@ -148,8 +147,8 @@ pub(crate) fn edit_line(
         &mut words,
         uuid,
         text.as_str(),
-    )?;
-    let told = told(alloc, seen, came_of(outcome)?, at.number, device, &calling)?;
+    );
+    let told = heard(alloc, seen, outcome, at.number, device, calling)?;
     Ok(told)
 }
 
@@ -171,15 +170,8 @@ pub(crate) fn delete_line(
     let Some(uuid) = labelled_item(&seen.labels, label) else {
         return Err(ReplayError::NotAllowed { number: at.number });
     };
-    let outcome = ends.delete(setting_at(at, fates), device.as_str(), uuid)?;
-    let told = told(
-        alloc,
-        seen,
-        came_of(outcome)?,
-        at.number,
-        device,
-        &Calling::Delete,
-    )?;
+    let outcome = ends.delete(setting_at(at, fates), device.as_str(), uuid);
+    let told = heard(alloc, seen, outcome, at.number, device, Calling::Delete)?;
     Ok(told)
 }
 
@@ -198,15 +190,8 @@ pub(crate) fn sync_line(
     every_sync_ends();
     let Replaying { ends, seen } = replaying;
     let mut words = line_words(at);
-    let outcome = ends.sync(setting_at(at, fates), device.as_str(), &mut words)?;
-    told(
-        alloc,
-        seen,
-        came_of(outcome)?,
-        at.number,
-        device,
-        &Calling::Sync,
-    )
+    let outcome = ends.sync(setting_at(at, fates), device.as_str(), &mut words);
+    heard(alloc, seen, outcome, at.number, device, Calling::Sync)
 }
 
 /// A line that gives the account of a device another password.
@@ -233,15 +218,8 @@ pub(crate) fn passwd_line(
         &mut words,
         password.as_str(),
         at.settings.cost,
-    )?;
-    told(
-        alloc,
-        seen,
-        came_of(outcome)?,
-        at.number,
-        device,
-        &Calling::Passwd,
-    )
+    );
+    heard(alloc, seen, outcome, at.number, device, Calling::Passwd)
 }
 
 // A registration, with the set that it would begin.

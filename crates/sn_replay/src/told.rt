@@ -1,13 +1,16 @@
 //! The event of a call, of whatever kind.
 
-ghost use Rattle.std.specs.Prelude.{ℕ, List, IfOk};
-ghost use Rattle.sn_client.specs.Runs.{Call};
+ghost use Rattle.std.specs.Prelude.{◌≡◌, ℕ, List, IfOk};
+ghost use Rattle.rand_chacha.specs.ChaCha.{ChaCha};
+ghost use Rattle.sn_client.specs.Runs.{Call, Given};
 ghost use Rattle.sn_course.specs.Stages.{Stage};
 ghost use Rattle.sn_course.specs.Lines.{fates_of};
 ghost use Rattle.sn_course.specs.Settings.{words_of};
 ghost use Rattle.sn_course.specs.declared.settings.Settings.{Settings};
+ghost use Rattle.sn_events.specs.Events.{CallCame};
 ghost use Rattle.sn_events.specs.Standing.{Stands};
 ghost use Rattle.sn_events.specs.declared.ends.Ends.{Ends};
+ghost use Rattle.sn_events.specs.declared.setting.Setting.{Setting};
 ghost use Rattle.sn_laws.specs.Lookups.{Bytes};
 ghost use Rattle.sn_laws.specs.Runs.{end};
 ghost use Rattle.sn_laws.specs.declared.ideal.Ideal.{Ideal};
@@ -20,11 +23,11 @@ ghost use Rattle.sn_script.specs.declared.script.Script.{Script};
 ghost use Rattle.sn_world.specs.Holds.{TokensDiffer};
 ghost use Rattle.sn_world.specs.World.{World};
 
-use crate::came::Came;
+use crate::came::{Came, came_of};
 use crate::replaying::{LineTold, Replaying, Seen};
 use crate::seen::{puts, see};
 use sn_client::steps_stay_sound;
-use sn_events::Ends;
+use sn_events::{Ends, Outcome};
 use sn_laws::Move;
 use sn_lines::each_fits;
 use sn_report::{DeviceMark, Event, Last};
@@ -32,6 +35,28 @@ use sn_string::{OwnedList, Text, TryClone};
 use sn_telling::{Calling, Told, calls_tell};
 use sn_world::{keeps, keeps_held};
 use std::alloc::{AllocError, Global};
+
+/// The event of a call of this device, by what the ends gave, whatever the call gives.
+pub(crate) fn heard<T: Drop>(
+    alloc: Global,
+    seen: Seen,
+    outcome: Result<Outcome<T>, AllocError>,
+    number: u64,
+    name: &Text,
+    calling: Calling,
+) -> Result<LineTold, AllocError>
+    ensures { (script : Script) (secret : Bytes) (c : Stage) (settings : Settings) (asks : Line) (call : Call) (old : Ends) (one : Bytes) (words left : ChaCha)
+        (setting : Setting) (gives : T → Given) → TokensDiffer secret
+        → IsAt script secret (record { ends = old; seen = seen }) c → IsLineOf script secret c (record { number = number; settings = settings; asks = asks }) name.now call calling
+        → one ≡ name.now → words ≡ words_of settings number → setting ≡ setting_at settings (fates_of asks)
+        → IfOk outcome (CallCame secret c.world (end c.moves) one call words left setting gives old)
+        → IfOk result (Tells script secret (record { ends = old; seen = seen }) c (record { number = number; settings = settings; asks = asks })) }
+{
+    match outcome {
+        Ok(outcome) => told(alloc, seen, came_of(outcome)?, number, name, &calling),
+        Err(error) => Err(error),
+    }
+}
 
 /// The event of a call of this device, by what the ends gave of it and what was seen before.
 pub(crate) fn told(

@@ -1,4 +1,4 @@
-use Rattle.std.proofs.Common.{◌≡◌, Option, Some, refl, ap, sym, subst, ◌∙◌}
+use Rattle.std.proofs.Common.{◌≡◌, Some, refl, ap, sym, ◌∙◌}
 use Rattle.sn_client.specs.Runs.{Call, delete, nothing}
 use Rattle.sn_course.specs.Lines.{labelled_item}
 use Rattle.sn_course.specs.Settings.{words_of}
@@ -6,9 +6,7 @@ use Rattle.sn_laws.specs.Lookups.{Bytes}
 use Rattle.sn_laws.specs.Runs.{end}
 use Rattle.sn_report.specs.Labels.{Labels}
 use Rattle.sn_script.specs.declared.script.Line.TheVariants as line
-use Rattle.sn_replay.specs.Lines.{setting_at}
 use Rattle.sn_replay.proofs.Asking.{delete_of, not_labelled}
-use Rattle.sn_replay.proofs.Calling.{has_along}
 use Rattle.sn_replay.proofs.calls.delete_line.Goals as goal
 
 pub returns-clause-told : goal.returns-clause-told
@@ -23,13 +21,11 @@ returns-clause-told c =
     let s = end stage.moves in
     let found : labelled_item stage.labels c.args.label ≡ Some uuid =
     ap (λ (ls : Labels). labelled_item ls c.args.label) (sym is_at.labels_are) ∙ sym c.labelled_item.ensures ∙ c.in-Some.is in
-    let came = c.in_ok-outcome.ensures.came secret w s (words_of at.settings at.number) differ is_at.stands in
-    let has = c.in_ok-came_of.ensures secret w s c.as_str.result.now call (words_of at.settings at.number) (words_of at.settings at.number) c.setting_at.result (λ given. nothing)
-    c.args.replaying.ends came in
-    c.in_ok-told.ensures script secret stage at.settings (line.Delete name c.args.label fates) call c.args.replaying.ends differ is_at
+    let came = c.delete-outcome.ensures.came secret w s (words_of at.settings at.number) differ is_at.stands in
+    c.in_ok-told.ensures script secret stage at.settings (line.Delete name c.args.label fates) call c.args.replaying.ends c.as_str.result.now (words_of at.settings at.number) (words_of at.settings at.number)
+    c.setting_at.result (λ given. nothing) differ is_at
     (delete_of script secret stage at.number at.settings name c.args.label fates uuid found)
-    (has_along secret w s call c.args.replaying.ends c.in_ok-came_of.field-0 c.as_str.result.now name (words_of at.settings at.number) (words_of at.settings at.number)
-    c.setting_at.result (setting_at at.settings fates) c.as_str.ensures refl c.setting_at.ensures has)
+    c.as_str.ensures refl c.setting_at.ensures came
 
 pub returns-in_default-clause-refused : goal.returns-in_default-clause-refused
 returns-in_default-clause-refused c =

@@ -1,14 +1,11 @@
-use Rattle.std.proofs.Common.{◌≡◌, ap, sym, subst, ◌∙◌}
+use Rattle.std.proofs.Common.{◌≡◌, ap, sym, subst, IfOk}
 use Rattle.sn_client.specs.Runs.{Call, a_uuid, put}
 use Rattle.sn_course.specs.Lines.{note_kind}
-use Rattle.sn_course.specs.Settings.{words_of}
 use Rattle.sn_laws.specs.Lookups.{Bytes}
 use Rattle.sn_laws.specs.Runs.{end}
 use Rattle.sn_script.specs.declared.script.Line.TheVariants as line
-use Rattle.sn_replay.specs.Coming.{HasCame}
-use Rattle.sn_replay.specs.Lines.{setting_at}
+use Rattle.sn_events.specs.Events.{CallCame}
 use Rattle.sn_replay.proofs.Asking.{put_of}
-use Rattle.sn_replay.proofs.Calling.{has_along}
 use Rattle.sn_replay.proofs.calls.put_line.Goals as goal
 
 pub returns : goal.returns
@@ -23,10 +20,10 @@ returns c =
     λ script secret stage differ is_at.
     let w = stage.world in
     let s = end stage.moves in
-    let came = c.in_ok-outcome.ensures.came secret w s differ is_at.stands in
-    let has = c.in_ok-came_of.ensures secret w s c.as_str.result.now written c.line_words-words.result c.put.new.words c.setting_at.result a_uuid c.args.replaying.ends came in
-    c.told.ensures script secret stage at.settings (line.Put name fates text) call c.args.replaying.ends differ is_at
+    let came = c.put-outcome.ensures.came secret w s differ is_at.stands in
+    c.heard.ensures script secret stage at.settings (line.Put name fates text) call c.args.replaying.ends c.as_str.result.now c.line_words-words.result c.put-outcome.new.words
+    c.setting_at.result a_uuid differ is_at
     (put_of script secret stage at.number at.settings name fates text c.fixed.result c.in_ok-try_clone.field-0 (sym c.fixed.ensures) (sym c.in_ok-try_clone.ensures))
-    (subst (λ (k : Call). HasCame secret w s name k (words_of at.settings at.number) (setting_at at.settings fates) c.args.replaying.ends c.in_ok-came_of.field-0) same
-    (has_along secret w s written c.args.replaying.ends c.in_ok-came_of.field-0 c.as_str.result.now name c.line_words-words.result (words_of at.settings at.number)
-    c.setting_at.result (setting_at at.settings fates) c.as_str.ensures c.line_words-words.ensures c.setting_at.ensures has))
+    c.as_str.ensures c.line_words-words.ensures c.setting_at.ensures
+    (subst (λ (k : Call). IfOk c.put-outcome.result (CallCame secret w s c.as_str.result.now k c.line_words-words.result c.put-outcome.new.words c.setting_at.result a_uuid c.args.replaying.ends))
+    same came)

@@ -1,15 +1,13 @@
-use Rattle.std.proofs.Common.{◌≡◌, ap, sym, subst, ◌∙◌}
+use Rattle.std.proofs.Common.{◌≡◌, ap, sym, subst, ◌∙◌, IfOk}
 use Rattle.sn_client.specs.Runs.{Call, nothing, register}
 use Rattle.sn_laws.specs.Lookups.{Bytes}
 use Rattle.sn_telling.specs.declared.calling.Calling.{Calling}
-use Rattle.sn_course.specs.Settings.{words_of}
 use Rattle.sn_laws.specs.Runs.{end}
 use Rattle.sn_script.specs.declared.script.Line.TheVariants as line
-use Rattle.sn_replay.specs.Lines.{setting_at}
-use Rattle.sn_replay.specs.Coming.{HasCame}
+use Rattle.sn_events.specs.Events.{CallCame}
 use Rattle.sn_replay.specs.Playing.{IsLineOf}
 use Rattle.sn_replay.proofs.Asking.{register_of}
-use Rattle.sn_replay.proofs.Calling.{has_along, readable_of}
+use Rattle.sn_replay.proofs.Calling.{readable_of}
 use Rattle.sn_replay.proofs.calls.register_line.Goals as goal
 
 pub returns : goal.returns
@@ -26,14 +24,13 @@ returns c =
     λ script secret stage differ of is_at.
     let w = stage.world in
     let s = end stage.moves in
-    let came = c.in_ok-outcome.ensures.came secret w s differ is_at.stands
+    let came = c.register-outcome.ensures.came secret w s differ is_at.stands
     (readable_of c.runs_readable.ensures script secret c.args.replaying stage c.as_str.result.now written is_at tt) in
-    let has = c.in_ok-came_of.ensures secret w s c.as_str.result.now written c.line_words-words.result c.register.new.words c.setting_at.result (λ given. nothing)
-    c.args.replaying.ends came in
     let set = c.in_ok-calling.ensures in
-    c.told.ensures script secret stage at.settings (line.Register name identifier password fates) call c.args.replaying.ends differ is_at
+    c.heard.ensures script secret stage at.settings (line.Register name identifier password fates) call c.args.replaying.ends c.as_str.result.now c.line_words-words.result c.register-outcome.new.words
+    c.setting_at.result (λ given. nothing) differ is_at
     (subst (λ (k : Calling). IsLineOf script secret stage (record { number = at.number; settings = at.settings; asks = line.Register name identifier password fates }) name call k)
     (sym set.1) (register_of script secret stage at.number at.settings name identifier password fates set.0 of set.2))
-    (subst (λ (k : Call). HasCame secret w s name k (words_of at.settings at.number) (setting_at at.settings fates) c.args.replaying.ends c.in_ok-came_of.field-0) same
-    (has_along secret w s written c.args.replaying.ends c.in_ok-came_of.field-0 c.as_str.result.now name c.line_words-words.result (words_of at.settings at.number)
-    c.setting_at.result (setting_at at.settings fates) c.as_str.ensures c.line_words-words.ensures c.setting_at.ensures has))
+    c.as_str.ensures c.line_words-words.ensures c.setting_at.ensures
+    (subst (λ (k : Call). IfOk c.register-outcome.result (CallCame secret w s c.as_str.result.now k c.line_words-words.result c.register-outcome.new.words c.setting_at.result (λ given. nothing) c.args.replaying.ends))
+    same came)
