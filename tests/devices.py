@@ -240,7 +240,7 @@ def item_row(number, uuid, now=b"\1", kind=b"Note", stamp=None, stale=False, bas
 def store_of(*payloads, owner=b"D"):
     """The bytes of a store with these batches."""
     batches = (b"\1" + text(payload) for payload in payloads)
-    return journal.MAGIC + owner + b"1" + b"".join(batches) + b"\0"
+    return journal.header(owner) + b"".join(batches) + b"\0"
 
 
 def add_batch(store, payload):

@@ -18,15 +18,20 @@ class Fault(Exception):
     """Bytes that spell no changes; the kind of their first fault, and its place."""
 
 
+def header(owner):
+    """The first bytes of a journal of this owner, its format's number at their end."""
+    return MAGIC + owner + b"1"
+
+
 def payloads(file, owner):
     """The payloads of the batches of a file, none where it is a start that was never finished."""
-    header = MAGIC + owner + b"1"
+    begins = header(owner)
     if len(file) <= 1 or (len(file) <= 17 and file[0] == 0):
         return []
-    if len(file) == 17 and file[1:] == header[1:] + b"\0" and file[:1] != header[:1]:
+    if len(file) == 17 and file[1:] == begins[1:] + b"\0" and file[:1] != begins[:1]:
         return []
-    if file[:16] != header:
-        raise Foreign(next((n for n in range(min(len(file), 16)) if file[n] != header[n]), len(file)))
+    if file[:16] != begins:
+        raise Foreign(next((n for n in range(min(len(file), 16)) if file[n] != begins[n]), len(file)))
     found, gate = [], 16
     while True:
         if gate >= len(file):

@@ -70,7 +70,7 @@ class Store:
 def make_store(path, *payloads):
     """Writes the file of a server's store, of these batches."""
     with open(path, "wb") as file:
-        file.write(journal.MAGIC + b"S1")
+        file.write(journal.header(b"S"))
         for payload in payloads:
             file.write(b"\1" + len(payload).to_bytes(4, "big") + payload)
         file.write(b"\0")

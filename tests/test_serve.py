@@ -204,7 +204,7 @@ class Stores(unittest.TestCase):
         change = b"\1\2" + len(key).to_bytes(4, "big") + key + len(value).to_bytes(4, "big") + value
         with serving.Store() as store:
             with open(store, "wb") as file:
-                file.write(journal.MAGIC + b"S1\1" + len(change).to_bytes(4, "big") + change + b"\0")
+                file.write(journal.header(b"S") + b"\1" + len(change).to_bytes(4, "big") + change + b"\0")
             self.assertEqual(self.serve(store), (9, b"", b"sn: rows 1\n"))
 
     def test_a_start_that_was_cut_off(self):

@@ -10,7 +10,7 @@ import program
 import row_bytes
 import serving
 
-HEADER = journal.MAGIC + b"D1"
+HEADER = journal.header(b"D")
 NO_ACCOUNT = 3, b"", b"sn: client.1 NoAccount\n"
 # A change that removes a device's account, and one that removes a server's row.
 DEVICES, SERVERS = devices.remove_row(17, b""), devices.remove_row(1, b"")
