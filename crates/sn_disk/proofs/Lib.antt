@@ -1,3 +1,4 @@
 pub mod Records
 pub mod Shelves
 pub mod Stops
+pub mod Undoing

@@ -6,5 +6,6 @@ pub mod Laws
 pub mod MemDisk
 pub mod MemShelf
 pub mod Moments
+pub mod Record
 pub mod Shelf
 pub mod Steps

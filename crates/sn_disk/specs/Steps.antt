@@ -1,8 +1,6 @@
 -- The record of a disk in memory, as contracts see it.
 use Rattle.std.specs.Prelude.{◌≡◌, ◌≤◌, ℕ, List, [], ◌∷◌, ◌++◌, length, take, reverse, Bool, true, false, ⊤}
 use Rattle.sn_disk.specs.Disk.{overwritten, Torn, Cut}
-use Rattle.sn_disk.specs.declared.calls.Call.{Call}
-use Rattle.sn_disk.specs.declared.calls.Call.TheVariants.{Wrote, WasCut, Synced, Stopped}
 
 -- a changing call: bytes at a place, a length, a sync, or a stop that left these bytes
 pub data Step : Type 0 where
@@ -10,12 +8,6 @@ pub data Step : Type 0 where
   cut_step : ℕ → Step
   sync_step : Step
   stop_step : List ℕ → Step
-
-abbrev pub step_of : Call → Step
-step_of (Wrote at bytes) = write_step at bytes.items
-step_of (WasCut len) = cut_step len
-step_of Synced = sync_step
-step_of (Stopped left) = stop_step left.items
 
 -- a write, a cut or a sync
 abbrev pub IsCall : Step → Type 0

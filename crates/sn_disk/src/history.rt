@@ -1,29 +1,36 @@
 // The bytes of a disk in memory with the record of its changing calls.
-ghost use Rattle.std.specs.Prelude.{◌≡◌, ◌<◌, ◌≤◌, ◌^◌, ◌+◌, [], ℕ, List, map, take, length, reverse, IfOk, OnOk, OnErr};
-ghost use Rattle.sn_disk.specs.Steps.{step_of, replayed, with_step};
+ghost use Rattle.std.specs.Prelude.{◌≡◌, ◌<◌, ◌≤◌, ◌^◌, [], length, map, IfOk, OnOk, OnErr, IfSome, IfNone};
+ghost use Rattle.sn_disk.specs.Record.{EndsHere, Fits, IsUnsynced, Redoes, back_of, first_of, newest_first, step_back, step_of, steps_back};
+ghost use Rattle.sn_disk.specs.Steps.{cut_step, stop_step, with_step, write_step};
 ghost use Rattle.sn_disk.specs.Images.{image_of, image_now, image_in};
 
 use crate::CrashImage;
-use crate::calls::{Call, apply, copied};
+use crate::calls::{Call, overwrite};
 use crate::images::apply_as;
+use crate::undo::{Undo, behind, copied, front, undone};
 use std::alloc::{AllocError, Global};
 use std::marker::Model;
+use std::mem;
 
-/// The bytes that a disk was made with, those that reads give, and its changing calls.
+// How many calls are noted with no more memory at first: those of a batch of a journal.
+const ROOM: usize = 4;
+
+/// The bytes that reads give, and what undoes each changing call, the oldest first. So the record has no byte that the file still has.
 #[derive(Debug, Drop)]
 pub(crate) struct History {
-    start: Vec<u8>,
     bytes: Vec<u8>,
-    calls: Vec<Call>,
+    undos: Vec<Undo>,
 }
 
 impl Model for History {
-    ghost use Rattle.std.specs.Prelude.{map};
-    ghost use Rattle.sn_disk.specs.Steps.{Told, step_of};
+    ghost use Rattle.sn_disk.specs.Record.{Redoes, newest_first, told_of};
+    ghost use Rattle.sn_disk.specs.Steps.{Told};
 
     ghost Value = { Told };
 
-    ghost view = { λ h. record { start = h.start.items; bytes = h.bytes.items; steps = map step_of h.calls.items } };
+    ghost view = { λ h. told_of h.bytes.items h.undos.items };
+
+    ghost invariant = { λ h. Redoes h.bytes.items (newest_first h.undos.items) };
 }
 
 impl History {
@@ -32,9 +39,8 @@ impl History {
         ensures short { IfOk result (λ history. length history.bytes < 2 ^ 63) }
     {
         Ok(History {
-            bytes: start.to_vec(alloc)?,
-            start,
-            calls: Vec::new(alloc),
+            bytes: start,
+            undos: Vec::with_capacity(alloc, ROOM)?,
         })
     }
 
@@ -42,9 +48,8 @@ impl History {
         ensures { IfOk result (λ history. history ≡ self.now) }
     {
         Ok(History {
-            start: self.start.to_vec(alloc)?,
             bytes: self.bytes.to_vec(alloc)?,
-            calls: copied_calls(alloc, &self.calls)?,
+            undos: copied_undos(alloc, &self.undos)?,
         })
     }
 
@@ -54,21 +59,64 @@ impl History {
         &self.bytes
     }
 
-    pub(crate) fn calls(&self) -> &[Call]
-        ensures { map step_of result.now ≡ self.now.steps }
+    // How many changing calls there were.
+    pub(crate) fn moment(&self) -> u64
+        ensures { result ≡ length self.now.steps }
     {
-        &self.calls
+        self.undos.len() as u64
     }
 
     // Does the call and notes it, or leaves all as it was.
-    pub(crate) fn make(&mut self, alloc: Global, call: Call) -> Result<(), AllocError>
-        ensures ok { OnOk result (self.new ≡ with_step self.old (step_of call)) }
+    pub(crate) fn make(&mut self, alloc: Global, call: Call<'_>) -> Result<(), AllocError>
+        requires { Fits self.old.bytes call }
+        ensures ok { OnOk result (self.new ≡ with_step self.old (step_of call.entry)) }
         ensures short { OnOk result (length self.new.bytes < 2 ^ 63) }
         ensures err { OnErr result (self.new ≡ self.old) }
     {
-        self.calls.reserve(1)?;
-        apply(alloc, &mut self.bytes, &call)?;
-        self.calls.push_reserved(call);
+        match call {
+            Call::Write { at, bytes } => self.write(alloc, at, bytes),
+            Call::Cut { len } => self.cut(alloc, len),
+            Call::Sync => {
+                self.undos.push(Undo::Sync)?;
+                Ok(())
+            }
+        }
+    }
+
+    fn write(&mut self, alloc: Global, at: u64, bytes: &[u8]) -> Result<(), AllocError>
+        requires { at ≤ length self.old.bytes }
+        ensures ok { OnOk result (self.new ≡ with_step self.old (write_step at bytes.now)) }
+        ensures short { OnOk result (length self.new.bytes < 2 ^ 63) }
+        ensures err { OnErr result (self.new ≡ self.old) }
+    {
+        let count = bytes.len();
+        let over = front(behind(&self.bytes, at as usize), count).to_vec(alloc)?;
+        self.undos.reserve(1)?;
+        overwrite(&mut self.bytes, at, bytes)?;
+        self.undos.push_reserved(Undo::Write { at, count, over });
+        Ok(())
+    }
+
+    fn cut(&mut self, alloc: Global, len: u64) -> Result<(), AllocError>
+        ensures ok { OnOk result (self.new ≡ with_step self.old (cut_step len)) }
+        ensures short { OnOk result (length self.new.bytes < 2 ^ 63) }
+        ensures err { OnErr result (self.new ≡ self.old) }
+    {
+        let tail = behind(&self.bytes, len as usize).to_vec(alloc)?;
+        self.undos.push(Undo::Cut { len, tail })?;
+        self.bytes.truncate(len as usize);
+        Ok(())
+    }
+
+    // Notes that the disk stopped, and that these bytes are left, or leaves all as it was.
+    pub(crate) fn stop(&mut self, left: Vec<u8>) -> Result<(), AllocError>
+        ensures ok { OnOk result (self.new ≡ with_step self.old (stop_step left.items)) }
+        ensures short { OnOk result (length self.new.bytes < 2 ^ 63) }
+        ensures err { OnErr result (self.new ≡ self.old) }
+    {
+        self.undos.reserve(1)?;
+        let before = mem::replace(&mut self.bytes, left);
+        self.undos.push_reserved(Undo::Stop { before });
         Ok(())
     }
 
@@ -76,7 +124,7 @@ impl History {
     pub(crate) fn image(&self, alloc: Global, image: CrashImage) -> Result<Vec<u8>, AllocError>
         ensures { IfOk result (λ bytes. bytes.items ≡ image_now image self.now) }
     {
-        image_after(alloc, image, &self.start, &self.calls)
+        image_behind(alloc, image, &self.bytes, &self.undos)
     }
 
     // What a crash in this call leaves.
@@ -84,9 +132,9 @@ impl History {
         &self,
         alloc: Global,
         image: CrashImage,
-        call: &Call,
+        call: Call<'_>,
     ) -> Result<Vec<u8>, AllocError>
-        ensures { IfOk result (λ bytes. bytes.items ≡ image_in image self.now (step_of call.now)) }
+        ensures { IfOk result (λ bytes. bytes.items ≡ image_in image self.now (step_of call.entry)) }
     {
         let mut left = self.image(alloc, image)?;
         apply_as(alloc, image, &mut left, call)?;
@@ -94,79 +142,51 @@ impl History {
     }
 }
 
-fn copied_calls(alloc: Global, calls: &[Call]) -> Result<Vec<Call>, AllocError>
-    ensures { IfOk result (λ copies. map step_of copies.items ≡ map step_of calls.now) }
+fn copied_undos(alloc: Global, undos: &[Undo]) -> Result<Vec<Undo>, AllocError>
+    ensures { IfOk result (λ copies. map back_of copies.items ≡ map back_of undos.now) }
 {
-    let mut copies = Vec::with_capacity(alloc, calls.len())?;
-    'calls: for call in calls {
-        copies.push(copied(alloc, call)?)?;
+    let mut copies = Vec::with_capacity(alloc, undos.len())?;
+    for undo in undos {
+        copies.push(copied(alloc, undo)?)?;
     }
     Ok(copies)
 }
 
-// The bytes after these calls.
-fn replay(alloc: Global, start: &[u8], calls: &[Call]) -> Result<Vec<u8>, AllocError>
-    ensures { IfOk result (λ bytes. bytes.items ≡ replayed start.now (reverse (map step_of calls.now))) }
-{
-    let mut bytes = start.to_vec(alloc)?;
-    'calls: for call in calls {
-        apply(alloc, &mut bytes, call)?;
-    }
-    Ok(bytes)
-}
-
-// What a crash after these calls leaves.
-fn image_after(
+// What a crash leaves behind the calls that these undo, which led to the file. It goes back to the last sync, and then on from there.
+fn image_behind(
     alloc: Global,
     image: CrashImage,
-    start: &[u8],
-    calls: &[Call],
+    file: &[u8],
+    undos: &[Undo],
 ) -> Result<Vec<u8>, AllocError>
-    ensures { IfOk result (λ bytes. bytes.items ≡ image_of image start.now (reverse (map step_of calls.now))) }
+    requires { Redoes file.now (newest_first undos.now) }
+    ensures { IfOk result (λ bytes. bytes.items ≡ image_of image (first_of file.now (newest_first undos.now)) (steps_back file.now (newest_first undos.now))) }
 {
-    let synced = synced_calls(calls);
-    let mut left = replay(alloc, start, &calls[..synced])?;
-    let mut at = synced;
-    'calls: while at < calls.len() {
-        leave(alloc, image, start, &mut left, calls, at)?;
-        at += 1;
-    }
-    Ok(left)
-}
-
-// Goes from what a crash leaves before the call of this number to what it leaves after it.
-fn leave(
-    alloc: Global,
-    image: CrashImage,
-    start: &[u8],
-    left: &mut Vec<u8>,
-    calls: &[Call],
-    at: usize,
-) -> Result<(), AllocError>
-    requires within { at < length calls.now }
-    requires before { left.old.items ≡ image_of image start.now (reverse (map step_of (take at calls.now))) }
-    ensures { OnOk result (left.new.items ≡ image_of image start.now (reverse (map step_of (take (at + 1) calls.now)))) }
-{
-    match &calls[at] {
-        Call::Synced => {
-            *left = replay(alloc, start, &calls[..at])?;
-            Ok(())
+    let [earlier @ .., last] = undos else {
+        return file.to_vec(alloc);
+    };
+    match call_of(file, last) {
+        Some(call) => {
+            let before = undone(alloc, file, last)?;
+            let mut left = image_behind(alloc, image, &before, earlier)?;
+            apply_as(alloc, image, &mut left, call)?;
+            Ok(left)
         }
-        call => apply_as(alloc, image, left, call),
+        None => file.to_vec(alloc),
     }
 }
 
-// How many calls there are up to the last sync, or up to a stop.
-fn synced_calls(calls: &[Call]) -> usize
-    ensures within { result ≤ length calls.now }
-    ensures synced { (image : CrashImage) (start : List ℕ) → image_of image start (reverse (map step_of (take result calls.now))) ≡ replayed start (reverse (map step_of (take result calls.now))) }
+// The write or the cut that led to the file. None where it was a sync, or the disk stopped.
+fn call_of<'f>(file: &'f [u8], undo: &Undo) -> Option<Call<'f>>
+    ensures some { IfSome result (λ call. IsUnsynced (step_of call) × (step_of call ≡ step_back file.now (back_of undo.now))) }
+    ensures none { IfNone result (EndsHere (step_back file.now (back_of undo.now))) }
 {
-    let mut count = calls.len();
-    'calls: while count > 0 {
-        if matches!(calls[count - 1], Call::Synced | Call::Stopped { .. }) {
-            return count;
-        }
-        count -= 1;
+    match undo {
+        Undo::Write { at, count, .. } => Some(Call::Write {
+            at: *at,
+            bytes: front(behind(file, *at as usize), *count),
+        }),
+        Undo::Cut { len, .. } => Some(Call::Cut { len: *len }),
+        Undo::Sync | Undo::Stop { .. } => None,
     }
-    0
 }

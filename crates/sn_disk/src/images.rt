@@ -1,6 +1,6 @@
 // What a crash leaves, by the caller's choice.
 ghost use Rattle.std.specs.Prelude.{◌≡◌, OnOk, OnErr};
-ghost use Rattle.sn_disk.specs.Steps.{step_of};
+ghost use Rattle.sn_disk.specs.Record.{step_of};
 ghost use Rattle.sn_disk.specs.Images.{left_of, due, nearer};
 
 use crate::calls::{Call, apply, overwrite};
@@ -31,19 +31,19 @@ pub(crate) fn apply_as(
     alloc: Global,
     image: CrashImage,
     file: &mut Vec<u8>,
-    call: &Call,
+    call: Call<'_>,
 ) -> Result<(), AllocError>
-    ensures ok { OnOk result (file.new.items ≡ left_of image file.old.items (step_of call.now)) }
+    ensures ok { OnOk result (file.new.items ≡ left_of image file.old.items (step_of call.entry)) }
     ensures err { OnErr result (file.new.items ≡ file.old.items) }
 {
     match (call, image) {
-        (Call::Wrote { .. }, CrashImage::Old) => Ok(()),
-        (Call::Wrote { at, bytes }, CrashImage::Filled(byte)) => {
+        (Call::Write { .. }, CrashImage::Old) => Ok(()),
+        (Call::Write { at, bytes }, CrashImage::Filled(byte)) => {
             let filled = vec![in alloc; byte; bytes.len()]?;
-            overwrite(file, *at, &filled)
+            overwrite(file, at, &filled)
         }
-        (Call::WasCut { .. }, CrashImage::Old) => Ok(()),
-        _ => apply(alloc, file, call),
+        (Call::Cut { .. }, CrashImage::Old) => Ok(()),
+        _ => apply(file, call),
     }
 }
 

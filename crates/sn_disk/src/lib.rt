@@ -12,8 +12,8 @@ mod laws;
 mod mem_shelf;
 mod memory;
 mod shelf;
+mod undo;
 
-pub use calls::Call;
 pub use disk::Disk;
 pub use durable::write_durably;
 pub use images::{CrashImage, Stop};

@@ -1,15 +1,17 @@
 // A disk in memory.
-ghost use Rattle.std.specs.Prelude.{◌≡◌, ◌⊎◌, ◌↔◌, ◌+◌, ◌<◌, ◌≤◌, ◌^◌, [], List, ℕ, length, map, reverse, take, drop, IfOk, OnOk, OnErr, IsTrue, Some, false};
+ghost use Rattle.std.specs.Prelude.{◌≡◌, ◌⊎◌, ◌↔◌, ◌+◌, ◌<◌, ◌≤◌, ◌^◌, [], List, ℕ, length, reverse, take, drop, IfOk, OnOk, OnErr, IsTrue, Some, false};
 ghost use Rattle.sn_io.specs.Causes.{CountsFailure, IsRise};
 ghost use Rattle.sn_io.specs.FaultPlan.{fresh, began, failed, wanted};
 ghost use Rattle.sn_disk.specs.Disk.{overwritten, Torn, Cut, Follows, Elapses, Counts, Only};
-ghost use Rattle.sn_disk.specs.Steps.{step_of, write_step, cut_step, sync_step, StepLeaves, Leaves, LeftSince, IsKept, IsCall, ends_in_stop};
+ghost use Rattle.sn_disk.specs.Record.{Fits, step_of};
+ghost use Rattle.sn_disk.specs.Steps.{write_step, cut_step, sync_step, StepLeaves, Leaves, LeftSince, IsKept, IsCall, ends_in_stop};
 ghost use Rattle.sn_disk.specs.Images.{image_now, due};
 ghost use Rattle.sn_disk.specs.Courses.{Does, StopsIn};
 
+use crate::calls::Call;
 use crate::history::History;
 use crate::images::{image_due, one_call_nearer};
-use crate::{Call, CrashImage, Disk, Stop};
+use crate::{CrashImage, Disk, Stop};
 use sn_io::{Failed, FaultPlan};
 use std::alloc::{AllocError, Global};
 
@@ -90,11 +92,11 @@ impl MemDisk {
         self.history.bytes()
     }
 
-    /// Its changing calls, the oldest first.
-    pub fn calls(&self) -> &[Call]
-        ensures { map step_of result.now ≡ (disk_told self.now).steps }
+    /// How many changing calls its record has.
+    pub fn moment(&self) -> u64
+        ensures { result ≡ length (disk_told self.now).steps }
     {
-        self.history.calls()
+        self.history.moment()
     }
 
     /// How often a call has failed for want of memory.
@@ -129,19 +131,20 @@ impl MemDisk {
     }
 
     // Does a changing call of a disk that hasn't stopped, or stops in it.
-    fn change(&mut self, call: Call) -> Result<(), Failed>
+    fn change(&mut self, call: Call<'_>) -> Result<(), Failed>
         requires call { IsCall (step_of call) }
+        requires fits { Fits self.old.history.bytes call }
         requires awake { disk_stopped self.old ≡ false }
-        ensures crash { Follows (StepLeaves (step_of call)) (Leaves self.old.history) (Leaves self.new.history) }
+        ensures crash { Follows (StepLeaves (step_of call.entry)) (Leaves self.old.history) (Leaves self.new.history) }
         ensures time { Elapses (length self.old.history.steps) (length self.new.history.steps) (LeftSince self.old.history) (LeftSince self.new.history) (Leaves self.new.history) }
         ensures one { Counts 1 (length self.old.history.steps) (length self.new.history.steps) result }
         ensures grows { Grows self.old self.new }
         ensures cause { CountsFailure self.old.plan.faults self.new.plan.faults result }
-        ensures done { OnOk result (Does (disk_state self.old) (step_of call) (disk_state self.new) × (disk_plan self.new ≡ disk_plan self.old)) }
-        ensures fails { OnErr result (IsWanting self.old self.new ⊎ IsStopping (step_of call) self.old self.new) }
+        ensures done { OnOk result (Does (disk_state self.old) (step_of call.entry) (disk_state self.new) × (disk_plan self.new ≡ disk_plan self.old)) }
+        ensures fails { OnErr result (IsWanting self.old self.new ⊎ IsStopping (step_of call.entry) self.old self.new) }
     {
         if let Some(image) = image_due(self.stop) {
-            return Err(self.stop_in(&call, image));
+            return Err(self.stop_in(call, image));
         }
         match self.history.make(self.alloc, call) {
             Ok(()) => {
@@ -153,21 +156,21 @@ impl MemDisk {
     }
 
     // Stops in a changing call.
-    fn stop_in(&mut self, call: &Call, image: CrashImage) -> Failed
-        requires call { IsCall (step_of call.now) }
+    fn stop_in(&mut self, call: Call<'_>, image: CrashImage) -> Failed
+        requires call { IsCall (step_of call) }
         requires awake { disk_stopped self.old ≡ false }
         requires due { due self.old.stop ≡ Some image }
-        ensures crash { Follows (StepLeaves (step_of call.now)) (Leaves self.old.history) (Leaves self.new.history) }
+        ensures crash { Follows (StepLeaves (step_of call.entry)) (Leaves self.old.history) (Leaves self.new.history) }
         ensures time { Elapses (length self.old.history.steps) (length self.new.history.steps) (LeftSince self.old.history) (LeftSince self.new.history) (Leaves self.new.history) }
         ensures most { length self.new.history.steps ≤ length self.old.history.steps + 1 }
         ensures grows { Grows self.old self.new }
         ensures cause { IsRise self.old.plan.faults self.new.plan.faults }
-        ensures fails { IsWanting self.old self.new ⊎ IsStopping (step_of call.now) self.old self.new }
+        ensures fails { IsWanting self.old self.new ⊎ IsStopping (step_of call.entry) self.old self.new }
     {
         let Ok(left) = self.history.image_in(self.alloc, image, call) else {
             return self.plan.want();
         };
-        match self.history.make(self.alloc, Call::Stopped { left }) {
+        match self.history.stop(left) {
             Ok(()) => {
                 self.stop = Stop::Never;
                 self.stopped = true;
@@ -256,10 +259,7 @@ impl Disk for MemDisk {
         ensures ends { ChangeEnds (write_step at bytes.now) self.old self.new result }
     {
         self.begin()?;
-        match bytes.to_vec(self.alloc) {
-            Ok(bytes) => self.change(Call::Wrote { at, bytes }),
-            Err(_) => Err(self.plan.want()),
-        }
+        self.change(Call::Write { at, bytes })
     }
 
     fn cut(&mut self, len: u64) -> Result<(), Failed>
@@ -274,7 +274,7 @@ impl Disk for MemDisk {
         ensures ends { ChangeEnds (cut_step len) self.old self.new result }
     {
         self.begin()?;
-        self.change(Call::WasCut { len })
+        self.change(Call::Cut { len })
     }
 
     fn sync(&mut self) -> Result<(), Failed>
@@ -289,6 +289,6 @@ impl Disk for MemDisk {
         ensures ends { ChangeEnds sync_step self.old self.new result }
     {
         self.begin()?;
-        self.change(Call::Synced)
+        self.change(Call::Sync)
     }
 }

@@ -19,7 +19,7 @@ use std::alloc::Global;
 pub fn mark_of(disk: &MemDisk) -> u64
     ensures { result ≡ mark_of disk.now }
 {
-    disk.calls().len() as u64
+    disk.moment()
 }
 
 /// Reads the batches that were added to a store behind the gate at a place, of a disk of which a crash leaves just what reads give:

@@ -1,6 +1,7 @@
 use Rattle.std.proofs.Common.{sym, subst, refl, rules}
 use Rattle.sn_disk.specs.Disk.{Follows}
-use Rattle.sn_disk.specs.Steps.{Told, Leaves, StepLeaves, step_of}
+use Rattle.sn_disk.specs.Record.{step_of}
+use Rattle.sn_disk.specs.Steps.{Told, Leaves, StepLeaves}
 use Rattle.sn_disk.proofs.Records.{follows_same, follows_more}
 use Rattle.sn_disk.specs.Growth.{grows_doing, grows_wanting}
 use Rattle.sn_disk.proofs.memory.MemDisk.change.Goals as goal
