@@ -4,9 +4,9 @@ use Rattle.std.proofs.lemmas.Bool.Decides.{nat_tests}
 use Rattle.std.proofs.lemmas.List.Elements.{All-head, All-tail}
 use Rattle.std.specs.Prelude.{◌==◌, length}
 use Rattle.rand_chacha.specs.ChaCha.{ChaCha}
-use Rattle.sn_client.proofs.Facts.{Adopted, IsAdopted as IsRekeyed, adopted, adopted_device, adopted_sets}
-use Rattle.sn_client.specs.States.{HasLocal, OwnerColumns}
-use Rattle.sn_client.specs.Steps.{Adopts}
+use Rattle.sn_device.proofs.Facts.{Adopted, IsAdopted as IsRekeyed, adopted, adopted_device, adopted_sets}
+use Rattle.sn_device.specs.States.{HasLocal, OwnerColumns}
+use Rattle.sn_device.specs.Steps.{Adopts}
 use Rattle.sn_journal.specs.declared.owner.Owner.TheVariants.{Device as device_owner}
 use Rattle.sn_laws.proofs.Facts.{retired}
 use Rattle.sn_laws.specs.Lookups.{Bytes, greatest, is_device}

@@ -1,8 +1,7 @@
 -- A set that is asked for, or dropped, and a session token that is renewed leave what a device's rows show.
 use Rattle.std.proofs.Common.{◌≡◌, ◌≢◌, List, [], ◌∷◌, Option, Some, Bool, true, false, refl, sym, ap, ◌∙◌, subst}
 use Rattle.std.specs.Prelude.{IsSome}
-use Rattle.sn_client.specs.States.{IsInSlot, OwnerColumns}
-use Rattle.sn_client.specs.Syncing.{HasNoneAsked}
+use Rattle.sn_device.specs.States.{IsInSlot, OwnerColumns, HasNoneAsked}
 use Rattle.sn_laws.proofs.Facts.{clash}
 use Rattle.sn_laws.specs.Lookups.{Bytes}
 use Rattle.sn_laws.specs.declared.ideal.Account.{Account}

@@ -1,7 +1,7 @@
 -- What a device's rows show opens under the greatest of two sets, but for versions that aren't stale, which open under no older one: so nothing opens
 -- under that alone.
 use Rattle.std.proofs.Common.{◌≡◌, ℕ, Bool, true, false, [], ◌∷◌, Option, Some, None, refl, subst}
-use Rattle.sn_client.specs.States.{HasLocal}
+use Rattle.sn_device.specs.States.{HasLocal}
 use Rattle.sn_items.specs.Items.{OpensItem}
 use Rattle.sn_laws.proofs.Facts.{one_there}
 use Rattle.sn_laws.specs.Lookups.{Bytes, draft_at}

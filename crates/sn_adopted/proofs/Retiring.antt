@@ -1,8 +1,8 @@
 -- The rows of a device at the end of an applied answer, where its older set may go.
 use Rattle.std.proofs.Common.{◌≡◌, ◌<◌, ℕ, List, [], ◌∷◌, Option, Some, None, refl, sym, subst, inl, inr}
 use Rattle.std.specs.Prelude.{length}
-use Rattle.sn_client.specs.States.{IsInSlot}
-use Rattle.sn_client.specs.Steps.{Retires}
+use Rattle.sn_device.specs.States.{IsInSlot}
+use Rattle.sn_device.specs.Steps.{Retires}
 use Rattle.sn_laws.specs.Lookups.{Bytes}
 use Rattle.sn_laws.specs.Moves.{after}
 use Rattle.sn_laws.specs.Reached.{IsOneOrTwo}

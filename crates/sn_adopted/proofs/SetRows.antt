@@ -1,6 +1,6 @@
 -- The sets of a device's rows that show a state are the account's, of the numbers that the device holds.
 use Rattle.std.proofs.Common.{◌≡◌, ℕ, [], ◌∷◌, Option, Some, None, refl, sym, ap, ◌∙◌, subst}
-use Rattle.sn_client.specs.States.{HasOwner, HasSets, IsInSlot, IsSetOf}
+use Rattle.sn_device.specs.States.{HasOwner, HasSets, IsInSlot, IsSetOf}
 use Rattle.sn_laws.proofs.Facts.{one_there}
 use Rattle.sn_laws.specs.Lookups.{Bytes, greatest}
 use Rattle.sn_laws.specs.declared.ideal.Account.{Account}

@@ -3,11 +3,11 @@ use Rattle.std.proofs.Common.{◌≡◌, ◌<◌, ℕ, List, [], ◌∷◌, Opti
 use Rattle.std.specs.List.{AllZip}
 use Rattle.std.specs.Prelude.{length}
 use Rattle.rand_chacha.specs.ChaCha.{ChaCha}
-use Rattle.sn_client.proofs.Facts.{IsKept, Parts, Stand, apply_parts, apply_stands, begin_empty, delete_parts, delete_stands, edit_parts, edit_stands, item_after, new_stands, past_asked, post_parts, post_stands, put_parts, renew_parts}
-use Rattle.sn_client.specs.Sending.{Posts}
-use Rattle.sn_client.specs.States.{Columns, HasLocal, HasOwner, HasSets, IsSound}
-use Rattle.sn_client.specs.Steps.{AppliesAnswer, AppliesTo, Step, What, adopts, applies, asks, begins, deletes, edits, forgets, posts, puts, renews}
-use Rattle.sn_client.specs.Taking.{IsKeptAs, StandsOn, new_columns}
+use Rattle.sn_device.proofs.Facts.{IsKept, Parts, Stand, apply_parts, apply_stands, begin_empty, delete_parts, delete_stands, edit_parts, edit_stands, item_after, new_stands, past_asked, post_parts, post_stands, put_parts, renew_parts}
+use Rattle.sn_device.specs.Sending.{Posts}
+use Rattle.sn_device.specs.States.{Columns, HasLocal, HasOwner, HasSets, IsSound}
+use Rattle.sn_device.specs.Steps.{AppliesAnswer, AppliesTo, Step, What, adopts, applies, asks, begins, deletes, edits, forgets, posts, puts, renews}
+use Rattle.sn_device.specs.Taking.{IsKeptAs, StandsOn, new_columns}
 use Rattle.sn_items.specs.declared.sealed.Sealed.{Sealed}
 use Rattle.sn_laws.specs.Lookups.{Bytes, greatest}
 use Rattle.sn_laws.specs.Reached.{IsOneOrTwo, NoncesApart}

@@ -2,9 +2,8 @@
 -- the device's own steps; whether the moves are legal is not spoken of here.
 use Rattle.std.specs.Prelude.{◌≡◌, ◌<◌, ℕ, List, [], ◌∷◌, length, Option, Some, None, IsTrue}
 use Rattle.rand_chacha.specs.ChaCha.{ChaCha}
-use Rattle.sn_client.specs.States.{HasSets, IsInSlot, IsSound, owner_columns}
-use Rattle.sn_client.specs.Steps.{Adopts, Asks, Forgets, Renews, Retires, Step, What, with_token}
-use Rattle.sn_client.specs.Syncing.{HasNoneAsked}
+use Rattle.sn_device.specs.States.{HasSets, IsInSlot, IsSound, owner_columns, HasNoneAsked}
+use Rattle.sn_device.specs.Steps.{Adopts, Asks, Forgets, Renews, Retires, Step, What, with_token}
 use Rattle.sn_laws.specs.Each.{Each}
 use Rattle.sn_laws.specs.Lookups.{Bytes, greatest}
 use Rattle.sn_laws.specs.Moves.{allows}

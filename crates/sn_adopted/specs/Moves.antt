@@ -1,7 +1,7 @@
 -- The moves by which a device goes through a change of password, and what its rows have in common with the account meanwhile.
 use Rattle.std.specs.Prelude.{◌≡◌, ◌⊎◌, ℕ, true, List, [], ◌∷◌, Option, Some, None}
-use Rattle.sn_client.specs.States.{HasLocal}
-use Rattle.sn_client.specs.Steps.{MayRetire, What, adopts}
+use Rattle.sn_device.specs.States.{HasLocal}
+use Rattle.sn_device.specs.Steps.{MayRetire, What, adopts}
 use Rattle.sn_laws.specs.Each.{One}
 use Rattle.sn_laws.specs.Lookups.{Bytes, device_named, draft_at, greatest, held_by}
 use Rattle.sn_laws.specs.declared.ideal.Account.{Account}

@@ -5,7 +5,7 @@ use Rattle.std.specs.Prelude.{IsSome, codes, true}
 use Rattle.sn_account.specs.Lookups.{HasAccount as HasAccountRow, HasStore, IsNamed}
 use Rattle.sn_account.specs.Rules.{Admits, IsBehind, IsPresent, Rejects, SignsIn, TellsParams}
 use Rattle.sn_account.specs.Sessions.{IsSession, account_uuid, session_token}
-use Rattle.sn_client.specs.States.{HasSets}
+use Rattle.sn_device.specs.States.{HasSets}
 use Rattle.sn_keys.specs.Keys.{check_value}
 use Rattle.sn_asked.specs.Asked.{IsLastSet}
 use Rattle.sn_laws.proofs.Facts.{one_there}

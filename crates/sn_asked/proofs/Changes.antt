@@ -4,7 +4,7 @@ use Rattle.sn_account.specs.Lookups.{HasAccount as HasAccountRow, HasStore}
 use Rattle.sn_account.specs.Rules.{ChangesKeys, ChangesPassword, IsPresent, Replaces}
 use Rattle.sn_account.specs.Sessions.{IsSession, session_token}
 use Rattle.sn_asked.proofs.Accounts.{behind_not, number, one_present, session_is}
-use Rattle.sn_client.specs.States.{HasSets}
+use Rattle.sn_device.specs.States.{HasSets}
 use Rattle.sn_laws.specs.Lookups.{Bytes}
 use Rattle.sn_laws.specs.declared.ideal.Ideal.{Ideal}
 use Rattle.sn_passwd.proofs.NotDenied.{not_denied}

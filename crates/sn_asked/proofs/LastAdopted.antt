@@ -2,7 +2,7 @@
 use Rattle.std.proofs.Common.{◌≡◌, ◌≤◌, ℕ, length, refl, sym, ap, ◌∙◌, arith}
 use Rattle.sn_account.specs.Sessions.{session_token}
 use Rattle.sn_account.specs.Sound.{most_accounts, most_generations}
-use Rattle.sn_client.specs.States.{HasOwner}
+use Rattle.sn_device.specs.States.{HasOwner}
 use Rattle.sn_laws.specs.Lookups.{Bytes, greatest}
 use Rattle.sn_laws.specs.declared.ideal.Ideal.{Ideal}
 use Rattle.sn_ready.specs.Ready.{HoldsLast}

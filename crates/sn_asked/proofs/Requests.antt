@@ -2,11 +2,11 @@
 use Rattle.std.proofs.Common.{◌≡◌, ◌<◌, ◌⊎◌, ℕ, suc, List, [], ◌∷◌, ◌++◌, true, false, refl, ap, ◌∙◌, subst, inl, inr, arith}
 use Rattle.rand_chacha.specs.ChaCha.{ChaCha}
 use Rattle.sn_account.specs.Rule.{Rule}
-use Rattle.sn_client.specs.Asking.{Reply, said}
-use Rattle.sn_client.specs.Runs.{Act, AsksHost, CommitsStep, Drops, Halt, Hears, IsBatch, Point, Turn, asked, commits as committed, goes_on, is_over, most_exchanges, refused}
-use Rattle.sn_client.specs.Steps.{Forgets, Step, What, forgets}
-use Rattle.sn_client.specs.declared.error.ClientError.{ClientError}
-use Rattle.sn_client.specs.declared.error.ClientError.TheVariants as refusal
+use Rattle.sn_device.specs.Asking.{Reply, said}
+use Rattle.sn_device.specs.Runs.{Act, AsksHost, CommitsStep, Drops, Halt, Hears, IsBatch, Point, Turn, asked, commits as committed, goes_on, is_over, most_exchanges, refused}
+use Rattle.sn_device.specs.Steps.{Forgets, Step, What, forgets}
+use Rattle.sn_device.specs.declared.error.ClientError.{ClientError}
+use Rattle.sn_device.specs.declared.error.ClientError.TheVariants as refusal
 use Rattle.sn_laws.specs.Each.{Each}
 use Rattle.sn_ready.proofs.ChangeSizes.{forgets_fit}
 use Rattle.sn_ready.proofs.RowEnds.{Fails}

@@ -11,12 +11,12 @@ use Rattle.sn_asked.proofs.Changes.{Conflicts, conflicts, made_session}
 use Rattle.sn_asked.proofs.LastAdopted.{adopted_last}
 use Rattle.sn_asked.proofs.Requests.{Committed, Dropped, GoesOn, TooLarge, commit_goes, drops_goes, host_goes}
 use Rattle.sn_asked.specs.Asked.{DropsIt, HearsAccount, HearsParams, IsLastSet, IsNext, IsTooLarge, RefusesAgain}
-use Rattle.sn_client.proofs.Facts.{Adopted, adopted}
-use Rattle.sn_client.specs.Asking.{said}
-use Rattle.sn_client.specs.Runs.{Act, AdoptsOrDrops, AdoptsOrKeeps, AsksHost, CommitsStep, Drops, DropsOrKeeps, Finds, FindsParams, Halt, Point, Resolves, Turn, asked, begun, change_to, commits as committed, goes_on, is_over, most_exchanges, refused}
-use Rattle.sn_client.specs.States.{HasSets, IsSound, OwnerColumns}
-use Rattle.sn_client.specs.Steps.{Step, adopts}
-use Rattle.sn_client.specs.declared.error.ClientError.TheVariants as refusal
+use Rattle.sn_device.proofs.Facts.{Adopted, adopted}
+use Rattle.sn_device.specs.Asking.{said}
+use Rattle.sn_device.specs.Runs.{Act, AdoptsOrDrops, AdoptsOrKeeps, AsksHost, CommitsStep, Drops, DropsOrKeeps, Finds, FindsParams, Halt, Point, Resolves, Turn, asked, begun, change_to, commits as committed, goes_on, is_over, most_exchanges, refused}
+use Rattle.sn_device.specs.States.{HasSets, IsSound, OwnerColumns}
+use Rattle.sn_device.specs.Steps.{Step, adopts}
+use Rattle.sn_device.specs.declared.error.ClientError.TheVariants as refusal
 use Rattle.sn_laws.specs.Each.{Each}
 use Rattle.sn_laws.specs.Lookups.{Bytes}
 use Rattle.sn_laws.specs.Runs.{end_from}

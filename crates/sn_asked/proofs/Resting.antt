@@ -2,8 +2,8 @@
 use Rattle.std.proofs.Common.{◌≡◌, ◌<◌, ℕ, Bool, true, false, length, map, Option, Some, refl, sym, ap, ◌∙◌, subst, inl, ⊎_elim, arith}
 use Rattle.std.specs.Prelude.{◌==◌}
 use Rattle.sn_asked.specs.Resting.{FinishedStays, AtRestFinished}
-use Rattle.sn_client.specs.Changing.{MayAsk}
-use Rattle.sn_client.specs.States.{HasLocal, HasSets}
+use Rattle.sn_device.specs.Changing.{MayAsk}
+use Rattle.sn_device.specs.States.{HasLocal, HasSets}
 use Rattle.sn_finished.specs.Finished.{CarriesLast}
 use Rattle.sn_items.specs.Items.{Carries, CarriesParams}
 use Rattle.sn_laws.proofs.Facts.{number_same, one_there, same_number}

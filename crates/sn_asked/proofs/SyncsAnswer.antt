@@ -4,13 +4,12 @@ use Rattle.std.proofs.lemmas.List.{append-nil}
 use Rattle.rand_chacha.specs.ChaCha.{ChaCha}
 use Rattle.sn_asked.proofs.Resolving.{Comes, EndsSo, IsAdopted, resolves_so}
 use Rattle.sn_asked.specs.Asked.{AskedSyncEnds, AskedSyncsAnswer, DropsIt, EveryAskedSyncAnswers, HearsAccount, HearsParams, IsLastSet, TracedAskedSyncsAnswer}
-use Rattle.sn_client.proofs.DeviceSteps.{one_set, one_slot}
-use Rattle.sn_client.proofs.Facts.{one_owner}
-use Rattle.sn_client.specs.Asking.{said}
-use Rattle.sn_client.specs.Changing.{HoldsAsked}
-use Rattle.sn_client.specs.Runs.{Act, AnswersNothing, Exchanges, Halt, Point, Resolves, Run, SyncsUnder, Then, Turn, answered, asked, begun, commits as committed, goes_on, is_over, nothing, sync}
-use Rattle.sn_client.specs.States.{HasSets}
-use Rattle.sn_client.specs.Steps.{adopts}
+use Rattle.sn_device.proofs.Facts.{one_set, one_slot, one_owner}
+use Rattle.sn_device.specs.Asking.{said}
+use Rattle.sn_device.specs.Changing.{HoldsAsked}
+use Rattle.sn_device.specs.Runs.{Act, AnswersNothing, Exchanges, Halt, Point, Resolves, Run, SyncsUnder, Then, Turn, answered, asked, begun, commits as committed, goes_on, is_over, nothing, sync}
+use Rattle.sn_device.specs.States.{HasSets}
+use Rattle.sn_device.specs.Steps.{adopts}
 use Rattle.sn_laws.proofs.Facts.{each_back, each_front}
 use Rattle.sn_laws.specs.Each.{Each}
 use Rattle.sn_laws.specs.Laws.{VersionsRise}

@@ -5,11 +5,11 @@ use Rattle.rand_chacha.specs.ChaCha.{ChaCha}
 use Rattle.sn_account.specs.Lookups.{HasAccount as HasAccountRow, IsNamed}
 use Rattle.sn_account.specs.Rules.{IsPresent}
 use Rattle.sn_account.specs.Sessions.{IsSession}
-use Rattle.sn_client.specs.Asking.{said}
-use Rattle.sn_client.specs.Changing.{HoldsAsked}
-use Rattle.sn_client.specs.Runs.{Act, Halt, IsBatch, Run, asked, broken, change_to, commits, refused, sync}
-use Rattle.sn_client.specs.Steps.{Forgets, Step, What, adopts, forgets}
-use Rattle.sn_client.specs.declared.error.ClientError.TheVariants as refusal
+use Rattle.sn_device.specs.Asking.{said}
+use Rattle.sn_device.specs.Changing.{HoldsAsked}
+use Rattle.sn_device.specs.Runs.{Act, Halt, IsBatch, Run, asked, broken, change_to, commits, refused, sync}
+use Rattle.sn_device.specs.Steps.{Forgets, Step, What, adopts, forgets}
+use Rattle.sn_device.specs.declared.error.ClientError.TheVariants as refusal
 use Rattle.sn_laws.specs.Each.{Each}
 use Rattle.sn_laws.specs.Lookups.{Bytes, empty}
 use Rattle.sn_laws.specs.Runs.{end}

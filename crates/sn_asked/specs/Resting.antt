@@ -1,7 +1,7 @@
 -- That no other change of its account's password runs where a device asked for a set while it was at rest.
 use Rattle.std.specs.Prelude.{◌≡◌, List}
-use Rattle.sn_client.specs.Changing.{MayAsk}
-use Rattle.sn_client.specs.States.{HasOwner, HasSets}
+use Rattle.sn_device.specs.Changing.{MayAsk}
+use Rattle.sn_device.specs.States.{HasOwner, HasSets}
 use Rattle.sn_laws.specs.Lookups.{Bytes}
 use Rattle.sn_laws.specs.Runs.{end_from}
 use Rattle.sn_laws.specs.declared.ideal.Ideal.{Ideal}

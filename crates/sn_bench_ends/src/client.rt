@@ -2,10 +2,11 @@
 
 ghost use Rattle.std.specs.Prelude.{IfSome};
 ghost use Rattle.sn_client.specs.Calls.{IfStands, device_rows};
-ghost use Rattle.sn_client.specs.States.{IsSound};
+ghost use Rattle.sn_device.specs.States.{IsSound};
 
 use crate::setting::{COST, IDENTIFIER, PASSWORD};
-use sn_client::{Called, Device, Listed, Mark};
+use sn_client::{Called, Device};
+use sn_device::{Listed, Mark};
 use sn_disk::MemDisk;
 use sn_items::Words;
 use sn_net::Link;

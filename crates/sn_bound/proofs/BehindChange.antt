@@ -7,11 +7,11 @@ use Rattle.sn_account.specs.Sound.{IsSound as IsSoundServer}
 use Rattle.sn_bound.proofs.OneExchange.{HasAllAt}
 use Rattle.sn_bound.proofs.SentNamed.{NoneDrafted}
 use Rattle.sn_bound.specs.Whole.{WholeChanges}
-use Rattle.sn_client.proofs.Facts.{Adopted, adopted, past_asked}
-use Rattle.sn_client.specs.Asking.{said}
-use Rattle.sn_client.specs.Runs.{Act, asked, change_to, commits as committed}
-use Rattle.sn_client.specs.States.{HasSets}
-use Rattle.sn_client.specs.Steps.{Step, adopts, asks}
+use Rattle.sn_device.proofs.Facts.{Adopted, adopted, past_asked}
+use Rattle.sn_device.specs.Asking.{said}
+use Rattle.sn_device.specs.Runs.{Act, asked, change_to, commits as committed}
+use Rattle.sn_device.specs.States.{HasSets}
+use Rattle.sn_device.specs.Steps.{Step, adopts, asks}
 use Rattle.sn_laws.specs.Lookups.{Bytes, greatest}
 use Rattle.sn_laws.specs.Runs.{end_from}
 use Rattle.sn_laws.specs.declared.ideal.Account.{Account}

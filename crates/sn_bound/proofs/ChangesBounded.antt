@@ -8,11 +8,11 @@ use Rattle.sn_bound.proofs.OneExchange.{HasAllAt}
 use Rattle.sn_bound.proofs.SecondRow.{all_rounds}
 use Rattle.sn_bound.specs.Bound.{ChangesBounded, IsBounded, SendsPortions, exchanges_for}
 use Rattle.sn_bound.specs.Whole.{HasWhole, IsLastPage, WholeBegins, WholeChanges, WholeStays}
-use Rattle.sn_client.specs.Asking.{said}
-use Rattle.sn_client.specs.Runs.{Act, AreRounds, Halt, IsDone, Point, Round, Standing, acts_of, answered, asked, begun, change_to, commits as committed, nothing, rows_done}
-use Rattle.sn_client.specs.Sending.{NoneWaits}
-use Rattle.sn_client.specs.States.{HasSets}
-use Rattle.sn_client.specs.Steps.{adopts, asks}
+use Rattle.sn_device.specs.Asking.{said}
+use Rattle.sn_device.specs.Runs.{Act, AreRounds, Halt, IsDone, Point, Round, Standing, acts_of, answered, asked, begun, change_to, commits as committed, nothing, rows_done}
+use Rattle.sn_device.specs.Sending.{NoneWaits}
+use Rattle.sn_device.specs.States.{HasSets}
+use Rattle.sn_device.specs.Steps.{adopts, asks}
 use Rattle.sn_laws.specs.Lookups.{Bytes}
 use Rattle.sn_laws.specs.Runs.{end_from}
 use Rattle.sn_laws.specs.declared.ideal.Ideal.{Ideal}
@@ -31,7 +31,7 @@ use Rattle.sn_world.proofs.CallFronts.{Split, split}
 use Rattle.sn_world.proofs.CallLemmas.{Stands, stands_then}
 use Rattle.sn_world.proofs.SyncCalls.{end_goes, over_round, rounds_on}
 use Rattle.sn_world.proofs.SyncsEnd.{is_whole, rounds_rows}
-use Rattle.sn_client.proofs.Facts.{EndsAlone}
+use Rattle.sn_device.proofs.Facts.{EndsAlone}
 use Rattle.sn_world.specs.Answering.{requests_in}
 use Rattle.sn_world.specs.Calls.{AreServed, Fate, Leads, begins_none, call_steps, rows_served}
 use Rattle.sn_world.specs.Holds.{Holds, TokensDiffer}

@@ -5,14 +5,12 @@ use Rattle.std.specs.Prelude.{IsSome}
 use Rattle.std.proofs.lemmas.List.Elements.{Contains-append_left, Contains-append_right, Contains-push}
 use Rattle.rand_chacha.specs.ChaCha.{ChaCha}
 use Rattle.sn_bound.specs.Commits.{ChangesCommit, HasNoDraft, commits_in}
-use Rattle.sn_client.proofs.Facts.{adopted, after_append, apply_parts}
-use Rattle.sn_client.proofs.Standing.{left_row, looked}
-use Rattle.sn_client.proofs.StepStands.{applied_leads}
-use Rattle.sn_client.specs.Runs.{Act, AreRounds, IsDone, IsRound, Round, Standing, acts_of}
-use Rattle.sn_client.specs.Sending.{AreUnsent, Numbered, PostsAll, PutsColumns}
-use Rattle.sn_client.specs.States.{Bytes, Columns, HasLocal, columns}
-use Rattle.sn_client.specs.Steps.{Applies, AppliesAnswer, AppliesTo, Asks, Step, adopts, start}
-use Rattle.sn_client.specs.Taking.{MakesRow, Meets, Progress, Renames, Takes, TakesAll, TakesBody, TakesOwn, TakesServer, TakesUnsaved, Told, is_conflict, is_retrieved, is_saved, told_by}
+use Rattle.sn_device.proofs.Facts.{adopted, after_append, apply_parts, left_row, looked, applied_leads}
+use Rattle.sn_device.specs.Runs.{Act, AreRounds, IsDone, IsRound, Round, Standing, acts_of}
+use Rattle.sn_device.specs.Sending.{AreUnsent, Numbered, PostsAll, PutsColumns}
+use Rattle.sn_device.specs.States.{Bytes, Columns, HasLocal, columns}
+use Rattle.sn_device.specs.Steps.{Applies, AppliesAnswer, AppliesTo, Asks, Step, adopts, start}
+use Rattle.sn_device.specs.Taking.{MakesRow, Meets, Progress, Renames, Takes, TakesAll, TakesBody, TakesOwn, TakesServer, TakesUnsaved, Told, is_conflict, is_retrieved, is_saved, told_by}
 use Rattle.sn_conflict.specs.declared.meeting.Meeting.{Meeting}
 use Rattle.sn_conflict.specs.declared.meeting.Meeting.TheVariants as meeting
 use Rattle.sn_ready.specs.Passwds.{ChangeCounts}

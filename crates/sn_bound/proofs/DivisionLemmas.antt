@@ -5,7 +5,7 @@ use Rattle.std.proofs.lemmas.Bool.{cases_lt}
 use Rattle.std.proofs.lemmas.List.{append_cancel_left}
 use Rattle.std.proofs.lemmas.List.Sums.{sum_by-append}
 use Rattle.sn_bound.specs.Portions.{ArePortions, IsFront, OneDivision}
-use Rattle.sn_client.specs.Sending.{FitsSending, Numbered, most_sent, sent_of, weight_of}
+use Rattle.sn_device.specs.Sending.{FitsSending, Numbered, most_sent, sent_of, weight_of}
 use Rattle.sn_string.specs.Bounds.{most_bytes}
 
 abbrev weight_all : List Numbered → ℕ

@@ -16,14 +16,12 @@ use Rattle.sn_bound.proofs.SavedTaken.{AreTaken, HasClean, IsAnswered, all_taken
 use Rattle.sn_bound.proofs.SentNamed.{NoneDrafted, is_clean, names_last}
 use Rattle.sn_bound.specs.Whole.{HasWhole, RetrievesNothing, WholeStays}
 use Rattle.sn_bound.proofs.WaitingLists.{front_lower, later_rising, uuids_saved}
-use Rattle.sn_client.proofs.Facts.{item_after}
-use Rattle.sn_client.proofs.Frames.{item_kept}
-use Rattle.sn_client.proofs.StepStands.{applied_leads, apply_parts}
-use Rattle.sn_client.specs.Runs.{IsRound, Round, Standing, items_of}
-use Rattle.sn_client.specs.Sending.{AreSentAs, AreUnsent, AreWaiting, IsSentAs, IsWaiting, Numbered, PostsAll}
-use Rattle.sn_client.specs.States.{Bytes, HasLocal, HasSets, IsSound, IsSoundItem, columns, token_of}
-use Rattle.sn_client.specs.Steps.{Applies, AppliesAnswer, AppliesTo, start}
-use Rattle.sn_client.specs.Taking.{TakesAll, Told, is_saved, told_by}
+use Rattle.sn_device.proofs.Facts.{item_after, item_kept, applied_leads, apply_parts}
+use Rattle.sn_device.specs.Runs.{IsRound, Round, Standing, items_of}
+use Rattle.sn_device.specs.Sending.{AreSentAs, AreUnsent, AreWaiting, IsSentAs, IsWaiting, Numbered, PostsAll}
+use Rattle.sn_device.specs.States.{Bytes, HasLocal, HasSets, IsSound, IsSoundItem, columns, token_of}
+use Rattle.sn_device.specs.Steps.{Applies, AppliesAnswer, AppliesTo, start}
+use Rattle.sn_device.specs.Taking.{TakesAll, Told, is_saved, told_by}
 use Rattle.sn_conflict.specs.Checks.{most_retrieved}
 use Rattle.sn_laws.specs.Each.{Each}
 use Rattle.sn_laws.specs.Runs.{end_from}

@@ -3,7 +3,7 @@ use Rattle.std.proofs.Common.{◌≡◌, ◌≢◌, ◌⊎◌, ◌+◌, ◌*◌,
 use Rattle.std.proofs.lemmas.Bool.{cases_lt}
 use Rattle.std.proofs.lemmas.List.{append-nil}
 use Rattle.sn_bound.specs.Portions.{ArePortions, AreLight, FewPortions, IsFront}
-use Rattle.sn_client.specs.Sending.{AreChosen, FitsSending, Numbered, most_sent}
+use Rattle.sn_device.specs.Sending.{AreChosen, FitsSending, Numbered, most_sent}
 use Rattle.sn_rows.specs.Table.{Rows}
 
 -- ---- fronts

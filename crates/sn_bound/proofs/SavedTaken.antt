@@ -4,9 +4,8 @@ use Rattle.std.proofs.Common.{◌≡◌, ◌≢◌, ◌⊎◌, ℕ, Bool, true, 
 use Rattle.std.proofs.lemmas.Bool.{cases_Bool}
 use Rattle.std.specs.List.{Contains}
 use Rattle.rand_chacha.specs.ChaCha.{ChaCha}
-use Rattle.sn_client.specs.States.{Bytes, Columns, HasItem, HasLocal}
-use Rattle.sn_client.specs.Taken.{AreApart}
-use Rattle.sn_client.specs.Taking.{IsKeptAs, Meets, Progress, TakesAll, TakesBody, TakesServer, is_saved}
+use Rattle.sn_device.specs.States.{Bytes, Columns, HasItem, HasLocal, AreApart}
+use Rattle.sn_device.specs.Taking.{IsKeptAs, Meets, Progress, TakesAll, TakesBody, TakesServer, is_saved}
 use Rattle.sn_conflict.specs.Meetings.{MeetsAs}
 use Rattle.sn_conflict.specs.declared.meeting.Meeting.{Meeting}
 use Rattle.sn_conflict.specs.declared.meeting.Meeting.TheVariants as meeting

@@ -8,8 +8,8 @@ use Rattle.sn_bound.proofs.WaitingLists.{one_waiting}
 use Rattle.sn_bound.specs.Portions.{ArePortions}
 use Rattle.sn_bound.specs.Bound.{SendsPortions, exchanges_for}
 use Rattle.sn_bound.specs.Whole.{RetrievesNothing, WholeStays}
-use Rattle.sn_client.specs.Runs.{Act, AreRounds, IsDone, IsDue, IsRound, Round, Standing, acts_of}
-use Rattle.sn_client.specs.Sending.{AreChosen, AreWaiting, NoneWaits, Numbered, SomeWaits}
+use Rattle.sn_device.specs.Runs.{Act, AreRounds, IsDone, IsDue, IsRound, Round, Standing, acts_of}
+use Rattle.sn_device.specs.Sending.{AreChosen, AreWaiting, NoneWaits, Numbered, SomeWaits}
 use Rattle.sn_laws.specs.Lookups.{Bytes}
 use Rattle.sn_laws.specs.declared.ideal.Ideal.{Ideal}
 use Rattle.sn_rows.specs.Table.{Rows, rows_after}

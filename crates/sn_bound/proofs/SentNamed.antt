@@ -7,8 +7,8 @@ use Rattle.sn_account.specs.Sessions.{IsSession, session_token}
 use Rattle.sn_bound.proofs.AllSaved.{IsAsSent, NamesLast}
 use Rattle.sn_bound.proofs.SavedTaken.{HasClean}
 use Rattle.sn_bound.specs.Whole.{HasWhole}
-use Rattle.sn_client.specs.Sending.{SaysBase, first_some, message_body}
-use Rattle.sn_client.specs.States.{HasLocal, HasSets}
+use Rattle.sn_device.specs.Sending.{SaysBase, first_some, message_body}
+use Rattle.sn_device.specs.States.{HasLocal, HasSets}
 use Rattle.sn_items.specs.Items.{OpensItem}
 use Rattle.sn_laws.proofs.Facts.{one_there}
 use Rattle.sn_laws.specs.Lookups.{Bytes, account_named, device_named, draft_at, greatest, last_of}

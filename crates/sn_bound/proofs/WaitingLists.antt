@@ -5,7 +5,7 @@ use Rattle.std.specs.List.Sorted.{IsStrictlyIncreasing}
 use Rattle.std.proofs.lemmas.List.Elements.{Contains-append_right}
 use Rattle.std.proofs.lemmas.Map.Keys.{IsStrictlyIncreasing-from_sorted}
 use Rattle.sn_bound.proofs.AllSaved.{IsAsSent}
-use Rattle.sn_client.specs.Sending.{AreSentAs, AreWaiting, Numbered}
+use Rattle.sn_device.specs.Sending.{AreSentAs, AreWaiting, Numbered}
 use Rattle.sn_rows.specs.Table.{Rows}
 use Rattle.sn_sync.specs.Versions.{uuids}
 use Rattle.sn_sync.specs.declared.item.Item.{Item}

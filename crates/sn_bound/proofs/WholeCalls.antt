@@ -10,11 +10,11 @@ use Rattle.sn_account.specs.Sessions.{IsSession, account_uuid, session_token}
 use Rattle.sn_account.specs.Sound.{IsSound as IsSoundServer}
 use Rattle.sn_bound.proofs.WholeLemmas.{exchange_begins, exchange_stays}
 use Rattle.sn_bound.specs.Whole.{HasWhole, IsLastPage, RetrievesNothing, SecondWhole, WholeChanges}
-use Rattle.sn_client.proofs.Facts.{adopted, one_owner}
-use Rattle.sn_client.specs.Asking.{said}
-use Rattle.sn_client.specs.Runs.{Act, AreRounds, IsDone, Round, Standing, acts_of, asked, change_to}
-use Rattle.sn_client.specs.States.{Bytes, OwnerColumns, token_of}
-use Rattle.sn_client.specs.Steps.{Asks}
+use Rattle.sn_device.proofs.Facts.{adopted, one_owner}
+use Rattle.sn_device.specs.Asking.{said}
+use Rattle.sn_device.specs.Runs.{Act, AreRounds, IsDone, Round, Standing, acts_of, asked, change_to}
+use Rattle.sn_device.specs.States.{Bytes, OwnerColumns, token_of}
+use Rattle.sn_device.specs.Steps.{Asks}
 use Rattle.sn_laws.specs.Each.{Each}
 use Rattle.sn_ready.specs.Passwds.{MakesIt}
 use Rattle.sn_rows.specs.Facts.{first_put, neither_put, put_elsewhere}

@@ -12,10 +12,10 @@ use Rattle.sn_account.specs.Sessions.{IsSession, session_token}
 use Rattle.sn_account.specs.Sound.{IsSound as IsSoundServer}
 use Rattle.sn_account.specs.Syncs.{AreChanges, AreTokens, IsStampOf, Synced, Syncs, above_of, start as before_first}
 use Rattle.sn_bound.specs.Whole.{HasWhole, IsLastPage, RetrievesNothing, WholeBegins, WholeStays}
-use Rattle.sn_client.proofs.Facts.{RetiresOlder, after_append, beside, one_owner, posts_items, retires_older}
-use Rattle.sn_client.specs.Runs.{IsRound, Round, Standing}
-use Rattle.sn_client.specs.States.{Bytes, HasOwner, OwnerColumns, owner_columns, text_of_token, token_of}
-use Rattle.sn_client.specs.Steps.{Applies, AppliesAnswer, AppliesTo, with_tokens}
+use Rattle.sn_device.proofs.Facts.{RetiresOlder, after_append, beside, one_owner, posts_items, retires_older}
+use Rattle.sn_device.specs.Runs.{IsRound, Round, Standing}
+use Rattle.sn_device.specs.States.{Bytes, HasOwner, OwnerColumns, owner_columns, text_of_token, token_of}
+use Rattle.sn_device.specs.Steps.{Applies, AppliesAnswer, AppliesTo, with_tokens}
 use Rattle.sn_conflict.specs.Checks.{most_retrieved}
 use Rattle.sn_rows.specs.Facts.{put_elsewhere, put_here, removed_elsewhere}
 use Rattle.sn_rows.specs.Table.{Rows, rows_after}

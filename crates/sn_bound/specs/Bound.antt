@@ -2,9 +2,9 @@
 use Rattle.std.specs.Prelude.{◌≡◌, ◌+◌, ◌≤◌, ℕ, List, [], ◌∷◌, length}
 use Rattle.rand_chacha.specs.ChaCha.{ChaCha}
 use Rattle.sn_bound.specs.Portions.{ArePortions}
-use Rattle.sn_client.specs.Runs.{Act, Halt, Run, passwd}
-use Rattle.sn_client.specs.Sending.{AreWaiting, Numbered}
-use Rattle.sn_client.specs.States.{HasOwner}
+use Rattle.sn_device.specs.Runs.{Act, Halt, Run, passwd}
+use Rattle.sn_device.specs.Sending.{AreWaiting, Numbered}
+use Rattle.sn_device.specs.States.{HasOwner}
 use Rattle.sn_laws.specs.Lookups.{Bytes}
 use Rattle.sn_laws.specs.declared.ideal.Ideal.{Ideal}
 use Rattle.sn_ready.specs.Passwds.{BehindFirst, IsChanged, rows_made}

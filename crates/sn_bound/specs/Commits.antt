@@ -1,8 +1,8 @@
 -- How many commits a change of password makes that is answered, on a device without drafts.
 use Rattle.std.specs.Prelude.{◌≡◌, ◌+◌, ℕ, List, [], ◌∷◌, None}
 use Rattle.rand_chacha.specs.ChaCha.{ChaCha}
-use Rattle.sn_client.specs.Runs.{Act, Halt, asked, commits as committed}
-use Rattle.sn_client.specs.States.{Bytes, HasLocal}
+use Rattle.sn_device.specs.Runs.{Act, Halt, asked, commits as committed}
+use Rattle.sn_device.specs.States.{Bytes, HasLocal}
 use Rattle.sn_ready.specs.Passwds.{BehindFirst, IsChanged}
 use Rattle.sn_rows.specs.Table.{Rows}
 use Rattle.sn_rows.specs.declared.device_rows.LocalItem.{LocalItem}

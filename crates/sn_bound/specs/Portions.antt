@@ -1,6 +1,6 @@
 -- Into how many requests the items fall that wait to be sent.
 use Rattle.std.specs.Prelude.{◌≡◌, ◌≢◌, ◌⊎◌, ◌+◌, ◌*◌, ◌<◌, ◌≤◌, List, [], ◌∷◌, ◌++◌, length, sum_by}
-use Rattle.sn_client.specs.Sending.{FitsSending, Numbered, most_sent, sent_of, weight_of}
+use Rattle.sn_device.specs.Sending.{FitsSending, Numbered, most_sent, sent_of, weight_of}
 use Rattle.sn_string.specs.Bounds.{most_bytes}
 
 -- a front of them that one request takes: the longest that fits, and at least one

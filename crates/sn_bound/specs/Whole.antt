@@ -5,9 +5,9 @@ use Rattle.sn_account.specs.Lookups.{HasItem}
 use Rattle.sn_account.specs.Rule.{Rule}
 use Rattle.sn_account.specs.Sessions.{IsSession}
 use Rattle.sn_account.specs.Sound.{IsSound as IsSoundServer}
-use Rattle.sn_client.specs.Runs.{Act, Halt, IsRound, Round, Standing, change_to}
-use Rattle.sn_client.specs.States.{Bytes, HasOwner, HasSets, token_of}
-use Rattle.sn_client.specs.Steps.{Step, adopts, asks}
+use Rattle.sn_device.specs.Runs.{Act, Halt, IsRound, Round, Standing, change_to}
+use Rattle.sn_device.specs.States.{Bytes, HasOwner, HasSets, token_of}
+use Rattle.sn_device.specs.Steps.{Step, adopts, asks}
 use Rattle.sn_laws.specs.Each.{Each}
 use Rattle.sn_ready.specs.Passwds.{BehindFirst, IsChanged}
 use Rattle.sn_rows.specs.Table.{Rows, rows_after}

@@ -3,12 +3,12 @@ use Rattle.std.specs.Prelude.{Bool, true, false, Option, Some, None, Result, Ok,
 use Rattle.std.proofs.Common.{◌≡◌, ◌∙◌, ℕ, List, [], refl, sym, subst}
 use Rattle.rand_chacha.specs.ChaCha.{ChaCha, of_seed}
 use Rattle.sn_client.specs.Calls.{Calls, CallsOver, Ends, IsOpen, MayHave, Tells, called_disk, device_disk, device_rows, kept_done}
-use Rattle.sn_client.specs.Runs.{Act, AreExchanges, Call, Given, Halt, Run, answered, refused}
-use Rattle.sn_client.specs.States.{Bytes}
+use Rattle.sn_device.specs.Runs.{Act, AreExchanges, Call, Given, Halt, Run, answered, refused}
+use Rattle.sn_device.specs.States.{Bytes}
 use Rattle.sn_client.specs.declared.called.Called.{Called}
 use Rattle.sn_client.specs.declared.called.Called.TheVariants as called
 use Rattle.sn_client.specs.declared.device.Device.{Device}
-use Rattle.sn_client.specs.declared.error.ClientError.{ClientError}
+use Rattle.sn_device.specs.declared.error.ClientError.{ClientError}
 use Rattle.sn_disk.specs.declared.disk.Disk.{Ghosts}
 use Rattle.sn_io.specs.Streams.{Gains}
 use Rattle.sn_journal.specs.declared.owner.Owner.{Owner}

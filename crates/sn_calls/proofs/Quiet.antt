@@ -3,14 +3,14 @@ use Rattle.std.specs.Prelude.{Ok, Err, Result}
 use Rattle.std.proofs.Common.{◌≡◌, ℕ, List, [], refl, ap, sym, subst, ◌∙◌, inl, inr}
 use Rattle.rand_chacha.specs.ChaCha.{ChaCha}
 use Rattle.sn_client.specs.Calls.{Calls, IfBroken, IfRefused, IsOpen, MayHave, Tells, called_disk, device_disk, device_rows}
-use Rattle.sn_client.specs.Runs.{Act, Call, CommitsOnce, EndsCommit, Given, GivesText, Halt, ListsItems, PutsItem, Refuses, Run, StopsAt, WithAccount, WithContent, WithItem, a_uuid, content, delete, edit, list, nothing, put, refused}
-use Rattle.sn_client.specs.States.{Bytes}
-use Rattle.sn_client.specs.Steps.{What, deletes, edits, puts}
+use Rattle.sn_device.specs.Runs.{Act, Call, CommitsOnce, EndsCommit, Given, GivesText, Halt, ListsItems, PutsItem, Refuses, Run, StopsAt, WithAccount, WithContent, WithItem, a_uuid, content, delete, edit, list, nothing, put, refused}
+use Rattle.sn_device.specs.States.{Bytes}
+use Rattle.sn_device.specs.Steps.{What, deletes, edits, puts}
 use Rattle.sn_client.specs.declared.called.Called.{Called}
 use Rattle.sn_client.specs.declared.called.Called.TheVariants as called
 use Rattle.sn_client.specs.declared.device.Device.{Device}
-use Rattle.sn_client.specs.declared.error.ClientError.{ClientError}
-use Rattle.sn_client.specs.declared.error.ClientError.TheVariants as refusal
+use Rattle.sn_device.specs.declared.error.ClientError.{ClientError}
+use Rattle.sn_device.specs.declared.error.ClientError.TheVariants as refusal
 use Rattle.sn_disk.specs.declared.disk.Disk.{Ghosts}
 use Rattle.sn_rows.specs.Table.{Rows}
 use Rattle.sn_rows.specs.declared.change.Change.{Change}

@@ -4,8 +4,8 @@ use Rattle.std.proofs.Common.{◌≡◌, inl, inr, ℕ, List, [], sym, subst}
 use Rattle.rand_chacha.specs.ChaCha.{ChaCha}
 use Rattle.sn_client.specs.Calls.{IsOpen}
 use Rattle.sn_client.specs.Loads.{IsDeviceError}
-use Rattle.sn_client.specs.Runs.{Act, Call, Halt}
-use Rattle.sn_client.specs.States.{Bytes}
+use Rattle.sn_device.specs.Runs.{Act, Call, Halt}
+use Rattle.sn_device.specs.States.{Bytes}
 use Rattle.sn_client.specs.declared.device.Device.{Device}
 use Rattle.sn_client.specs.declared.error.DeviceError.{DeviceError}
 use Rattle.sn_client.specs.declared.error.DeviceError.TheVariants as load

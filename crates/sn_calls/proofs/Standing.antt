@@ -3,8 +3,8 @@ use Rattle.std.specs.Prelude.{◌≡◌, ◌≤◌, ◌⊎◌, ℕ, List, map, O
 use Rattle.std.proofs.Common.{inl, inr, ⊎_elim}
 use Rattle.sn_client.specs.Calls.{IsOpen}
 use Rattle.sn_client.specs.Loads.{IsDeviceError}
-use Rattle.sn_client.specs.Runs.{Call}
-use Rattle.sn_client.specs.States.{Bytes}
+use Rattle.sn_device.specs.Runs.{Call}
+use Rattle.sn_device.specs.States.{Bytes}
 use Rattle.sn_client.specs.declared.device.Device.{Device}
 use Rattle.sn_client.specs.declared.error.DeviceError.{DeviceError}
 use Rattle.sn_client.specs.declared.error.DeviceError.TheVariants as load

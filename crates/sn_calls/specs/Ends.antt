@@ -3,8 +3,8 @@ use Rattle.std.specs.Prelude.{◌≡◌, ◌≢◌, ◌⊎◌, ℕ, List, [], �
 use Rattle.rand_chacha.specs.ChaCha.{ChaCha}
 use Rattle.sn_client.specs.Calls.{IsOpen, device_disk, device_rows}
 use Rattle.sn_client.specs.Loads.{IsDeviceError, IsLoaded}
-use Rattle.sn_client.specs.Runs.{Call}
-use Rattle.sn_client.specs.States.{Bytes, IsSound}
+use Rattle.sn_device.specs.Runs.{Call}
+use Rattle.sn_device.specs.States.{Bytes, IsSound}
 use Rattle.sn_client.specs.declared.device.Device.{Device}
 use Rattle.sn_client.specs.declared.error.DeviceError.{DeviceError}
 use Rattle.sn_client.specs.declared.error.DeviceError.TheVariants as load

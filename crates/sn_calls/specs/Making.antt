@@ -2,12 +2,12 @@
 use Rattle.std.specs.Prelude.{◌≡◌, ℕ, List, Bool, true, false, Option, Some, None, Result, Ok, Err, ⊤}
 use Rattle.rand_chacha.specs.ChaCha.{ChaCha, of_seed}
 use Rattle.sn_client.specs.Calls.{MayHave, kept_done}
-use Rattle.sn_client.specs.Runs.{Act, AreExchanges, Call, Halt, Run, answered, broken, refused}
-use Rattle.sn_client.specs.States.{Bytes}
-use Rattle.sn_client.specs.Steps.{What}
+use Rattle.sn_device.specs.Runs.{Act, AreExchanges, Call, Halt, Run, answered, broken, refused}
+use Rattle.sn_device.specs.States.{Bytes}
+use Rattle.sn_device.specs.Steps.{What}
 use Rattle.sn_client.specs.declared.called.Called.{Called}
 use Rattle.sn_client.specs.declared.called.Called.TheVariants as called
-use Rattle.sn_client.specs.declared.error.ClientError.{ClientError}
+use Rattle.sn_device.specs.declared.error.ClientError.{ClientError}
 use Rattle.sn_disk.specs.declared.disk.Disk.{Ghosts}
 use Rattle.sn_io.specs.Streams.{Gains}
 use Rattle.sn_journal.specs.declared.owner.Owner.TheVariants.{Device as DeviceOwner}

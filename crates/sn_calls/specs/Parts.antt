@@ -1,8 +1,8 @@
 -- A call by its parts: what it has the device do, the server that it asks, and whether words are drawn for it.
 use Rattle.std.specs.Prelude.{◌≡◌, ℕ, List, Bool, true, false, Option, Some, None, string_bytes, ⊤}
-use Rattle.sn_client.specs.Runs.{Call, Given, a_text, a_uuid, content, delete, edit, lines, list, nothing, passwd, put, register, sign_in, sync}
-use Rattle.sn_client.specs.States.{Bytes}
-use Rattle.sn_client.specs.declared.error.ClientError.TheVariants as refusal
+use Rattle.sn_device.specs.Runs.{Call, Given, a_text, a_uuid, content, delete, edit, lines, list, nothing, passwd, put, register, sign_in, sync}
+use Rattle.sn_device.specs.States.{Bytes}
+use Rattle.sn_device.specs.declared.error.ClientError.TheVariants as refusal
 use Rattle.sn_client.specs.declared.error.DeviceError.{DeviceError}
 use Rattle.sn_client.specs.declared.error.DeviceError.TheVariants as load
 use Rattle.sn_rows.specs.Bounds.{HasLength}

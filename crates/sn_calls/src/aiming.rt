@@ -2,7 +2,7 @@
 
 ghost use Rattle.std.specs.Prelude.{◌≡◌, ◌≤◌, List};
 ghost use Rattle.sn_client.specs.Calls.{IsOpen, device_disk, device_rows};
-ghost use Rattle.sn_client.specs.States.{IsSound};
+ghost use Rattle.sn_device.specs.States.{IsSound};
 ghost use Rattle.sn_io.specs.Causes.{Rose};
 ghost use Rattle.sn_rows.specs.declared.change.Change.{Change};
 ghost use Rattle.sn_table.specs.Kept.{Kept};

@@ -3,7 +3,8 @@
 ghost use Rattle.std.specs.Prelude.{◌≡◌};
 ghost use Rattle.sn_calls.specs.Parts.{end_of};
 
-use sn_client::{ClientError, DeviceError, Listed};
+use sn_client::DeviceError;
+use sn_device::{ClientError, Listed};
 use sn_rows::RowKind;
 use sn_string::OwnedList;
 use uuid::Uuid;

@@ -2,7 +2,7 @@
 
 ghost use Rattle.std.specs.Prelude.{◌≡◌};
 ghost use Rattle.sn_client.specs.Calls.{IsOpen, called_disk, device_disk, device_rows};
-ghost use Rattle.sn_client.specs.States.{IsSound};
+ghost use Rattle.sn_device.specs.States.{IsSound};
 ghost use Rattle.sn_io.specs.Causes.{Rose};
 ghost use Rattle.sn_table.specs.Kept.{Kept};
 ghost use Rattle.sn_calls.specs.Ends.{RunsCall, outside};
@@ -12,7 +12,8 @@ ghost use Rattle.sn_calls.specs.declared.ends.Answered.TheVariants as answer;
 
 use crate::device_call::DeviceCall;
 use crate::ends::{Answered, CallEnd};
-use sn_client::{Called, ClientError, Device, Listed};
+use sn_client::{Called, Device};
+use sn_device::{ClientError, Listed};
 use sn_disk::Disk;
 use sn_io::Seeds;
 use sn_items::Words;

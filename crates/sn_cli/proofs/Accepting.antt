@@ -9,7 +9,7 @@ use Rattle.sn_cli.specs.DeviceCalls.{IsPassword, TakesPassword, first_line}
 use Rattle.sn_command.specs.DeviceLines.{DeviceLine}
 use Rattle.sn_cli.specs.Devices.{DeviceRuns}
 use Rattle.sn_status.specs.Errors.{form_error, item_error}
-use Rattle.sn_client.specs.Runs.{Call}
+use Rattle.sn_device.specs.Runs.{Call}
 use Rattle.sn_cli.specs.Inputs.{MOST_INPUT, HasText, IsOneLine}
 use Rattle.sn_cli.specs.Runs.{Accepts, IsInputRefusal, IsRefusal, Meets, RunsOver}
 use Rattle.sn_cli.specs.Shown.{IsShown}

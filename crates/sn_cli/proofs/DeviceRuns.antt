@@ -22,8 +22,8 @@ use Rattle.sn_status.specs.declared.status.Status.{Status}
 use Rattle.sn_status.specs.declared.status.Status.TheVariants.{Done, Usage, Refused, DiskFault, LinkFault, ReadFault, WriteFault, Memory, Foreign, Server, BadAnswer}
 use Rattle.sn_status.specs.declared.status.Unfit.{Unfit}
 use Rattle.sn_status.specs.declared.status.Unfit.TheVariants as unfit
-use Rattle.sn_client.specs.Runs.{Call}
-use Rattle.sn_client.specs.declared.error.ClientError.TheVariants as error
+use Rattle.sn_device.specs.Runs.{Call}
+use Rattle.sn_device.specs.declared.error.ClientError.TheVariants as error
 use Rattle.sn_cli.proofs.RunLemmas.{part_at_most, read_at_most, whole_at_most}
 
 -- a task that takes a password takes its input

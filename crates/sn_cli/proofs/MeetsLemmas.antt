@@ -18,7 +18,7 @@ use Rattle.sn_command.specs.Syntax.{AsksForHelp, AsksForVersion, Takes}
 use Rattle.sn_status.specs.declared.refusal.ClientRefusal.{ClientRefusal}
 use Rattle.sn_status.specs.declared.refusal.Refusal.{Refusal}
 use Rattle.sn_status.specs.declared.refusal.Refusal.TheVariants.{InputLong, InputUtf8, Form, Item, Line, NotAllowed, PasswordLine, Client}
-use Rattle.sn_client.specs.Runs.{Call}
+use Rattle.sn_device.specs.Runs.{Call}
 use Rattle.sn_serve.specs.declared.ends.Served.{Served}
 use Rattle.sn_serve.specs.declared.ends.Served.TheVariants as served
 use Rattle.sn_status.specs.declared.status.Status.{Status}

@@ -2,7 +2,7 @@
 use Rattle.std.proofs.Common.{◌≡◌, inl, inr, ℕ, List, Option, sym, subst, ◌∙◌}
 use Rattle.sn_calls.specs.declared.ends.CallEnd.{CallEnd}
 use Rattle.sn_cli.specs.Runs.{IsSilent, Meets, Serves}
-use Rattle.sn_client.specs.Runs.{Call}
+use Rattle.sn_device.specs.Runs.{Call}
 use Rattle.sn_disk.specs.Shelf.{Slot}
 use Rattle.sn_disk.specs.declared.disk.Disk.{Ghosts}
 use Rattle.sn_net.specs.Connections.{Event}

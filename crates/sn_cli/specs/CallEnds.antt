@@ -15,8 +15,8 @@ use Rattle.sn_status.specs.declared.status.Status.{Status}
 use Rattle.sn_status.specs.declared.status.Status.TheVariants as status
 use Rattle.sn_status.specs.declared.status.Unfit.{Unfit}
 use Rattle.sn_status.specs.declared.status.Unfit.TheVariants as unfit
-use Rattle.sn_client.specs.declared.error.ClientError.{ClientError}
-use Rattle.sn_client.specs.declared.error.ClientError.TheVariants as error
+use Rattle.sn_device.specs.declared.error.ClientError.{ClientError}
+use Rattle.sn_device.specs.declared.error.ClientError.TheVariants as error
 use Rattle.sn_string.specs.Uuids.{uuid_text}
 
 -- what is written where a call is answered

@@ -4,8 +4,8 @@ use Rattle.std.specs.List.{before_first}
 use Rattle.sn_command.specs.DeviceLines.{Task}
 use Rattle.sn_command.specs.DeviceLines as task
 use Rattle.sn_cli.specs.Inputs.{ReadsText}
-use Rattle.sn_client.specs.Runs.{Call}
-use Rattle.sn_client.specs.Runs as call
+use Rattle.sn_device.specs.Runs.{Call}
+use Rattle.sn_device.specs.Runs as call
 use Rattle.sn_notes.specs.Notes.{note_text}
 
 -- what was read for a task: the whole input, as a text, or nothing

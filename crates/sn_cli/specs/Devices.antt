@@ -11,7 +11,7 @@ use Rattle.sn_cli.specs.Inputs.{MOST_INPUT, ReadsText, StopsReading}
 use Rattle.sn_status.specs.declared.refusal.Refusal.TheVariants.{InputLong, InputUtf8, Form, Item, Line, NotAllowed, PasswordLine, Client}
 use Rattle.sn_status.specs.declared.status.Status.{Status}
 use Rattle.sn_status.specs.declared.status.Status.TheVariants.{Done, Usage, Refused, DiskFault, LinkFault, ReadFault, WriteFault, Memory, Foreign, Server, BadAnswer}
-use Rattle.sn_client.specs.Runs.{Call}
+use Rattle.sn_device.specs.Runs.{Call}
 use Rattle.sn_io.specs.Streams.{GivesAtMost, TakesPart}
 
 -- `ends` says how a call on the store of a name ends, and `untouched` that shelf, link and seeds are as they were

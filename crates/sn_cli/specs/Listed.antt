@@ -4,9 +4,9 @@ use Rattle.std.specs.Prelude.{ℕ, List, ◌++◌, codes}
 use Rattle.std.specs.Fmt.{decimal}
 use Rattle.std.specs.List.{flat_map}
 use Rattle.sn_cli.specs.Shown.{json_text}
-use Rattle.sn_client.specs.declared.listed.Listed.{Listed}
-use Rattle.sn_client.specs.declared.listed.Mark.{Mark}
-use Rattle.sn_client.specs.declared.listed.Mark.TheVariants.{Deleted, Draft, Closed, Clean}
+use Rattle.sn_device.specs.declared.listed.Listed.{Listed}
+use Rattle.sn_device.specs.declared.listed.Mark.{Mark}
+use Rattle.sn_device.specs.declared.listed.Mark.TheVariants.{Deleted, Draft, Closed, Clean}
 use Rattle.sn_string.specs.Uuids.{uuid_text}
 
 abbrev pub mark_text : Mark → List ℕ

@@ -20,7 +20,7 @@ use Rattle.sn_status.specs.declared.status.Unfit.TheVariants as unfit
 use Rattle.sn_calls.specs.Ends.{CallEnds}
 use Rattle.sn_calls.specs.Ends.{Handed as HandedCall}
 use Rattle.sn_calls.specs.declared.ends.CallEnd.{CallEnd}
-use Rattle.sn_client.specs.Runs.{Call}
+use Rattle.sn_device.specs.Runs.{Call}
 use Rattle.sn_disk.specs.Shelf.{Slot}
 use Rattle.sn_disk.specs.declared.disk.Disk.{Ghosts}
 use Rattle.sn_io.specs.Streams.{Gains}

@@ -3,7 +3,7 @@ ghost use Rattle.std.specs.Prelude.{◌≡◌};
 ghost use Rattle.sn_calls.specs.declared.ends.CallEnd.TheVariants as end;
 ghost use Rattle.sn_cli.specs.CallEnds.{LeadsTo};
 
-use sn_client::ClientError;
+use sn_device::ClientError;
 use sn_status::{ClientRefusal, Refusal, Status};
 
 /// The status of a call that the device refused, or in which the server, the link or memory did.

@@ -3,7 +3,7 @@ ghost use Rattle.std.specs.Prelude.{◌≡◌, ◌++◌, IfOk, OnOk, string_byte
 ghost use Rattle.sn_cli.specs.Listed.{list_text, listed_line, mark_text};
 
 use crate::showing::json_text;
-use sn_client::{Listed, Mark};
+use sn_device::{Listed, Mark};
 use sn_string::uuid_text;
 use std::alloc::{AllocError, Global};
 

@@ -30,17 +30,17 @@ use Rattle.sn_table.specs.declared.committed.CommitError.{CommitError}
 use Rattle.sn_table.specs.declared.committed.CommitError.TheVariants as commit
 use Rattle.sn_table.specs.declared.table.Table.{Table}
 use Rattle.sn_client.specs.Asked.{AsksOnce, IsAsked}
-use Rattle.sn_client.specs.Asking.{Reply, said}
+use Rattle.sn_device.specs.Asking.{Reply, said}
 use Rattle.sn_client.specs.Calls.{Ends, IfRefused, StandsOrHas, of_commit}
 use Rattle.sn_client.specs.Going.{GivesAccount, GoesOver, MayWant}
-use Rattle.sn_client.specs.Runs.{Act, AreExchanges, AsksAccount, EndsCommit, Given, Halt, asked, nothing, refused}
-use Rattle.sn_client.specs.States.{Bytes, HasNoAccount, HasOwner, IsFresh, IsSound}
-use Rattle.sn_client.specs.Steps.{Step, What}
+use Rattle.sn_device.specs.Runs.{Act, AreExchanges, AsksAccount, EndsCommit, Given, Halt, asked, nothing, refused}
+use Rattle.sn_device.specs.States.{Bytes, HasNoAccount, HasOwner, IsFresh, IsSound}
+use Rattle.sn_device.specs.Steps.{Step, What}
 use Rattle.sn_client.specs.declared.called.Called.{Called}
 use Rattle.sn_client.specs.declared.called.Called.TheVariants as called
-use Rattle.sn_client.specs.declared.error.ClientError.{ClientError}
-use Rattle.sn_client.specs.declared.error.ClientError.TheVariants as refusal
-use Rattle.sn_client.proofs.StateLemmas.{lengths}
+use Rattle.sn_device.specs.declared.error.ClientError.{ClientError}
+use Rattle.sn_device.specs.declared.error.ClientError.TheVariants as refusal
+use Rattle.sn_device.proofs.Facts.{lengths}
 
 -- ---- a device without an account
 

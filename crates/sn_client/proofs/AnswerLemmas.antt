@@ -14,18 +14,18 @@ use Rattle.sn_sync.specs.declared.answer.Answer.TheVariants as answer
 use Rattle.sn_sync.specs.declared.answer.Conflict.{Conflict}
 use Rattle.sn_sync.specs.declared.item.Item.{Item}
 use Rattle.sn_sync.specs.declared.request.Route.TheVariants as route
-use Rattle.sn_client.specs.Runs.{HasCursor, IsLeft, IsUnapplied}
-use Rattle.sn_client.specs.Sending.{NoneWaits, SomeWaits}
-use Rattle.sn_client.specs.States.{Bytes, HasOwner, HasSets}
-use Rattle.sn_client.specs.Steps.{start}
+use Rattle.sn_device.specs.Runs.{HasCursor, IsLeft, IsUnapplied}
+use Rattle.sn_device.specs.Sending.{NoneWaits, SomeWaits}
+use Rattle.sn_device.specs.States.{Bytes, HasOwner, HasSets}
+use Rattle.sn_device.specs.Steps.{start}
 use Rattle.sn_client.specs.Syncing.{IsCheckRefusal}
 use Rattle.sn_client.specs.Taken.{StopsBy, refusal_of}
-use Rattle.sn_client.specs.Taking.{RunsOut, told_by}
-use Rattle.sn_client.specs.declared.error.ClientError.{ClientError}
-use Rattle.sn_client.specs.declared.error.ClientError.TheVariants as refusal
+use Rattle.sn_device.specs.Taking.{RunsOut, told_by}
+use Rattle.sn_device.specs.declared.error.ClientError.{ClientError}
+use Rattle.sn_device.specs.declared.error.ClientError.TheVariants as refusal
 use Rattle.sn_client.specs.declared.taken.NotTaken.{NotTaken}
 use Rattle.sn_client.specs.declared.taken.NotTaken.TheVariants as stop
-use Rattle.sn_client.proofs.Frames.{one_owner}
+use Rattle.sn_device.proofs.Facts.{one_owner}
 
 -- ---- what isn't applied
 

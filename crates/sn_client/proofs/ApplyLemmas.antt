@@ -18,14 +18,13 @@ use Rattle.sn_sync.specs.declared.answer.Conflict.{Conflict}
 use Rattle.sn_sync.specs.declared.answer.Conflict.TheVariants as conflict
 use Rattle.sn_sync.specs.declared.item.Item.{Item}
 use Rattle.sn_table.specs.Batches.{IsOf}
-use Rattle.sn_client.specs.Sending.{AreOfRows}
-use Rattle.sn_client.specs.States.{Bytes, HasSets, owner_columns}
-use Rattle.sn_client.specs.Steps.{Applies, PutsOwner, Retires, start, with_tokens}
+use Rattle.sn_device.specs.Sending.{AreOfRows}
+use Rattle.sn_device.specs.States.{Bytes, HasSets, owner_columns}
+use Rattle.sn_device.specs.Steps.{Applies, PutsOwner, Retires, start, with_tokens}
 use Rattle.sn_client.specs.Taken.{HasVersion, IsVersion, option_list, so_far}
-use Rattle.sn_client.specs.Taking.{TakesAll, told_by}
+use Rattle.sn_device.specs.Taking.{TakesAll, told_by}
 use Rattle.sn_client.specs.declared.taken.Taken.{Taken}
-use Rattle.sn_client.proofs.Frames.{items_of_device, one_of_device}
-use Rattle.sn_client.proofs.Leading.{IsOfItems, lead_all}
+use Rattle.sn_device.proofs.Facts.{items_of_device, one_of_device, IsOfItems, lead_all}
 use Rattle.sn_client.proofs.RetireLemmas.{retired_owned, retires_found}
 
 -- ---- versions that were read and checked

@@ -14,11 +14,11 @@ use Rattle.sn_sync.specs.declared.error.SyncError.TheVariants as error
 use Rattle.sn_sync.specs.declared.request.Request.{Request}
 use Rattle.sn_sync.specs.declared.request.Route.{Route}
 use Rattle.sn_client.specs.Asked.{HeardAs, IsAsked, IsGranted, IsHeard, IsNoAnswer, IsRefusalFor, IsUnreadBody}
-use Rattle.sn_client.specs.Asking.{Fails, IsReply, Reply, lost, said, unheard, unread}
-use Rattle.sn_client.specs.States.{Bytes}
-use Rattle.sn_client.specs.declared.error.ClientError.{ClientError}
-use Rattle.sn_client.specs.declared.error.ClientError.TheVariants as refusal
-use Rattle.sn_client.specs.declared.error.Place.TheVariants as place
+use Rattle.sn_device.specs.Asking.{Fails, IsReply, Reply, lost, said, unheard, unread}
+use Rattle.sn_device.specs.States.{Bytes}
+use Rattle.sn_device.specs.declared.error.ClientError.{ClientError}
+use Rattle.sn_device.specs.declared.error.ClientError.TheVariants as refusal
+use Rattle.sn_device.specs.declared.error.Place.TheVariants as place
 
 -- ---- the bytes that come back
 

@@ -19,11 +19,11 @@ use Rattle.sn_table.specs.declared.committed.CommitError.{CommitError}
 use Rattle.sn_table.specs.declared.committed.CommitError.TheVariants as commit
 use Rattle.sn_table.specs.declared.table.Table.{Table}
 use Rattle.sn_client.specs.Calls.{Ends, StandsOrHas, of_commit}
-use Rattle.sn_client.specs.Runs.{Act, EndsCommit, Given, Halt, IsBatch, StopsAt, answered, broken, commits, refused}
-use Rattle.sn_client.specs.Steps.{What}
+use Rattle.sn_device.specs.Runs.{Act, EndsCommit, Given, Halt, IsBatch, StopsAt, answered, broken, commits, refused}
+use Rattle.sn_device.specs.Steps.{What}
 use Rattle.sn_client.specs.declared.called.Called.{Called}
 use Rattle.sn_client.specs.declared.called.Called.TheVariants as called
-use Rattle.sn_client.specs.declared.error.ClientError.TheVariants as refusal
+use Rattle.sn_device.specs.declared.error.ClientError.TheVariants as refusal
 
 -- what isn't above the most is a batch
 pub fits_by : (changes : List Change) → (most_payload < length (spelled changes) → ⊥) → IsBatch changes

@@ -6,9 +6,9 @@ use Rattle.sn_rows.specs.declared.device_rows.LocalItem.{LocalItem}
 use Rattle.sn_rows.specs.declared.device_rows.OwnerRow.{OwnerRow}
 use Rattle.sn_rows.specs.declared.key.Key.TheVariants as key
 use Rattle.sn_rows.specs.declared.value.Value.TheVariants as value
-use Rattle.sn_client.specs.Sending.{PutsColumns}
-use Rattle.sn_client.specs.States.{Columns, OwnerColumns, columns, owner_columns}
-use Rattle.sn_client.specs.Steps.{PutsOwner}
+use Rattle.sn_device.specs.Sending.{PutsColumns}
+use Rattle.sn_device.specs.States.{Columns, OwnerColumns, columns, owner_columns}
+use Rattle.sn_device.specs.Steps.{PutsOwner}
 
 pub puts_columns : {E : Type 0} (result : Result Change E) (number : ℕ) (local : LocalItem) (c : Columns) → IfOk result (λ change. Puts change (key.Local number) (value.Local local))
     → columns local ≡ c → IfOk result (λ change. PutsColumns change number c)

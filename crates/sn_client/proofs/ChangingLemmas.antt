@@ -7,13 +7,12 @@ use Rattle.sn_rows.specs.declared.device_rows.OwnerRow.{OwnerRow}
 use Rattle.sn_sets.specs.declared.sets.Sets.{Sets}
 use Rattle.sn_string.specs.declared.params.KeySet.{KeySet}
 use Rattle.sn_client.specs.Calls.{MayRefuse, none_more}
-use Rattle.sn_client.specs.Changing.{MayAsk, NoneRuns}
-use Rattle.sn_client.specs.Runs.{Act, AnswersChange, AsksFor, AsksHost, CommitsStep, IsNewSet, Point, RefusesChange, Then, Turn, WithAccount, change_to, is_over, most_exchanges, refused}
-use Rattle.sn_client.specs.States.{Bytes, HasLocal, HasOwner, HasSets}
-use Rattle.sn_client.specs.Steps.{asks}
-use Rattle.sn_client.specs.Syncing.{HasNoneAsked}
-use Rattle.sn_client.specs.declared.error.ClientError.{ClientError}
-use Rattle.sn_client.specs.declared.error.ClientError.TheVariants as refusal
+use Rattle.sn_device.specs.Changing.{MayAsk, NoneRuns}
+use Rattle.sn_device.specs.Runs.{Act, AnswersChange, AsksFor, AsksHost, CommitsStep, IsNewSet, Point, RefusesChange, Then, Turn, WithAccount, change_to, is_over, most_exchanges, refused}
+use Rattle.sn_device.specs.States.{Bytes, HasLocal, HasOwner, HasSets, HasNoneAsked}
+use Rattle.sn_device.specs.Steps.{asks}
+use Rattle.sn_device.specs.declared.error.ClientError.{ClientError}
+use Rattle.sn_device.specs.declared.error.ClientError.TheVariants as refusal
 use Rattle.sn_client.proofs.SettledLemmas.{none_asked}
 
 -- on a device with an account only memory may be wanting

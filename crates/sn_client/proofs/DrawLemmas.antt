@@ -10,8 +10,8 @@ use Rattle.sn_rows.specs.Table.{Rows}
 use Rattle.sn_rows.specs.declared.device_rows.LocalItem.{LocalItem}
 use Rattle.sn_sets.proofs.Facts.{later_again}
 use Rattle.sn_sets.specs.Seals.{IsLater}
-use Rattle.sn_client.specs.Draws.{DrawsFresh, DrawsNoFresh, DrawsUuids}
-use Rattle.sn_client.specs.States.{Bytes, HasItem, IsFree, IsUsed}
+use Rattle.sn_device.specs.Draws.{DrawsFresh, DrawsNoFresh, DrawsUuids}
+use Rattle.sn_device.specs.States.{Bytes, HasItem, IsFree, IsUsed}
 
 -- what is left of the words behind one draw
 pub later_drawn : (size : ℕ) (bytes : Bytes) (words left : ChaCha) → (bytes, left) ≡ drawn size words → IsLater words left

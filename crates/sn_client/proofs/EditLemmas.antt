@@ -19,17 +19,17 @@ use Rattle.sn_table.specs.Batches.{IsOf, owner_of_kind}
 use Rattle.sn_table.specs.Kept.{Kept}
 use Rattle.sn_client.specs.Calls.{Calls, MayRefuse, Prepares, none_more}
 use Rattle.sn_sets.specs.Seals.{Seals}
-use Rattle.sn_client.specs.Draws.{DrawsFresh, DrawsNoFresh}
-use Rattle.sn_client.specs.Listing.{IsDeleted, Shows}
-use Rattle.sn_client.specs.Runs.{Act, Call, CommitsOnce, Given, Halt, IsGone, PutsItem, Run, RunsCall, RunsDelete, RunsEdit, RunsPut, WithContent, WithItem, a_uuid, nothing, refused}
-use Rattle.sn_client.specs.Sending.{PutsColumns}
-use Rattle.sn_client.specs.States.{Bytes, HasItem, HasOwner, HasSets, IsFree, columns, owner_columns}
-use Rattle.sn_client.specs.Steps.{Deletes, Edits, IsContent, IsUnknown, PutsNew, PutsOwner, What, deletes, drafted, edits, puts, with_next}
-use Rattle.sn_client.specs.Taking.{last_number, new_columns}
+use Rattle.sn_device.specs.Draws.{DrawsFresh, DrawsNoFresh}
+use Rattle.sn_device.specs.Listing.{IsDeleted, Shows}
+use Rattle.sn_device.specs.Runs.{Act, Call, CommitsOnce, Given, Halt, IsGone, PutsItem, Run, RunsCall, RunsDelete, RunsEdit, RunsPut, WithContent, WithItem, a_uuid, nothing, refused}
+use Rattle.sn_device.specs.Sending.{PutsColumns}
+use Rattle.sn_device.specs.States.{Bytes, HasItem, HasOwner, HasSets, IsFree, columns, owner_columns}
+use Rattle.sn_device.specs.Steps.{Deletes, Edits, IsContent, IsUnknown, PutsNew, PutsOwner, What, deletes, drafted, edits, puts, with_next}
+use Rattle.sn_device.specs.Taking.{last_number, new_columns}
 use Rattle.sn_client.specs.declared.called.Called.{Called}
 use Rattle.sn_client.specs.declared.called.Called.TheVariants as called
-use Rattle.sn_client.specs.declared.error.ClientError.{ClientError}
-use Rattle.sn_client.specs.declared.error.ClientError.TheVariants as refusal
+use Rattle.sn_device.specs.declared.error.ClientError.{ClientError}
+use Rattle.sn_device.specs.declared.error.ClientError.TheVariants as refusal
 use Rattle.sn_client.proofs.CallLemmas.{Answers}
 use Rattle.sn_client.proofs.LookLemmas.{RefusesShown, of_account, of_closed, of_content, of_gone, of_shown}
 

@@ -18,8 +18,8 @@ use Rattle.sn_rows.specs.declared.kind.RowKind.TheVariants as kind
 use Rattle.sn_rows.specs.declared.value.Value.{Value}
 use Rattle.sn_rows.specs.declared.value.Value.TheVariants as value
 use Rattle.sn_table.specs.Logs.{HasKinds}
-use Rattle.sn_client.specs.Changing.{IsFirstItem}
-use Rattle.sn_client.specs.States.{HasLocal}
+use Rattle.sn_device.specs.Changing.{IsFirstItem}
+use Rattle.sn_device.specs.States.{HasLocal}
 use Rattle.sn_client.proofs.ListLemmas.{local_key, local_value}
 
 abbrev Rowed : Type 0

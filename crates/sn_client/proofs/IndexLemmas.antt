@@ -30,8 +30,8 @@ use Rattle.sn_rows.specs.declared.kind.RowKind.{RowKind}
 use Rattle.sn_rows.specs.declared.value.Value.{Value}
 use Rattle.sn_rows.specs.declared.value.Value.TheVariants as value
 use Rattle.sn_client.specs.Index.{Indexes, IndexesChange, IndexesRow, IsIndexed, KeepsIndexed, numbers_at}
-use Rattle.sn_client.specs.Sending.{IsWaiting}
-use Rattle.sn_client.specs.States.{Bytes, HasLocal}
+use Rattle.sn_device.specs.Sending.{IsWaiting}
+use Rattle.sn_device.specs.States.{Bytes, HasLocal}
 use Rattle.sn_client.specs.declared.index.Index.{Index}
 
 -- ---- a walk over the rows of a kind

@@ -8,8 +8,8 @@ use Rattle.sn_client.specs.Syncing.{IfOn, IsAnsweredPast, KeepsDevice, MadeAtMos
 use Rattle.sn_client.specs.declared.called.Called.{Called}
 use Rattle.sn_client.specs.declared.called.Called.TheVariants as called
 use Rattle.sn_client.specs.declared.device.Device.{Device}
-use Rattle.sn_client.specs.declared.error.ClientError.{ClientError}
-use Rattle.sn_client.specs.declared.error.ClientError.TheVariants as refusal
+use Rattle.sn_device.specs.declared.error.ClientError.{ClientError}
+use Rattle.sn_device.specs.declared.error.ClientError.TheVariants as refusal
 use Rattle.sn_client.specs.declared.piece_end.PieceEnd.{PieceEnd}
 use Rattle.sn_client.specs.declared.piece_end.PieceEnd.TheVariants.{On, Over}
 

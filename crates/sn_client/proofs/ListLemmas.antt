@@ -27,13 +27,13 @@ use Rattle.sn_rows.specs.declared.value.Value.TheVariants as value
 use Rattle.sn_sets.specs.declared.sets.Sets.{Sets}
 use Rattle.sn_table.specs.Logs.{HasKinds}
 use Rattle.sn_client.specs.Calls.{MayRefuse, none_more}
-use Rattle.sn_client.specs.Listing.{AreItems, AreListed, IsListed}
-use Rattle.sn_client.specs.Runs.{ListsItems, RunsList, WithAccount, answered, lines}
-use Rattle.sn_client.specs.Sending.{Numbered}
-use Rattle.sn_client.specs.States.{AreSoundLocals, HasLocal, HasSets, IsSoundItem, columns}
+use Rattle.sn_device.specs.Listing.{AreItems, AreListed, IsListed}
+use Rattle.sn_device.specs.Runs.{ListsItems, RunsList, WithAccount, answered, lines}
+use Rattle.sn_device.specs.Sending.{Numbered}
+use Rattle.sn_device.specs.States.{AreSoundLocals, HasLocal, HasSets, IsSoundItem, columns}
 use Rattle.sn_client.specs.Unsound.{IsItemRow}
-use Rattle.sn_client.specs.declared.error.ClientError.{ClientError}
-use Rattle.sn_client.specs.declared.listed.Listed.{Listed}
+use Rattle.sn_device.specs.declared.error.ClientError.{ClientError}
+use Rattle.sn_device.specs.declared.listed.Listed.{Listed}
 use Rattle.sn_client.proofs.LookLemmas.{without_account}
 
 abbrev Rowed : Type 0

@@ -13,7 +13,7 @@ use Rattle.sn_table.specs.Tables.{IsOpen as IsOpenTable, IsOpened, table_disk}
 use Rattle.sn_table.specs.declared.table.Table.{Table}
 use Rattle.sn_client.specs.Calls.{IsOpen, device_disk}
 use Rattle.sn_client.specs.Loads.{IsDeviceError, IsLoaded, IsOpenError, given_disk}
-use Rattle.sn_client.specs.States.{IsFirstUnsound}
+use Rattle.sn_device.specs.States.{IsFirstUnsound}
 use Rattle.sn_client.specs.declared.device.Device.{Device}
 use Rattle.sn_client.specs.declared.error.DeviceError.{DeviceError}
 use Rattle.sn_client.specs.declared.error.DeviceError.TheVariants as device

@@ -10,12 +10,12 @@ use Rattle.sn_rows.specs.declared.device_rows.OwnerRow.{OwnerRow}
 use Rattle.sn_sets.specs.declared.sets.Sets.{Sets}
 use Rattle.sn_string.specs.Grammar.{Is003, Reading}
 use Rattle.sn_client.specs.Calls.{MayRefuse, none_more}
-use Rattle.sn_client.specs.Listing.{IsClosed, IsDeleted, SaysNonce, Shows, shown_of}
-use Rattle.sn_client.specs.Runs.{Act, Halt, IsGone, WithAccount, WithContent, WithItem, refused}
-use Rattle.sn_client.specs.Sending.{first_some}
-use Rattle.sn_client.specs.States.{Bytes, HasItem, HasSets, IsSoundItem, NamesVersion, columns}
-use Rattle.sn_client.specs.declared.error.ClientError.{ClientError}
-use Rattle.sn_client.specs.declared.error.ClientError.TheVariants as refusal
+use Rattle.sn_device.specs.Listing.{IsClosed, IsDeleted, SaysNonce, Shows, shown_of}
+use Rattle.sn_device.specs.Runs.{Act, Halt, IsGone, WithAccount, WithContent, WithItem, refused}
+use Rattle.sn_device.specs.Sending.{first_some}
+use Rattle.sn_device.specs.States.{Bytes, HasItem, HasSets, IsSoundItem, NamesVersion, columns}
+use Rattle.sn_device.specs.declared.error.ClientError.{ClientError}
+use Rattle.sn_device.specs.declared.error.ClientError.TheVariants as refusal
 
 -- ---- refusals, handed on
 

@@ -14,9 +14,9 @@ use Rattle.sn_table.specs.Batches.{IsAllOrNothing, IsStore}
 use Rattle.sn_table.specs.Facts.{open_each}
 use Rattle.sn_table.specs.Kept.{Kept, with_batch}
 use Rattle.sn_client.specs.Calls.{CallsOver, Ends, HasFront, IsOpen, MayHave, called_disk, device_disk, kept_done, tried}
-use Rattle.sn_client.specs.Runs.{Act, Call, Given, Halt, Standing, acts_of, asked, commits}
-use Rattle.sn_client.specs.States.{Bytes}
-use Rattle.sn_client.specs.Steps.{applies}
+use Rattle.sn_device.specs.Runs.{Act, Call, Given, Halt, Standing, acts_of, asked, commits}
+use Rattle.sn_device.specs.States.{Bytes}
+use Rattle.sn_device.specs.Steps.{applies}
 use Rattle.sn_client.specs.Syncing.{AppliesOne, EndsOne, IsAskedAndApplied, IsBetween, IsOpenSince, MayHaveSince, gives_nothing}
 use Rattle.sn_client.specs.declared.called.Called.{Called}
 use Rattle.sn_client.specs.declared.called.Called.TheVariants as called

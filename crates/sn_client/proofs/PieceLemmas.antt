@@ -12,18 +12,18 @@ use Rattle.sn_table.specs.Committing.{IsCause}
 use Rattle.sn_table.specs.Kept.{Kept, with_batch}
 use Rattle.sn_table.specs.declared.committed.CommitError.{CommitError}
 use Rattle.sn_client.specs.Asked.{AsksOnce, HeardAs, IsHeardBehind}
-use Rattle.sn_client.specs.Asking.{Reply, lost, said, unheard, unread}
+use Rattle.sn_device.specs.Asking.{Reply, lost, said, unheard, unread}
 use Rattle.sn_client.specs.Calls.{kept_done, of_commit}
 use Rattle.sn_client.specs.Going.{GoesOver}
-use Rattle.sn_client.specs.Runs.{Act, AnswersNothing, AsksHost, CommitsStep, EndsBy, Hears, IsBatch, Point, Then, Turn, answered, asked, broken, commits, goes_on, is_over, most_exchanges, nothing, refused}
-use Rattle.sn_client.specs.States.{Bytes}
-use Rattle.sn_client.specs.Steps.{Step, What}
+use Rattle.sn_device.specs.Runs.{Act, AnswersNothing, AsksHost, CommitsStep, EndsBy, Hears, IsBatch, Point, Then, Turn, answered, asked, broken, commits, goes_on, is_over, most_exchanges, nothing, refused}
+use Rattle.sn_device.specs.States.{Bytes}
+use Rattle.sn_device.specs.Steps.{Step, What}
 use Rattle.sn_client.specs.Syncing.{GoesThere, IsAnsweredPast, IsOpenSince, MayHaveSince, WentBy, gives_nothing, none_asked}
 use Rattle.sn_client.specs.declared.called.Called.{Called}
 use Rattle.sn_client.specs.declared.called.Called.TheVariants as called
 use Rattle.sn_client.specs.declared.device.Device.{Device}
-use Rattle.sn_client.specs.declared.error.ClientError.{ClientError}
-use Rattle.sn_client.specs.declared.error.ClientError.TheVariants as refusal
+use Rattle.sn_device.specs.declared.error.ClientError.{ClientError}
+use Rattle.sn_device.specs.declared.error.ClientError.TheVariants as refusal
 use Rattle.sn_client.specs.declared.piece_end.PieceEnd.{PieceEnd}
 use Rattle.sn_client.specs.declared.piece_end.PieceEnd.TheVariants.{On, Over}
 use Rattle.sn_client.proofs.CallLemmas.{stops_refused}

@@ -13,11 +13,11 @@ use Rattle.sn_rows.specs.declared.key.Key.TheVariants as key
 use Rattle.sn_rows.specs.declared.value.Value.TheVariants as value
 use Rattle.sn_sync.specs.declared.item.Item.{Item}
 use Rattle.sn_sync.specs.declared.request.Request.{Request}
-use Rattle.sn_client.specs.Runs.{IsBatch, Sends}
-use Rattle.sn_client.specs.Sending.{IsSentAs, IsUnsent, Numbered, Posts, PostsAll, SaysBase, as_posted, first_some, sent_of}
-use Rattle.sn_client.specs.States.{Columns, HasLocal, columns}
+use Rattle.sn_device.specs.Runs.{IsBatch, Sends}
+use Rattle.sn_device.specs.Sending.{IsSentAs, IsUnsent, Numbered, Posts, PostsAll, SaysBase, as_posted, first_some, sent_of}
+use Rattle.sn_device.specs.States.{Columns, HasLocal, columns}
 use Rattle.sn_client.specs.Syncing.{IsSyncFrom}
-use Rattle.sn_client.proofs.Drafts.{same_row}
+use Rattle.sn_device.proofs.Facts.{same_row}
 
 -- ---- a row behind a posting
 

@@ -19,13 +19,13 @@ use Rattle.sn_sync.specs.declared.request.Request.TheVariants as request
 use Rattle.sn_table.specs.Kept.{Kept}
 use Rattle.sn_client.specs.Calls.{CallsOver}
 use Rattle.sn_client.specs.Going.{GoesOver, IsSetWith, MayWant}
-use Rattle.sn_client.specs.Runs.{AsksAccount, Call, Given, IsBadCost, IsNewSet, Run, refused, register}
-use Rattle.sn_client.specs.States.{Bytes, HasNoAccount, HasOwner}
-use Rattle.sn_client.specs.Steps.{begins}
+use Rattle.sn_device.specs.Runs.{AsksAccount, Call, Given, IsBadCost, IsNewSet, Run, refused, register}
+use Rattle.sn_device.specs.States.{Bytes, HasNoAccount, HasOwner}
+use Rattle.sn_device.specs.Steps.{begins}
 use Rattle.sn_client.specs.declared.called.Called.{Called}
 use Rattle.sn_client.specs.declared.called.Called.TheVariants as called
-use Rattle.sn_client.specs.declared.error.ClientError.{ClientError}
-use Rattle.sn_client.specs.declared.error.ClientError.TheVariants as refusal
+use Rattle.sn_device.specs.declared.error.ClientError.{ClientError}
+use Rattle.sn_device.specs.declared.error.ClientError.TheVariants as refusal
 
 -- ---- the set
 

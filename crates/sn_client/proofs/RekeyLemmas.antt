@@ -30,13 +30,13 @@ use Rattle.sn_string.specs.declared.params.KeySet.{KeySet}
 use Rattle.sn_table.specs.Batches.{IsOf}
 use Rattle.sn_table.specs.Logs.{HasKinds}
 use Rattle.sn_client.specs.Adopting.{RekeysOne, RekeysRow}
-use Rattle.sn_client.specs.Changing.{MayAsk, RekeysAll}
-use Rattle.sn_client.specs.Listing.{AreItems}
-use Rattle.sn_client.specs.Sending.{Numbered}
-use Rattle.sn_client.specs.States.{Bytes, HasSet, HasSets, owner_columns}
-use Rattle.sn_client.specs.Steps.{Adopts, Asks, DropsAsked, Forgets, PutsSet, with_token}
+use Rattle.sn_device.specs.Changing.{MayAsk, RekeysAll}
+use Rattle.sn_device.specs.Listing.{AreItems}
+use Rattle.sn_device.specs.Sending.{Numbered}
+use Rattle.sn_device.specs.States.{Bytes, HasSet, HasSets, owner_columns}
+use Rattle.sn_device.specs.Steps.{Adopts, Asks, DropsAsked, Forgets, PutsSet, with_token}
 use Rattle.sn_client.specs.Unsound.{IsItemRow}
-use Rattle.sn_client.proofs.Frames.{one_of_device}
+use Rattle.sn_device.proofs.Facts.{one_of_device}
 use Rattle.sn_client.proofs.ListLemmas.{are_items, local_key, local_value, row_of, same_local, same_number}
 
 abbrev Rowed : Type 0

@@ -15,11 +15,11 @@ use Rattle.sn_sets.specs.Seals.{longest_sealed}
 use Rattle.sn_sets.specs.Sets.{OpensHeld, OpensNowhere, sealed_of}
 use Rattle.sn_sets.specs.declared.sets.Sets.{Sets}
 use Rattle.sn_string.specs.Bounds.{longest_content}
-use Rattle.sn_client.specs.States.{Bytes}
-use Rattle.sn_client.specs.Draws.{DrawsNoFresh}
+use Rattle.sn_device.specs.States.{Bytes}
+use Rattle.sn_device.specs.Draws.{DrawsNoFresh}
 use Rattle.sn_client.specs.Taken.{FindsNoFresh, HasText, IsReadable, PutsAnew, StopsBy, after, so_far}
-use Rattle.sn_client.specs.Taking.{Copies, Progress, Renames, last_number, made, with_words}
-use Rattle.sn_client.specs.declared.error.ClientError.TheVariants as refusal
+use Rattle.sn_device.specs.Taking.{Copies, Progress, Renames, last_number, made, with_words}
+use Rattle.sn_device.specs.declared.error.ClientError.TheVariants as refusal
 use Rattle.sn_client.specs.declared.taken.Effect.TheVariants as effect
 use Rattle.sn_client.specs.declared.taken.NotTaken.{NotTaken}
 use Rattle.sn_client.specs.declared.taken.Taken.{Taken}

@@ -19,10 +19,10 @@ use Rattle.sn_rows.specs.declared.value.Value.{Value}
 use Rattle.sn_rows.specs.declared.value.Value.TheVariants as value
 use Rattle.sn_string.specs.declared.params.KeySet.{KeySet}
 use Rattle.sn_table.specs.Batches.{IsOf}
-use Rattle.sn_client.specs.States.{Bytes, HasLocal}
-use Rattle.sn_client.specs.Steps.{AllFinished, IsFinishedAt, Retires}
+use Rattle.sn_device.specs.States.{Bytes, HasLocal}
+use Rattle.sn_device.specs.Steps.{AllFinished, IsFinishedAt, Retires}
 use Rattle.sn_client.specs.Taken.{option_list}
-use Rattle.sn_client.proofs.Frames.{one_of_device}
+use Rattle.sn_device.proofs.Facts.{one_of_device}
 
 -- ---- one item
 

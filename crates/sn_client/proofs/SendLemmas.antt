@@ -20,9 +20,9 @@ use Rattle.sn_sync.specs.declared.request.Request.{Request}
 use Rattle.sn_table.specs.Batches.{IsOf, owner_of_kind}
 use Rattle.sn_client.specs.Chosen.{AreTaken, PostsNone, PostsOne, TakesOne, counted}
 use Rattle.sn_client.specs.Index.{IsNextWaiting, NoneWaitsBehind}
-use Rattle.sn_client.specs.Runs.{Sends}
-use Rattle.sn_client.specs.Sending.{AreChosen, AreSentAs, AreUnsent, FitsSending, IsSentAs, IsSyncOf, IsUnsent, IsWaiting, NoneWaits, Numbered, Posts, PostsAll, first_some, most_sent, sent_of, weight_of}
-use Rattle.sn_client.specs.States.{HasLocal, HasOwner, IsSoundItem, columns}
+use Rattle.sn_device.specs.Runs.{Sends}
+use Rattle.sn_device.specs.Sending.{AreChosen, AreSentAs, AreUnsent, FitsSending, IsSentAs, IsSyncOf, IsUnsent, IsWaiting, NoneWaits, Numbered, Posts, PostsAll, first_some, most_sent, sent_of, weight_of}
+use Rattle.sn_device.specs.States.{HasLocal, HasOwner, IsSoundItem, columns}
 use Rattle.sn_client.specs.declared.sending.Chosen.{Chosen}
 use Rattle.sn_client.proofs.WaitLemmas.{AreWaitingFrom, GoesOnBy, all_waiting, first_from, none_from, there_are}
 

@@ -15,14 +15,11 @@ use Rattle.sn_sync.specs.declared.answer.Answer.TheVariants as answer
 use Rattle.sn_sync.specs.declared.item.Item.{Item}
 use Rattle.sn_sync.specs.declared.request.Request.{Request}
 use Rattle.sn_sync.specs.declared.request.Request.TheVariants as request
-use Rattle.sn_client.specs.Changing.{HoldsAsked}
-use Rattle.sn_client.specs.Sending.{PostsAll}
-use Rattle.sn_client.specs.States.{Bytes, HasOwner, HasSets, IsInSlot, IsSetOf}
-use Rattle.sn_client.specs.Steps.{Adopts, AppliesAnswer, AppliesTo, Asks}
-use Rattle.sn_client.specs.Syncing.{HasNoneAsked}
-use Rattle.sn_client.proofs.AdoptRows.{Adopted, adopted}
-use Rattle.sn_client.proofs.Frames.{one_owner, parts_keep}
-use Rattle.sn_client.proofs.StepStands.{apply_parts, post_parts}
+use Rattle.sn_device.specs.Changing.{HoldsAsked}
+use Rattle.sn_device.specs.Sending.{PostsAll}
+use Rattle.sn_device.specs.States.{Bytes, HasOwner, HasSets, IsInSlot, IsSetOf, HasNoneAsked}
+use Rattle.sn_device.specs.Steps.{Adopts, AppliesAnswer, AppliesTo, Asks}
+use Rattle.sn_device.proofs.Facts.{Adopted, adopted, one_owner, parts_keep, apply_parts, post_parts}
 
 abbrev pub HoldsOwner : Rows → Type 0
 HoldsOwner rows = (owner : OwnerRow) × HasOwner rows owner

@@ -17,18 +17,18 @@ use Rattle.sn_sync.specs.declared.request.Request.{Request}
 use Rattle.sn_sync.specs.declared.request.Request.TheVariants as request
 use Rattle.sn_table.specs.Kept.{Kept}
 use Rattle.sn_client.specs.Asked.{AsksOnce}
-use Rattle.sn_client.specs.Asking.{said}
+use Rattle.sn_device.specs.Asking.{said}
 use Rattle.sn_client.specs.Going.{GoesOver, MayWant}
 use Rattle.sn_client.specs.Calls.{CallsOver}
-use Rattle.sn_client.specs.Runs.{Act, AsksAccount, AsksFirst, Given, Halt, IsOrMayBe, IsOtherOlder, Run, SignsInBy, SignsInUnder, SignsInWith, asked, refused, sign_in}
+use Rattle.sn_device.specs.Runs.{Act, AsksAccount, AsksFirst, Given, Halt, IsOrMayBe, IsOtherOlder, Run, SignsInBy, SignsInUnder, SignsInWith, asked, refused, sign_in}
 use Rattle.sn_client.specs.Signing.{HasKeys, JoinsAgain, JoinsBy, MadeBySignIn, RefusesAgain, RefusesKeys, RefusesParams, RefusesWith}
-use Rattle.sn_client.specs.Steps.{Adopts, BeginsDevice, Renews, adopts, begins, renews}
-use Rattle.sn_client.specs.States.{Bytes, HasNoAccount, HasOwner, HasSets}
+use Rattle.sn_device.specs.Steps.{Adopts, BeginsDevice, Renews, adopts, begins, renews}
+use Rattle.sn_device.specs.States.{Bytes, HasNoAccount, HasOwner, HasSets}
 use Rattle.sn_client.specs.declared.called.Called.{Called}
 use Rattle.sn_client.specs.declared.called.Called.TheVariants as called
-use Rattle.sn_client.specs.declared.error.ClientError.{ClientError}
-use Rattle.sn_client.specs.declared.error.ClientError.TheVariants as refusal
-use Rattle.sn_client.specs.declared.error.Place.TheVariants as place
+use Rattle.sn_device.specs.declared.error.ClientError.{ClientError}
+use Rattle.sn_device.specs.declared.error.ClientError.TheVariants as refusal
+use Rattle.sn_device.specs.declared.error.Place.TheVariants as place
 use Rattle.sn_client.specs.declared.signing.Joining.{Joining}
 use Rattle.sn_client.specs.declared.signing.Joining.TheVariants as joining
 use Rattle.sn_client.proofs.AccountLemmas.{ends_behind}

@@ -24,7 +24,7 @@ use Rattle.sn_rows.specs.declared.key.Slot.TheVariants.{Present, Older, Asked}
 use Rattle.sn_rows.specs.declared.kind.RowKind.TheVariants as kind
 use Rattle.sn_rows.specs.declared.value.Value.{Value}
 use Rattle.sn_rows.specs.declared.value.Value.TheVariants as value
-use Rattle.sn_client.specs.States.{AreOfDevice, AreSoundLocals, AreSoundSets, Bytes, Columns, HasItem, HasLocal, HasNoAccount, HasOwner, HasSet, HasSoundOwner, IsSound, IsSoundItem, columns}
+use Rattle.sn_device.specs.States.{AreOfDevice, AreSoundLocals, AreSoundSets, Bytes, Columns, HasItem, HasLocal, HasNoAccount, HasOwner, HasSet, HasSoundOwner, IsSound, IsSoundItem, columns}
 use Rattle.sn_client.specs.Unsound.{HasOwnStrings, HasSeen, HasSoundParts, IsApart, IsItemRow, IsSoundBeside, IsSoundRow, Seen, SeesMore, SeesRow}
 use Rattle.sn_client.proofs.IndexLemmas.{PassedOrAhead, walk_begins, walk_ends, walk_goes_on}
 

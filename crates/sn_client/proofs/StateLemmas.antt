@@ -4,15 +4,13 @@ use Rattle.std.specs.Prelude.{◌==◌}
 use Rattle.std.specs.List.{list_any}
 use Rattle.std.proofs.Math.Nat.{eq-or-lt_of_le}
 use Rattle.std.proofs.lemmas.Bool.{eqb-true}
-use Rattle.std.proofs.lemmas.Bool.Decides.{nat_tests}
 use Rattle.std.proofs.lemmas.List.{get_or_default}
 use Rattle.std.proofs.lemmas.List.Folds.{Any-from_list_any}
-use Rattle.sn_rows.specs.Bounds.{HasLength, is_text_of}
 use Rattle.sn_rows.specs.Table.{Rows}
 use Rattle.sn_rows.specs.declared.device_rows.LocalItem.{LocalItem}
 use Rattle.sn_client.specs.Index.{Indexes, IsBehind, IsNextListed, NoneListed, NoneWaitsBehind, numbers_at}
-use Rattle.sn_client.specs.Sending.{IsWaiting, NoneWaits}
-use Rattle.sn_client.specs.States.{Bytes, HasItem, HasLocal, IsFree}
+use Rattle.sn_device.specs.Sending.{IsWaiting, NoneWaits}
+use Rattle.sn_device.specs.States.{Bytes, HasItem, HasLocal, IsFree}
 use Rattle.sn_client.specs.declared.index.Index.{Index}
 
 -- ---- an item by its uuid
@@ -43,12 +41,6 @@ free_of index rows uuid numbers i indexes are whole none n local has =
     let at = place_of n numbers own in
     let first = at.1 in
     none at.0 (omega arith) local (subst (λ (m : ℕ). HasItem rows uuid m local) (sym at.2) has)
-
--- ---- key sets
-
--- a text's length by its test
-pub lengths : (least most : ℕ) (text : List ℕ) → IsTrue (is_text_of least most text) → HasLength least most text
-lengths least most text is = grind (arith, nat_tests)
 
 -- ---- the next that waits
 

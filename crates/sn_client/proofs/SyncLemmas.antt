@@ -15,17 +15,17 @@ use Rattle.sn_table.specs.Committing.{IsCause}
 use Rattle.sn_table.specs.Kept.{Kept, with_batch}
 use Rattle.sn_table.specs.declared.committed.CommitError.{CommitError}
 use Rattle.sn_client.specs.Asked.{AsksOnce, IsAsked}
-use Rattle.sn_client.specs.Asking.{said}
+use Rattle.sn_device.specs.Asking.{said}
 use Rattle.sn_client.specs.Calls.{Ends, kept_done, of_commit}
-use Rattle.sn_client.specs.Runs.{Act, AreExchanges, AreRounds, EndsBehind, EndsUnapplied, Exchanges, Halt, IsAllDone, IsBatch, IsDone, IsDue, IsLeft, IsRound, IsUnapplied, Round, Sends, Standing, acts_of, asked, broken, commits, goes_on, items_of, most_exchanges, posting, refused}
-use Rattle.sn_client.specs.Sending.{PostsAll}
-use Rattle.sn_client.specs.States.{Bytes}
-use Rattle.sn_client.specs.Steps.{AppliesAnswer, AppliesTo, applies, posts}
+use Rattle.sn_device.specs.Runs.{Act, AreExchanges, AreRounds, EndsBehind, EndsUnapplied, Exchanges, Halt, IsAllDone, IsBatch, IsDone, IsDue, IsLeft, IsRound, IsUnapplied, Round, Sends, Standing, acts_of, asked, broken, commits, goes_on, items_of, most_exchanges, posting, refused}
+use Rattle.sn_device.specs.Sending.{PostsAll}
+use Rattle.sn_device.specs.States.{Bytes}
+use Rattle.sn_device.specs.Steps.{AppliesAnswer, AppliesTo, applies, posts}
 use Rattle.sn_client.specs.Syncing.{AppliesOne, EndsAsking, EndsOne, GoesThere, IsApplied, IsAskedAndApplied, IsExchanged, WentBy, gives_nothing}
 use Rattle.sn_client.specs.declared.called.Called.{Called}
 use Rattle.sn_client.specs.declared.called.Called.TheVariants as called
-use Rattle.sn_client.specs.declared.error.ClientError.{ClientError}
-use Rattle.sn_client.specs.declared.error.ClientError.TheVariants as refusal
+use Rattle.sn_device.specs.declared.error.ClientError.{ClientError}
+use Rattle.sn_device.specs.declared.error.ClientError.TheVariants as refusal
 use Rattle.sn_client.specs.declared.syncing.Exchanged.{Exchanged}
 use Rattle.sn_client.specs.declared.syncing.Exchanged.TheVariants as exchanged
 use Rattle.sn_client.specs.declared.piece_end.PieceEnd.TheVariants.{Over}

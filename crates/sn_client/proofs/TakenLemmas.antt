@@ -11,9 +11,9 @@ use Rattle.sn_rows.specs.declared.key.Key.{Key}
 use Rattle.sn_rows.specs.declared.key.Key.TheVariants as key
 use Rattle.sn_rows.specs.declared.value.Value.{Value}
 use Rattle.sn_rows.specs.declared.value.Value.TheVariants as value
-use Rattle.sn_client.specs.States.{Bytes, HasItem, IsFree}
-use Rattle.sn_client.specs.Taken.{AreApart, IsGone, PutsNamed, so_far}
-use Rattle.sn_client.specs.Taking.{Progress}
+use Rattle.sn_device.specs.States.{Bytes, HasItem, IsFree, AreApart}
+use Rattle.sn_client.specs.Taken.{IsGone, PutsNamed, so_far}
+use Rattle.sn_device.specs.Taking.{Progress}
 use Rattle.sn_client.specs.declared.taken.Taken.{Taken}
 
 -- ---- one change more

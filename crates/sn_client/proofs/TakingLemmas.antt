@@ -14,10 +14,10 @@ use Rattle.sn_sets.specs.declared.sets.Sets.{Sets}
 use Rattle.sn_sync.specs.declared.answer.Conflict.TheVariants as conflict
 use Rattle.sn_sync.specs.declared.item.Body.TheVariants as body
 use Rattle.sn_sync.specs.declared.item.Item.{Item}
-use Rattle.sn_client.specs.States.{Bytes, HasItem, IsFree}
+use Rattle.sn_device.specs.States.{Bytes, HasItem, IsFree}
 use Rattle.sn_client.specs.Taken.{FindsNoFresh, IsReadable, IsUsedUp, StopsBy, StopsCopy, StopsServer, left_by, so_far}
-use Rattle.sn_client.specs.Taking.{Forks, IsServers, Meets, Progress, RunsOut, RunsOutAt, Takes, TakesAll, TakesVersion, Told, is_conflict}
-use Rattle.sn_client.specs.declared.error.ClientError.{ClientError}
+use Rattle.sn_device.specs.Taking.{Forks, IsServers, Meets, Progress, RunsOut, RunsOutAt, Takes, TakesAll, TakesVersion, Told, is_conflict}
+use Rattle.sn_device.specs.declared.error.ClientError.{ClientError}
 use Rattle.sn_client.specs.declared.taken.NotTaken.{NotTaken}
 use Rattle.sn_client.specs.declared.taken.Taken.{Taken}
 use Rattle.sn_client.proofs.TakenLemmas.{take_more}

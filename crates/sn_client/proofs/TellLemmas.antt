@@ -7,11 +7,11 @@ use Rattle.sn_rows.specs.declared.device_rows.LocalItem.{LocalItem}
 use Rattle.sn_rows.specs.declared.device_rows.OwnerRow.{OwnerRow}
 use Rattle.sn_sets.specs.declared.sets.Sets.{Sets}
 use Rattle.sn_client.specs.Calls.{MayRefuse, Tells, none_more}
-use Rattle.sn_client.specs.Listing.{IsDeleted, Shows}
-use Rattle.sn_client.specs.Runs.{Call, Given, GivesText, IsGone, RunsCall, RunsContent, WithAccount, WithItem, a_text, answered}
-use Rattle.sn_client.specs.States.{Bytes, HasItem, HasSets}
-use Rattle.sn_client.specs.declared.error.ClientError.{ClientError}
-use Rattle.sn_client.specs.declared.error.ClientError.TheVariants as refusal
+use Rattle.sn_device.specs.Listing.{IsDeleted, Shows}
+use Rattle.sn_device.specs.Runs.{Call, Given, GivesText, IsGone, RunsCall, RunsContent, WithAccount, WithItem, a_text, answered}
+use Rattle.sn_device.specs.States.{Bytes, HasItem, HasSets}
+use Rattle.sn_device.specs.declared.error.ClientError.{ClientError}
+use Rattle.sn_device.specs.declared.error.ClientError.TheVariants as refusal
 use Rattle.sn_client.proofs.LookLemmas.{RefusesShown, of_account, of_closed, of_gone, without_account}
 
 -- a refusal that is handed on

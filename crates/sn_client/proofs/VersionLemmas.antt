@@ -24,9 +24,9 @@ use Rattle.sn_sync.specs.Versions.{NamesStamp}
 use Rattle.sn_sync.specs.declared.item.Body.{Body}
 use Rattle.sn_sync.specs.declared.item.Body.TheVariants as body
 use Rattle.sn_sync.specs.declared.item.Item.{Item}
-use Rattle.sn_client.specs.States.{Bytes, columns}
+use Rattle.sn_device.specs.States.{Bytes, columns}
 use Rattle.sn_client.specs.Taken.{IsVersion, after, so_far}
-use Rattle.sn_client.specs.Taking.{IsKeptAs, MakesRow, Progress, StandsOn, TakesBody, TakesVersion, changed, last_number, with_words}
+use Rattle.sn_device.specs.Taking.{IsKeptAs, MakesRow, Progress, StandsOn, TakesBody, TakesVersion, changed, last_number, with_words}
 use Rattle.sn_client.specs.declared.taken.Effect.TheVariants as effect
 use Rattle.sn_client.specs.declared.taken.Taken.{Taken}
 

@@ -15,8 +15,8 @@ use Rattle.sn_rows.specs.declared.device_rows.LocalItem.{LocalItem}
 use Rattle.sn_rows.specs.declared.key.Key.TheVariants as key
 use Rattle.sn_rows.specs.declared.value.Value.{Value}
 use Rattle.sn_rows.specs.declared.value.Value.TheVariants as value
-use Rattle.sn_client.specs.Sending.{AreWaiting, IsWaiting, Numbered}
-use Rattle.sn_client.specs.States.{HasLocal}
+use Rattle.sn_device.specs.Sending.{AreWaiting, IsWaiting, Numbered}
+use Rattle.sn_device.specs.States.{HasLocal}
 
 -- ---- one number
 

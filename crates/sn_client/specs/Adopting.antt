@@ -9,7 +9,7 @@ use Rattle.sn_rows.specs.declared.value.Value.{Value}
 use Rattle.sn_sets.specs.declared.sets.Sets.{Sets}
 use Rattle.sn_string.specs.declared.params.KeySet.{KeySet}
 use Rattle.sn_table.specs.Batches.{IsOf}
-use Rattle.sn_client.specs.Changing.{RekeysAll}
+use Rattle.sn_device.specs.Changing.{RekeysAll}
 use Rattle.sn_client.specs.Unsound.{IsItemRow}
 
 -- behind the old changes stands that of the item, where a version of it opens, and nothing else

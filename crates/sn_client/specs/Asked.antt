@@ -9,12 +9,12 @@ use Rattle.sn_sync.specs.declared.request.Request.{Request}
 use Rattle.sn_sync.specs.declared.request.Route.{Route}
 use Rattle.sn_sync.specs.declared.error.SyncError.{SyncError}
 use Rattle.sn_sync.specs.declared.error.SyncError.TheVariants as error
-use Rattle.sn_client.specs.Asking.{Fails, IsExchange, IsPlaceOf, Reply, lost, said, unheard, unread}
-use Rattle.sn_client.specs.Runs.{most_exchanges}
-use Rattle.sn_client.specs.States.{Bytes}
-use Rattle.sn_client.specs.declared.error.ClientError.{ClientError}
-use Rattle.sn_client.specs.declared.error.ClientError.TheVariants as refusal
-use Rattle.sn_client.specs.declared.error.Place.{Place}
+use Rattle.sn_device.specs.Asking.{Fails, IsExchange, IsPlaceOf, Reply, lost, said, unheard, unread}
+use Rattle.sn_device.specs.Runs.{most_exchanges}
+use Rattle.sn_device.specs.States.{Bytes}
+use Rattle.sn_device.specs.declared.error.ClientError.{ClientError}
+use Rattle.sn_device.specs.declared.error.ClientError.TheVariants as refusal
+use Rattle.sn_device.specs.declared.error.Place.{Place}
 
 -- the refusal for a body that isn't read
 abbrev pub IsRefusalFor : SyncError → ClientError → Type 0

@@ -12,14 +12,14 @@ use Rattle.sn_table.specs.Kept.{Kept, with_batch}
 use Rattle.sn_table.specs.declared.committed.CommitError.{CommitError}
 use Rattle.sn_table.specs.declared.committed.CommitError.TheVariants as commit
 use Rattle.sn_table.specs.Tables.{IsOpen as IsOpenTable, table_disk, table_rows}
-use Rattle.sn_client.specs.Runs.{Act, AreExchanges, Call, EndsCommit, Given, Halt, Run, Wants, answered, asked, broken, commits, refused}
-use Rattle.sn_client.specs.Steps.{What}
-use Rattle.sn_client.specs.States.{Bytes}
+use Rattle.sn_device.specs.Runs.{Act, AreExchanges, Call, EndsCommit, Given, Halt, Run, Wants, answered, asked, broken, commits, refused}
+use Rattle.sn_device.specs.Steps.{What}
+use Rattle.sn_device.specs.States.{Bytes}
 use Rattle.sn_client.specs.declared.called.Called.{Called}
 use Rattle.sn_client.specs.declared.called.Called.TheVariants as called
 use Rattle.sn_client.specs.declared.device.Device.{Device}
-use Rattle.sn_client.specs.declared.error.ClientError.{ClientError}
-use Rattle.sn_client.specs.declared.error.ClientError.TheVariants as refusal
+use Rattle.sn_device.specs.declared.error.ClientError.{ClientError}
+use Rattle.sn_device.specs.declared.error.ClientError.TheVariants as refusal
 
 module _ {D : Type 0} {g : Ghosts D} where
   abbrev pub device_disk : Device D g → D

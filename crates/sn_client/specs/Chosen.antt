@@ -4,8 +4,8 @@ use Rattle.sn_rows.specs.Table.{Rows}
 use Rattle.sn_rows.specs.declared.change.Change.{Change}
 use Rattle.sn_rows.specs.declared.device_rows.LocalItem.{LocalItem}
 use Rattle.sn_sync.specs.declared.item.Item.{Item}
-use Rattle.sn_client.specs.Sending.{AreSentAs, AreUnsent, IsSentAs, IsUnsent, Numbered, PostsAll, PutsColumns, as_posted, sent_of, weight_of}
-use Rattle.sn_client.specs.States.{columns}
+use Rattle.sn_device.specs.Sending.{AreSentAs, AreUnsent, IsSentAs, IsUnsent, Numbered, PostsAll, PutsColumns, as_posted, sent_of, weight_of}
+use Rattle.sn_device.specs.States.{columns}
 use Rattle.sn_client.specs.declared.sending.Chosen.{Chosen}
 
 -- a count of bytes, which stays at the end of its type

@@ -12,12 +12,12 @@ use Rattle.sn_sync.specs.declared.request.Request.{Request}
 use Rattle.sn_sync.specs.declared.request.Route.TheVariants as route
 use Rattle.sn_table.specs.Kept.{Kept}
 use Rattle.sn_client.specs.Asked.{AsksOnce, IsAsked}
-use Rattle.sn_client.specs.Asking.{said}
+use Rattle.sn_device.specs.Asking.{said}
 use Rattle.sn_client.specs.Calls.{Ends}
-use Rattle.sn_client.specs.Runs.{Act, AreExchanges, Given, Halt, Wants}
-use Rattle.sn_client.specs.States.{Bytes}
+use Rattle.sn_device.specs.Runs.{Act, AreExchanges, Given, Halt, Wants}
+use Rattle.sn_device.specs.States.{Bytes}
 use Rattle.sn_client.specs.declared.called.Called.{Called}
-use Rattle.sn_client.specs.declared.error.ClientError.{ClientError}
+use Rattle.sn_device.specs.declared.error.ClientError.{ClientError}
 
 -- memory may be wanting before the first act
 abbrev pub MayWant : (List Act → Halt → Type 0) → List Act → Halt → Type 0

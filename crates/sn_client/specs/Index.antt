@@ -13,8 +13,8 @@ use Rattle.sn_rows.specs.declared.key.Key.{Key}
 use Rattle.sn_rows.specs.declared.key.Key.TheVariants as key
 use Rattle.sn_rows.specs.declared.value.Value.{Value}
 use Rattle.sn_rows.specs.declared.value.Value.TheVariants as value
-use Rattle.sn_client.specs.Sending.{IsWaiting, Numbered}
-use Rattle.sn_client.specs.States.{Bytes, HasLocal}
+use Rattle.sn_device.specs.Sending.{IsWaiting, Numbered}
+use Rattle.sn_device.specs.States.{Bytes, HasLocal}
 use Rattle.sn_client.specs.declared.index.Index.{Index}
 
 -- ---- an index

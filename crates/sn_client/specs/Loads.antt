@@ -10,7 +10,7 @@ use Rattle.sn_table.specs.Kept.{Kept, kept_of}
 use Rattle.sn_table.specs.Logs.{IsDamagedBatch}
 use Rattle.sn_table.specs.declared.error.TableError.{TableError}
 use Rattle.sn_table.specs.declared.error.TableError.TheVariants as table
-use Rattle.sn_client.specs.States.{IsFirstUnsound}
+use Rattle.sn_device.specs.States.{IsFirstUnsound}
 use Rattle.sn_client.specs.declared.error.DeviceError.{DeviceError}
 use Rattle.sn_client.specs.declared.error.DeviceError.TheVariants.{Foreign, Damaged, Rows as UnsoundRows, DiskFault, Memory}
 

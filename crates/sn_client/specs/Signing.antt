@@ -12,13 +12,13 @@ use Rattle.sn_string.specs.declared.params.Params.{Params}
 use Rattle.sn_sync.specs.declared.answer.Answer.TheVariants as answer
 use Rattle.sn_sync.specs.declared.request.Request.TheVariants as request
 use Rattle.sn_client.specs.Asked.{AsksOnce, IsAsked}
-use Rattle.sn_client.specs.Asking.{said}
-use Rattle.sn_client.specs.Runs.{IsBadCost, IsOtherOlder}
-use Rattle.sn_client.specs.States.{Bytes, HasNoAccount, HasSets}
-use Rattle.sn_client.specs.Steps.{Adopts, BeginsDevice, Renews}
-use Rattle.sn_client.specs.declared.error.ClientError.{ClientError}
-use Rattle.sn_client.specs.declared.error.ClientError.TheVariants as refusal
-use Rattle.sn_client.specs.declared.error.Place.TheVariants as place
+use Rattle.sn_device.specs.Asking.{said}
+use Rattle.sn_device.specs.Runs.{IsBadCost, IsOtherOlder}
+use Rattle.sn_device.specs.States.{Bytes, HasNoAccount, HasSets}
+use Rattle.sn_device.specs.Steps.{Adopts, BeginsDevice, Renews}
+use Rattle.sn_device.specs.declared.error.ClientError.{ClientError}
+use Rattle.sn_device.specs.declared.error.ClientError.TheVariants as refusal
+use Rattle.sn_device.specs.declared.error.Place.TheVariants as place
 use Rattle.sn_client.specs.declared.signing.Joining.{Joining}
 use Rattle.sn_client.specs.declared.signing.Joining.TheVariants as joining
 

@@ -19,17 +19,17 @@ use Rattle.sn_sync.specs.declared.request.Request.TheVariants as request
 use Rattle.sn_table.specs.Batches.{IsStore}
 use Rattle.sn_table.specs.Kept.{Kept, with_batch}
 use Rattle.sn_client.specs.Asked.{AsksOnce}
-use Rattle.sn_client.specs.Asking.{Reply, said}
+use Rattle.sn_device.specs.Asking.{Reply, said}
 use Rattle.sn_client.specs.Calls.{Ends, IfBroken, IfStands, IsOpen, MayHave, called_disk, device_disk, device_rows, kept_done}
-use Rattle.sn_client.specs.Runs.{Act, AreExchanges, EndsBehind, EndsUnapplied, Given, Halt, IsBatch, IsCheckPlace, IsDue, IsLeft, IsRound, Point, Round, Standing, Turn, Wants, acts_of, asked, goes_on, is_over, most_exchanges, nothing}
-use Rattle.sn_client.specs.Sending.{AreOfRows}
-use Rattle.sn_client.specs.States.{Bytes, IsSound}
-use Rattle.sn_client.specs.Steps.{Step, applies}
+use Rattle.sn_device.specs.Runs.{Act, AreExchanges, EndsBehind, EndsUnapplied, Given, Halt, IsBatch, IsCheckPlace, IsDue, IsLeft, IsRound, Point, Round, Standing, Turn, Wants, acts_of, asked, goes_on, is_over, most_exchanges, nothing}
+use Rattle.sn_device.specs.Sending.{AreOfRows}
+use Rattle.sn_device.specs.States.{Bytes, IsSound}
+use Rattle.sn_device.specs.Steps.{Step, applies}
 use Rattle.sn_client.specs.declared.called.Called.{Called}
 use Rattle.sn_client.specs.declared.called.Called.TheVariants as called
 use Rattle.sn_client.specs.declared.device.Device.{Device}
-use Rattle.sn_client.specs.declared.error.ClientError.{ClientError}
-use Rattle.sn_client.specs.declared.error.ClientError.TheVariants as refusal
+use Rattle.sn_device.specs.declared.error.ClientError.{ClientError}
+use Rattle.sn_device.specs.declared.error.ClientError.TheVariants as refusal
 use Rattle.sn_client.specs.declared.syncing.Exchanged.{Exchanged}
 use Rattle.sn_client.specs.declared.syncing.Exchanged.TheVariants as exchanged
 use Rattle.sn_client.specs.declared.piece_end.PieceEnd.{PieceEnd}
@@ -190,10 +190,6 @@ MadeAtMost (went.Over result) = Unit {0}
 -- nothing is asked
 abbrev pub none_asked : List Exchange → Type 0
 none_asked exchanges = exchanges ≡ []
-
--- no set is asked for
-abbrev pub HasNoneAsked : Rows → Type 0
-HasNoneAsked rows = rows (key.Set Asked) ≡ None
 
 module _ {S : Type 0} (is_open : S → Kept → Type 0) (piece : Point → List Act → Turn → Type 0) (p : Point) (kept : Kept) (host : Bytes)
     (asks : List Exchange → Type 0) (left : ChaCha) where

@@ -24,13 +24,13 @@ use Rattle.sn_sync.specs.declared.answer.Conflict.{Conflict}
 use Rattle.sn_sync.specs.declared.answer.Conflict.TheVariants as conflict
 use Rattle.sn_sync.specs.declared.item.Item.{Item}
 use Rattle.sn_table.specs.Logs.{HasKinds}
-use Rattle.sn_client.specs.Draws.{DrawsFresh, DrawsNoFresh}
+use Rattle.sn_device.specs.Draws.{DrawsFresh, DrawsNoFresh}
 use Rattle.sn_client.specs.Index.{Indexes}
-use Rattle.sn_client.specs.Sending.{PutsColumns}
-use Rattle.sn_client.specs.States.{Bytes, HasItem, HasLocal, text_of_token}
-use Rattle.sn_client.specs.Taking.{Forks, IsNewItem, Progress, changed, last_number, made, new_columns, with_words}
-use Rattle.sn_client.specs.declared.error.ClientError.{ClientError}
-use Rattle.sn_client.specs.declared.error.ClientError.TheVariants as refusal
+use Rattle.sn_device.specs.Sending.{PutsColumns}
+use Rattle.sn_device.specs.States.{AreApart, Bytes, HasItem, HasLocal, text_of_token}
+use Rattle.sn_device.specs.Taking.{Forks, IsNewItem, Progress, changed, last_number, made, new_columns, with_words}
+use Rattle.sn_device.specs.declared.error.ClientError.{ClientError}
+use Rattle.sn_device.specs.declared.error.ClientError.TheVariants as refusal
 use Rattle.sn_client.specs.declared.index.Index.{Index}
 use Rattle.sn_client.specs.declared.taken.Effect.{Effect}
 use Rattle.sn_client.specs.declared.taken.Effect.TheVariants as effect
@@ -67,10 +67,6 @@ PutsNamed uuid change number = (local : LocalItem) × Puts change (key.Local num
 -- an item that the change puts under this uuid has it no more in the rows
 abbrev pub IsGone : Rows → Bytes → Change → Type 0
 IsGone rows uuid change = (number : ℕ) → PutsNamed uuid change number → (local : LocalItem) → ¬ (HasItem rows uuid number local)
-
--- an item's uuid is no other item's
-abbrev pub AreApart : Rows → Type 0
-AreApart rows = (number other : ℕ) (local twin : LocalItem) → HasLocal rows number local → HasLocal rows other twin → local.uuid ≡ twin.uuid → number ≡ other
 
 -- the items of these rows are found by their uuids
 pub record AreFound (index : Index) (rows : RowMap) : Type 0 where

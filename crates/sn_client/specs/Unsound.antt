@@ -11,7 +11,7 @@ use Rattle.sn_rows.specs.declared.key.Key.TheVariants as key
 use Rattle.sn_rows.specs.declared.value.Value.{Value}
 use Rattle.sn_rows.specs.declared.value.Value.TheVariants as value
 use Rattle.sn_string.specs.Grammar.{Reading}
-use Rattle.sn_client.specs.States.{Bytes, Columns, IsSoundItem, NamesVersion, columns}
+use Rattle.sn_device.specs.States.{Bytes, Columns, IsSoundItem, NamesVersion, columns}
 
 -- ---- one item
 

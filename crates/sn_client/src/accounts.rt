@@ -3,8 +3,8 @@
 ghost use Rattle.std.specs.Prelude.{◌≡◌, ◌≢◌, ◌≤◌, ◌∷◌, [], List, ℕ, All, Ok, Err, IfErr, IfOk, IsErrOf};
 ghost use Rattle.sn_client.specs.Asked.{IsAsked};
 ghost use Rattle.sn_client.specs.Going.{GivesAccount, IsForAccount, KeepsOrNot};
-ghost use Rattle.sn_client.specs.States.{HasOwner, owner_columns};
-ghost use Rattle.sn_client.specs.Steps.{BeginsDevice, Renews, first_number, with_token};
+ghost use Rattle.sn_device.specs.States.{HasOwner, owner_columns};
+ghost use Rattle.sn_device.specs.Steps.{BeginsDevice, Renews, first_number, with_token};
 ghost use Rattle.sn_io.specs.Causes.{Rose};
 ghost use Rattle.sn_journal.specs.declared.owner.Owner.TheVariants.{Device as DeviceOwner};
 ghost use Rattle.sn_row_map.specs.RowMaps.{row_in};
@@ -22,7 +22,7 @@ use crate::asking::ask_with;
 use crate::called::Called;
 use crate::changes::put_owner;
 use crate::device::Device;
-use crate::error::ClientError;
+use sn_device::ClientError;
 use crate::state::owner;
 use sn_disk::Disk;
 use sn_items::Words;
@@ -208,9 +208,9 @@ impl<D: Disk> Device<D> {
     ghost use Rattle.sn_table.specs.Kept.{Kept};
     ghost use Rattle.sn_client.specs.Calls.{IfBroken, IfRefused, IfStands, IsOpen, MayHave, StandsOrHas, called_disk, device_disk, device_rows};
     ghost use Rattle.sn_client.specs.Going.{GoesOver, MayWant};
-    ghost use Rattle.sn_client.specs.Runs.{AsksAccount, nothing};
-    ghost use Rattle.sn_client.specs.States.{HasNoAccount, IsSound};
-    ghost use Rattle.sn_client.specs.Steps.{Adopts, adopts, begins, renews};
+    ghost use Rattle.sn_device.specs.Runs.{AsksAccount, nothing};
+    ghost use Rattle.sn_device.specs.States.{HasNoAccount, IsSound};
+    ghost use Rattle.sn_device.specs.Steps.{Adopts, adopts, begins, renews};
     ghost use Rattle.sn_sets.specs.Seals.{IsLater};
 
     /// Asks for an account, and begins with it and its set.

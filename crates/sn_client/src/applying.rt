@@ -3,11 +3,11 @@
 ghost use Rattle.std.specs.Prelude.{◌≡◌, ◌++◌, ◌∷◌, [], All, IfErr, IfOk, OnOk};
 ghost use Rattle.sn_client.specs.declared.taken.NotTaken.TheVariants as stop;
 ghost use Rattle.sn_rows.specs.declared.change.Change.{Change};
-ghost use Rattle.sn_client.specs.Sending.{AreOfRows};
-ghost use Rattle.sn_client.specs.States.{HasSets, owner_columns, text_of_token};
-ghost use Rattle.sn_client.specs.Steps.{Applies, PutsOwner, start, with_tokens};
+ghost use Rattle.sn_device.specs.Sending.{AreOfRows};
+ghost use Rattle.sn_device.specs.States.{HasSets, owner_columns, text_of_token};
+ghost use Rattle.sn_device.specs.Steps.{Applies, PutsOwner, start, with_tokens};
 ghost use Rattle.sn_client.specs.Taken.{AreFound, FitsTokens, StopsBy, option_list};
-ghost use Rattle.sn_client.specs.Taking.{RunsOut, told_by};
+ghost use Rattle.sn_device.specs.Taking.{RunsOut, told_by};
 ghost use Rattle.sn_conflict.specs.Checks.{Passes};
 ghost use Rattle.sn_journal.specs.declared.owner.Owner.TheVariants.{Device as DeviceOwner};
 ghost use Rattle.sn_row_map.specs.RowMaps.{row_in};

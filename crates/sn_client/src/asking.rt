@@ -2,15 +2,15 @@
 
 ghost use Rattle.std.specs.Prelude.{◌≡◌, ◌≤◌, IfErr, IfOk, IsErrOf, string_bytes};
 ghost use Rattle.sn_client.specs.Asked.{HeardAs, IsAsked, IsGranted, IsHeard, IsHeardBehind, IsRefusalFor, IsUnreadBody};
-ghost use Rattle.sn_client.specs.Asking.{Fails, IsReply, IsRequestBytes, Reply, body_of, said, session_of, target_of};
-ghost use Rattle.sn_client.specs.Runs.{most_exchanges};
+ghost use Rattle.sn_device.specs.Asking.{Fails, IsReply, IsRequestBytes, Reply, body_of, said, session_of, target_of};
+ghost use Rattle.sn_device.specs.Runs.{most_exchanges};
 ghost use Rattle.sn_io.specs.Causes.{Rose};
 ghost use Rattle.sn_net.specs.Exchanges.{answer_of};
 ghost use Rattle.sn_sync.specs.Answers.{IsAnswer};
 ghost use Rattle.sn_sync.specs.Fits.{FitsAnswer};
 ghost use Rattle.sn_sync.specs.Requests.{route_of};
 
-use crate::error::{ClientError, Place};
+use sn_device::{ClientError, Place};
 use sn_net::{AskError, Link};
 use sn_sync::{Answer, Request, Route, SyncError};
 use std::alloc::{AllocError, Global};

@@ -1,6 +1,6 @@
 //! How a call of a device ended.
 
-use crate::error::ClientError;
+use sn_device::ClientError;
 
 /// How a call of a device `S` on a disk `D` ended.
 #[derive(Drop)]

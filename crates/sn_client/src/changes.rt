@@ -5,10 +5,10 @@ ghost use Rattle.sn_rows.specs.Bounds.{HasLength};
 ghost use Rattle.sn_rows.specs.Table.{Puts};
 ghost use Rattle.sn_rows.specs.declared.key.Key.TheVariants as key;
 ghost use Rattle.sn_rows.specs.declared.value.Value.TheVariants as value;
-ghost use Rattle.sn_client.specs.Sending.{PutsColumns};
-ghost use Rattle.sn_client.specs.States.{columns, owner_columns};
-ghost use Rattle.sn_client.specs.Steps.{PutsOwner, PutsSet, drafted, with_next};
-ghost use Rattle.sn_client.specs.Taking.{new_columns};
+ghost use Rattle.sn_device.specs.Sending.{PutsColumns};
+ghost use Rattle.sn_device.specs.States.{columns, owner_columns};
+ghost use Rattle.sn_device.specs.Steps.{PutsOwner, PutsSet, drafted, with_next};
+ghost use Rattle.sn_device.specs.Taking.{new_columns};
 
 use sn_rows::{
     Boxed, Change, Key, LocalItem, OwnerRow, Row, RowBody, RowStrings, SetRow, Slot, Value,

@@ -1,10 +1,10 @@
 //! Changing the password of a device's account.
 
 ghost use Rattle.std.specs.Prelude.{◌≡◌, ◌⊎◌, ℕ, IfErr, IfNone, IfOk, IfSome, None, OnOk};
-ghost use Rattle.sn_client.specs.Changing.{IsFirstItem, IsFirstSent, NoneRuns};
-ghost use Rattle.sn_client.specs.Runs.{RefusesChange};
-ghost use Rattle.sn_client.specs.States.{HasLocal};
-ghost use Rattle.sn_client.specs.declared.error.ClientError.TheVariants as refusal;
+ghost use Rattle.sn_device.specs.Changing.{IsFirstItem, IsFirstSent, NoneRuns};
+ghost use Rattle.sn_device.specs.Runs.{RefusesChange};
+ghost use Rattle.sn_device.specs.States.{HasLocal};
+ghost use Rattle.sn_device.specs.declared.error.ClientError.TheVariants as refusal;
 ghost use Rattle.sn_rekey.specs.Carrying.{IsOfOther};
 ghost use Rattle.sn_row_map.specs.RowMaps.{row_in};
 ghost use Rattle.sn_table.specs.Logs.{HasKinds};
@@ -13,7 +13,8 @@ ghost use Rattle.sn_rows.specs.declared.device_rows.LocalItem.{LocalItem};
 use crate::asking::{MOST_EXCHANGES, hear_behind};
 use crate::called::Called;
 use crate::device::Device;
-use crate::error::{ClientError, of_commit};
+use crate::error::of_commit;
+use sn_device::ClientError;
 use crate::looking::held_sets;
 use crate::piece_end::PieceEnd;
 use crate::registering::{is_bad_cost, new_set};
@@ -45,11 +46,11 @@ impl<D: Disk> Device<D> {
     ghost use Rattle.sn_table.specs.Kept.{Kept};
     ghost use Rattle.sn_client.specs.Calls.{CallsOver, HasFront, IfBroken, IfRefused, IfStands, IsOpen, MayHave, called_disk, device_disk, device_rows, tried};
     ghost use Rattle.sn_client.specs.Asked.{IsGranted};
-    ghost use Rattle.sn_client.specs.Changing.{HoldsAsked, MayAsk};
-    ghost use Rattle.sn_client.specs.Runs.{AnswersChange, AsksFor, AsksHost, ChangesTo, CommitsStep, Exchanges, IsBadCost, Then, begun, change_to, most_exchanges, passwd};
-    ghost use Rattle.sn_client.specs.States.{HasOwner, HasSets, IsSound};
-    ghost use Rattle.sn_client.specs.Steps.{asks};
-    ghost use Rattle.sn_client.specs.Syncing.{HasNoneAsked, IfOn, MadeAtMost, IsOpenSince, KeepsDevice, MayHaveSince, WentBy, called_past, gives_nothing};
+    ghost use Rattle.sn_device.specs.Changing.{HoldsAsked, MayAsk};
+    ghost use Rattle.sn_device.specs.Runs.{AnswersChange, AsksFor, AsksHost, ChangesTo, CommitsStep, Exchanges, IsBadCost, Then, begun, change_to, most_exchanges, passwd};
+    ghost use Rattle.sn_device.specs.States.{HasOwner, HasSets, IsSound, HasNoneAsked};
+    ghost use Rattle.sn_device.specs.Steps.{asks};
+    ghost use Rattle.sn_client.specs.Syncing.{IfOn, MadeAtMost, IsOpenSince, KeepsDevice, MayHaveSince, WentBy, called_past, gives_nothing};
 
     /// Changes the account's password: brings the device and its server together, keeps a new set as asked for, asks for
     /// it, adopts it, and brings them together again. The link's host is asked. A set that is asked for already, since

@@ -34,7 +34,7 @@ impl<D: Disk> Device<D> {
     ghost use Rattle.sn_table.specs.Committing.{IfBroken, IfDone, IfRefused, IsCause, disk_after};
     ghost use Rattle.sn_table.specs.Kept.{Kept, with_batch};
     ghost use Rattle.sn_client.specs.Calls.{IsOpen, MayHave, device_disk, device_rows};
-    ghost use Rattle.sn_client.specs.Runs.{IsBatch};
+    ghost use Rattle.sn_device.specs.Runs.{IsBatch};
 
     /// Its disk.
     pub fn disk(&self) -> &D
@@ -124,9 +124,9 @@ impl<D: Disk> Device<D> {
     ghost use Rattle.sn_client.specs.Calls.{Ends, IfBroken, IfRefused, IfStands, IsOpen, MayHave, called_disk, device_disk, device_rows, of_commit};
     ghost use Rattle.sn_table.specs.Committing.{IsCause};
     ghost use Rattle.sn_table.specs.declared.committed.CommitError.{CommitError};
-    ghost use Rattle.sn_client.specs.Runs.{Act, EndsCommit, Given, Halt};
-    ghost use Rattle.sn_client.specs.States.{IsSound};
-    ghost use Rattle.sn_client.specs.Steps.{What};
+    ghost use Rattle.sn_device.specs.Runs.{Act, EndsCommit, Given, Halt};
+    ghost use Rattle.sn_device.specs.States.{IsSound};
+    ghost use Rattle.sn_device.specs.Steps.{What};
 
     // Makes a call's last commit, behind which it is answered with what is given.
     pub(crate) fn answer<T: Drop>(self, changes: Vec<Change>, given: T) -> Called<Device<D>, D, T>

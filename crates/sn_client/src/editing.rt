@@ -11,15 +11,15 @@ ghost use Rattle.sn_table.specs.Tables.{table_rows};
 ghost use Rattle.sn_client.specs.Calls.{MayRefuse, Prepares};
 ghost use Rattle.sn_sets.specs.Seals.{IsLater};
 ghost use Rattle.sn_client.specs.Index.{Indexes};
-ghost use Rattle.sn_client.specs.Runs.{RunsDelete, RunsEdit, RunsPut, nothing};
-ghost use Rattle.sn_client.specs.Sending.{PutsColumns};
-ghost use Rattle.sn_client.specs.States.{IsSound, columns};
-ghost use Rattle.sn_client.specs.Steps.{Deletes, Edits, IsUnknown, PutsNew, deletes, drafted, edits};
+ghost use Rattle.sn_device.specs.Runs.{RunsDelete, RunsEdit, RunsPut, nothing};
+ghost use Rattle.sn_device.specs.Sending.{PutsColumns};
+ghost use Rattle.sn_device.specs.States.{IsSound, columns};
+ghost use Rattle.sn_device.specs.Steps.{Deletes, Edits, IsUnknown, PutsNew, deletes, drafted, edits};
 
 use crate::called::Called;
 use crate::changes::{one_change, put_draft, put_new, put_next, two_changes};
 use crate::device::Device;
-use crate::error::ClientError;
+use sn_device::ClientError;
 use crate::fresh::fresh_uuid;
 use crate::index::Index;
 use crate::looking::{check_content, held_sets, shown_text, standing_item};
@@ -38,8 +38,8 @@ impl<D: Disk> Device<D> {
     ghost use Rattle.sn_io.specs.Causes.{Rose};
     ghost use Rattle.sn_table.specs.Kept.{Kept};
     ghost use Rattle.sn_client.specs.Calls.{Calls, IfBroken, IfStands, IsOpen, MayHave, StandsOrHas, called_disk, device_disk, device_rows};
-    ghost use Rattle.sn_client.specs.Runs.{a_uuid, delete, edit, put};
-    ghost use Rattle.sn_client.specs.States.{Bytes};
+    ghost use Rattle.sn_device.specs.Runs.{a_uuid, delete, edit, put};
+    ghost use Rattle.sn_device.specs.States.{Bytes};
 
     /// Puts a new item of this type and content, and gives its uuid. The type has 1 to 255 bytes.
     pub fn put(self, words: &mut Words, kind: &str, text: &str) -> Called<Device<D>, D, Uuid>

@@ -1,13 +1,13 @@
 //! Fresh uuids.
 
 ghost use Rattle.std.specs.Prelude.{IfErr, IfOk};
-ghost use Rattle.sn_client.specs.Draws.{DrawsFresh, DrawsNoFresh};
+ghost use Rattle.sn_device.specs.Draws.{DrawsFresh, DrawsNoFresh};
 ghost use Rattle.sn_client.specs.Taken.{AreFound};
 ghost use Rattle.sn_row_map.specs.RowMaps.{row_in};
 ghost use Rattle.sn_rows.specs.Table.{rows_after};
 ghost use Rattle.sn_sets.specs.Seals.{IsLater};
 ghost use Rattle.sn_client.specs.Index.{Indexes};
-ghost use Rattle.sn_client.specs.States.{IsSound};
+ghost use Rattle.sn_device.specs.States.{IsSound};
 ghost use Rattle.sn_table.specs.Tables.{table_rows};
 
 use crate::index::Index;

@@ -2,8 +2,8 @@
 
 ghost use Rattle.std.specs.Prelude.{◌≡◌, ◌↔◌, ◌++◌, ◌∷◌, [], IfNone, IfOk, IfSome, IsTrue, OnOk, Option};
 ghost use Rattle.sn_client.specs.Index.{Indexes, IndexesChange, IndexesRow, IsIndexed, IsNextListed, KeepsIndexed, Lists, NoneListed, Waits, numbers_at};
-ghost use Rattle.sn_client.specs.Sending.{IsWaiting};
-ghost use Rattle.sn_client.specs.States.{HasLocal};
+ghost use Rattle.sn_device.specs.Sending.{IsWaiting};
+ghost use Rattle.sn_device.specs.States.{HasLocal};
 ghost use Rattle.sn_row_map.specs.RowMaps.{row_in};
 ghost use Rattle.sn_rows.specs.Table.{Rows, rows_after};
 ghost use Rattle.sn_rows.specs.declared.device_rows.LocalItem.{LocalItem};

@@ -12,9 +12,7 @@ mod editing;
 mod error;
 mod fresh;
 mod index;
-mod laws;
 mod lines;
-mod listed;
 mod listing;
 mod loading;
 mod looking;
@@ -35,11 +33,4 @@ mod versions;
 
 pub use called::Called;
 pub use device::Device;
-pub use error::{ClientError, DeviceError, Place};
-pub use laws::{
-    draft_adopted, draft_kept, draft_kept_by_answer, draft_kept_by_passwd, draft_kept_by_sign_in,
-    draft_kept_by_sync, draft_stays, fresh_is_sound, runs_by_steps, runs_stay_sound,
-    runs_stay_sound_device, stay_standing, stay_well, steps_stay_sound, steps_stay_sound_device,
-    tells_soundness,
-};
-pub use listed::{Listed, Mark};
+pub use error::DeviceError;

@@ -1,16 +1,16 @@
 //! The lines of a list of items.
 
 ghost use Rattle.std.specs.Prelude.{◌≡◌, ◌++◌, ◌∷◌, [], None, Some, length, IfNone, IfOk, IfSome, OnOk};
-ghost use Rattle.sn_client.specs.Listing.{AreListed, IsListed, IsMarked};
-ghost use Rattle.sn_client.specs.States.{AreSoundLocals, Bytes, IsSoundItem, columns};
-ghost use Rattle.sn_client.specs.declared.listed.Listed.{Listed};
+ghost use Rattle.sn_device.specs.Listing.{AreListed, IsListed, IsMarked};
+ghost use Rattle.sn_device.specs.States.{AreSoundLocals, Bytes, IsSoundItem, columns};
+ghost use Rattle.sn_device.specs.declared.listed.Listed.{Listed};
 ghost use Rattle.sn_row_map.specs.RowMaps.{row_in};
 ghost use Rattle.sn_rows.specs.declared.device_rows.LocalItem.{LocalItem};
 ghost use Rattle.sn_rows.specs.declared.value.Value.TheVariants.{Local};
 ghost use Rattle.sn_sets.specs.Sets.{OpensHeld, OpensNowhere, sealed_of};
 ghost use Rattle.sn_table.specs.Logs.{HasKinds};
 
-use crate::listed::{Listed, Mark};
+use sn_device::{Listed, Mark};
 use sn_row_map::RowMap;
 use sn_rows::{LocalItem, RowBody, RowKind, RowStrings, Value};
 use sn_sets::{Sets, sealed_strings};

@@ -1,9 +1,9 @@
 //! What a device tells of its items.
 
 use crate::device::Device;
-use crate::error::ClientError;
+use sn_device::ClientError;
 use crate::lines::lines_of;
-use crate::listed::Listed;
+use sn_device::Listed;
 use crate::looking::{held_sets, shown_text, standing_item};
 use sn_disk::Disk;
 use sn_string::OwnedList;
@@ -12,8 +12,8 @@ use uuid::Uuid;
 impl<D: Disk> Device<D> {
     ghost use Rattle.std.specs.Prelude.{string_bytes};
     ghost use Rattle.sn_client.specs.Calls.{Tells, device_rows};
-    ghost use Rattle.sn_client.specs.Runs.{a_text, content, lines, list};
-    ghost use Rattle.sn_client.specs.States.{IsSound};
+    ghost use Rattle.sn_device.specs.Runs.{a_text, content, lines, list};
+    ghost use Rattle.sn_device.specs.States.{IsSound};
 
     /// The content of an item: of its draft, else of the version that it stands on.
     pub fn content(&self, uuid: Uuid) -> Result<String, ClientError>

@@ -22,7 +22,7 @@ impl<D: Disk> Device<D> {
     ghost use Rattle.sn_table.specs.Tables.{table_disk, table_owner, table_rows};
     ghost use Rattle.sn_client.specs.Calls.{IsOpen, device_disk, device_rows};
     ghost use Rattle.sn_client.specs.Loads.{IsDeviceError, IsLoaded, IsOpenError, given_disk};
-    ghost use Rattle.sn_client.specs.States.{IsSound};
+    ghost use Rattle.sn_device.specs.States.{IsSound};
 
     /// Loads the device of a disk, or makes it where it was never begun or finished. It takes no set of a lower cost than
     /// this one.

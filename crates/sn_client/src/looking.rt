@@ -10,13 +10,13 @@ ghost use Rattle.sn_string.specs.declared.reader.StringError.TheVariants as stri
 ghost use Rattle.sn_table.specs.Tables.{table_rows};
 ghost use Rattle.sn_client.specs.Calls.{MayRefuse, none_more};
 ghost use Rattle.sn_client.specs.Index.{Indexes};
-ghost use Rattle.sn_client.specs.Listing.{IsClosed, IsDeleted, SaysNonce, Shows, shown_of};
-ghost use Rattle.sn_client.specs.Runs.{IsGone, WithAccount, WithContent};
-ghost use Rattle.sn_client.specs.States.{Bytes, HasItem, HasSets, IsSound, IsSoundItem, columns};
-ghost use Rattle.sn_client.specs.Steps.{IsContent};
-ghost use Rattle.sn_client.specs.declared.error.ClientError.TheVariants as refusal;
+ghost use Rattle.sn_device.specs.Listing.{IsClosed, IsDeleted, SaysNonce, Shows, shown_of};
+ghost use Rattle.sn_device.specs.Runs.{IsGone, WithAccount, WithContent};
+ghost use Rattle.sn_device.specs.States.{Bytes, HasItem, HasSets, IsSound, IsSoundItem, columns};
+ghost use Rattle.sn_device.specs.Steps.{IsContent};
+ghost use Rattle.sn_device.specs.declared.error.ClientError.TheVariants as refusal;
 
-use crate::error::ClientError;
+use sn_device::ClientError;
 use crate::index::Index;
 use crate::state::{find, sets_of};
 use sn_disk::Disk;

@@ -3,9 +3,9 @@
 ghost use Rattle.std.specs.Prelude.{◌≡◌, ◌⊎◌, ◌↔◌, ◌≤◌, IfNone, IfOk, IfSome, IsTrue};
 ghost use Rattle.hex.specs.Hex.{encode_lower};
 ghost use Rattle.sn_client.specs.Going.{IsSetWith};
-ghost use Rattle.sn_client.specs.Runs.{IsBadCost, IsNewSet};
-ghost use Rattle.sn_client.specs.States.{HasNoAccount, HasOwner};
-ghost use Rattle.sn_client.specs.declared.error.ClientError.TheVariants as refusal;
+ghost use Rattle.sn_device.specs.Runs.{IsBadCost, IsNewSet};
+ghost use Rattle.sn_device.specs.States.{HasNoAccount, HasOwner};
+ghost use Rattle.sn_device.specs.declared.error.ClientError.TheVariants as refusal;
 ghost use Rattle.sn_row_map.specs.RowMaps.{row_in};
 ghost use Rattle.sn_rows.specs.declared.device_rows.OwnerRow.{OwnerRow};
 ghost use Rattle.sn_sets.specs.Seals.{IsLater};
@@ -15,7 +15,7 @@ ghost use Rattle.sn_table.specs.Tables.{table_rows};
 
 use crate::called::Called;
 use crate::device::Device;
-use crate::error::ClientError;
+use sn_device::ClientError;
 use crate::state::owner;
 use sn_disk::Disk;
 use sn_items::Words;
@@ -36,9 +36,9 @@ impl<D: Disk> Device<D> {
     ghost use Rattle.sn_string.specs.declared.params.KeySet.{KeySet};
     ghost use Rattle.sn_table.specs.Kept.{Kept};
     ghost use Rattle.sn_client.specs.Calls.{CallsOver, IfBroken, IfRefused, IfStands, IsOpen, MayHave, StandsOrHas, called_disk, device_disk, device_rows};
-    ghost use Rattle.sn_client.specs.Runs.{nothing, register};
-    ghost use Rattle.sn_client.specs.States.{IsSound};
-    ghost use Rattle.sn_client.specs.Steps.{BeginsDevice};
+    ghost use Rattle.sn_device.specs.Runs.{nothing, register};
+    ghost use Rattle.sn_device.specs.States.{IsSound};
+    ghost use Rattle.sn_device.specs.Steps.{BeginsDevice};
 
     /// Registers an account at the link's host. Its identifier has 1 to 254 bytes. The time goes with the cost.
     pub fn register<L: Link>(

@@ -2,11 +2,11 @@
 
 ghost use Rattle.std.specs.Prelude.{◌≡◌, ◌++◌, ◌∷◌, [], List, All, IfOk, OnOk};
 ghost use Rattle.sn_client.specs.Adopting.{RekeysOne, RekeysRow};
-ghost use Rattle.sn_client.specs.Changing.{MayAsk, RekeysAll};
-ghost use Rattle.sn_client.specs.Listing.{AreItems};
-ghost use Rattle.sn_client.specs.Sending.{Numbered};
-ghost use Rattle.sn_client.specs.States.{HasSet, HasSets};
-ghost use Rattle.sn_client.specs.Steps.{Adopts, Asks, DropsAsked, Forgets};
+ghost use Rattle.sn_device.specs.Changing.{MayAsk, RekeysAll};
+ghost use Rattle.sn_device.specs.Listing.{AreItems};
+ghost use Rattle.sn_device.specs.Sending.{Numbered};
+ghost use Rattle.sn_device.specs.States.{HasSet, HasSets};
+ghost use Rattle.sn_device.specs.Steps.{Adopts, Asks, DropsAsked, Forgets};
 ghost use Rattle.sn_journal.specs.declared.owner.Owner.TheVariants.{Device as DeviceOwner};
 ghost use Rattle.sn_row_map.specs.RowMaps.{row_in};
 ghost use Rattle.sn_rows.specs.Table.{Puts, Rows};

@@ -1,12 +1,12 @@
 //! Drafts that go on under fresh uuids, and drafts that are no longer sent.
 
 ghost use Rattle.std.specs.Prelude.{◌≡◌, ◌↔◌, ◌≤◌, ℕ, List, Some, IfErr, IfNone, IfOk, IfSome, IsTrue, length, string_bytes};
-ghost use Rattle.sn_client.specs.Sending.{PutsColumns};
-ghost use Rattle.sn_client.specs.States.{columns};
+ghost use Rattle.sn_device.specs.Sending.{PutsColumns};
+ghost use Rattle.sn_device.specs.States.{columns};
 ghost use Rattle.sn_client.specs.Taken.{AreFound, FindsNoFresh, HasNumber, HasText, IsReadable, PutsAnew, StopsBy, StopsCopy, after, so_far};
-ghost use Rattle.sn_client.specs.Taking.{Copies, Renames, made, unposted, with_words};
-ghost use Rattle.sn_client.specs.Draws.{DrawsNoFresh};
-ghost use Rattle.sn_client.specs.declared.error.ClientError.TheVariants as refusal;
+ghost use Rattle.sn_device.specs.Taking.{Copies, Renames, made, unposted, with_words};
+ghost use Rattle.sn_device.specs.Draws.{DrawsNoFresh};
+ghost use Rattle.sn_device.specs.declared.error.ClientError.TheVariants as refusal;
 ghost use Rattle.sn_client.specs.declared.taken.Effect.TheVariants as effect;
 ghost use Rattle.sn_items.specs.Objects.{is_object};
 ghost use Rattle.sn_row_map.specs.RowMaps.{row_in};

@@ -1,13 +1,14 @@
 //! What became of a change of password that was asked for and isn't answered.
 
 ghost use Rattle.std.specs.Prelude.{◌≡◌, IfOk};
-ghost use Rattle.sn_client.specs.Runs.{change_to};
+ghost use Rattle.sn_device.specs.Runs.{change_to};
 ghost use Rattle.sn_sync.specs.declared.request.Request.TheVariants as request;
 
 use crate::asking::hear_behind;
 use crate::called::Called;
 use crate::device::Device;
-use crate::error::{ClientError, of_commit};
+use crate::error::of_commit;
+use sn_device::ClientError;
 use crate::piece_end::PieceEnd;
 use crate::rekeying::{adopting, forgetting};
 use crate::signing::{bad_auth, sign_in_request};
@@ -37,12 +38,12 @@ impl<D: Disk> Device<D> {
     ghost use Rattle.sn_table.specs.Kept.{Kept};
     ghost use Rattle.sn_client.specs.Asked.{IsGranted};
     ghost use Rattle.sn_client.specs.Calls.{IfRefused, IsOpen, device_rows};
-    ghost use Rattle.sn_client.specs.Changing.{HoldsAsked};
-    ghost use Rattle.sn_client.specs.Runs.{AdoptsOrDrops, AdoptsOrKeeps, AsksHost, CommitsStep, Drops, DropsOrKeeps, Finds, FindsParams, Resolves, most_exchanges};
-    ghost use Rattle.sn_client.specs.States.{HasOwner, HasSet, IsInSlot, IsSound};
-    ghost use Rattle.sn_client.specs.Steps.{Adopts, adopts};
-    ghost use Rattle.sn_client.specs.Syncing.{HasNoneAsked, IfOn, MadeAtMost, IsOpenSince, KeepsDevice, MayHaveSince, WentBy, called_past, none_asked};
-    ghost use Rattle.sn_client.specs.declared.error.ClientError.TheVariants as refusal;
+    ghost use Rattle.sn_device.specs.Changing.{HoldsAsked};
+    ghost use Rattle.sn_device.specs.Runs.{AdoptsOrDrops, AdoptsOrKeeps, AsksHost, CommitsStep, Drops, DropsOrKeeps, Finds, FindsParams, Resolves, most_exchanges};
+    ghost use Rattle.sn_device.specs.States.{HasOwner, HasSet, IsInSlot, IsSound, HasNoneAsked};
+    ghost use Rattle.sn_device.specs.Steps.{Adopts, adopts};
+    ghost use Rattle.sn_client.specs.Syncing.{IfOn, MadeAtMost, IsOpenSince, KeepsDevice, MayHaveSince, WentBy, called_past, none_asked};
+    ghost use Rattle.sn_device.specs.declared.error.ClientError.TheVariants as refusal;
 
     /// Finds out what became of the change from the present set to one that is asked for: the set is adopted where the
     /// change was made, or is made now. Behind so many exchanges of the call.

@@ -1,8 +1,8 @@
 //! When an older set may go.
 
 ghost use Rattle.std.specs.Prelude.{◌≡◌, ◌↔◌, ◌∷◌, [], All, IfNone, IfOk, IfSome, IsTrue, Some};
-ghost use Rattle.sn_client.specs.States.{HasLocal};
-ghost use Rattle.sn_client.specs.Steps.{AllFinished, IsFinishedAt, Retires};
+ghost use Rattle.sn_device.specs.States.{HasLocal};
+ghost use Rattle.sn_device.specs.Steps.{AllFinished, IsFinishedAt, Retires};
 ghost use Rattle.sn_rekey.specs.Carrying.{IsFinished};
 ghost use Rattle.sn_row_map.specs.RowMaps.{row_in};
 ghost use Rattle.sn_rows.specs.Kinds.{key_kind};

@@ -4,9 +4,9 @@ ghost use Rattle.std.specs.Prelude.{◌≡◌, ◌≢◌, ◌⊎◌, ◌↔◌, 
 ghost use Rattle.std.specs.Option.{ForSome, option_copied};
 ghost use Rattle.sn_client.specs.Chosen.{AreTaken, PostsNone, PostsOne, TakesOne, counted};
 ghost use Rattle.sn_client.specs.Index.{Indexes};
-ghost use Rattle.sn_client.specs.Runs.{Sends};
-ghost use Rattle.sn_client.specs.Sending.{AreChosen, AreSentAs, IsSentAs, IsSyncOf, IsUnsent, NoneWaits, Numbered, PutsColumns, SaysBase, SomeWaits, as_posted, message_body, most_sent, sent_of, weight_of};
-ghost use Rattle.sn_client.specs.States.{HasOwner, IsSound, IsSoundItem, columns, token_of};
+ghost use Rattle.sn_device.specs.Runs.{Sends};
+ghost use Rattle.sn_device.specs.Sending.{AreChosen, AreSentAs, IsSentAs, IsSyncOf, IsUnsent, NoneWaits, Numbered, PutsColumns, SaysBase, SomeWaits, as_posted, message_body, most_sent, sent_of, weight_of};
+ghost use Rattle.sn_device.specs.States.{HasOwner, IsSound, IsSoundItem, columns, token_of};
 ghost use Rattle.sn_journal.specs.declared.owner.Owner.TheVariants.{Device as DeviceOwner};
 ghost use Rattle.sn_row_map.specs.RowMaps.{row_in};
 ghost use Rattle.sn_rows.specs.Table.{Rows};

@@ -2,11 +2,11 @@
 
 ghost use Rattle.std.specs.Prelude.{◌≡◌, ◌≢◌, ◌⊎◌, ◌↔◌, ◌≤◌, ℕ, List, Err, IfErr, IfNone, IfOk, IfSome, IsErrOf, IsTrue, OnOk};
 ghost use Rattle.sn_client.specs.Asked.{AsksOnce, IsAsked};
-ghost use Rattle.sn_client.specs.Asking.{said};
-ghost use Rattle.sn_client.specs.Runs.{IsBadCost, IsOrMayBe, IsOtherOlder};
+ghost use Rattle.sn_device.specs.Asking.{said};
+ghost use Rattle.sn_device.specs.Runs.{IsBadCost, IsOrMayBe, IsOtherOlder};
 ghost use Rattle.sn_client.specs.Signing.{HasKeys, JoinsAgain, JoinsBy, RefusesAgain, RefusesKeys, RefusesParams, RefusesWith, bad_auth};
-ghost use Rattle.sn_client.specs.States.{AreSoundSets, HasOwner};
-ghost use Rattle.sn_client.specs.declared.error.ClientError.TheVariants as refusal;
+ghost use Rattle.sn_device.specs.States.{AreSoundSets, HasOwner};
+ghost use Rattle.sn_device.specs.declared.error.ClientError.TheVariants as refusal;
 ghost use Rattle.sn_io.specs.Causes.{Rose};
 ghost use Rattle.sn_row_map.specs.RowMaps.{row_in};
 ghost use Rattle.sn_rows.specs.declared.device_rows.OwnerRow.{OwnerRow};
@@ -16,7 +16,7 @@ ghost use Rattle.sn_table.specs.Tables.{table_rows};
 use crate::asking::ask_with;
 use crate::called::Called;
 use crate::device::Device;
-use crate::error::{ClientError, Place};
+use sn_device::{ClientError, Place};
 use crate::registering::is_bad_cost;
 use crate::state::{owner, sets_of};
 use sn_disk::Disk;
@@ -45,11 +45,11 @@ impl<D: Disk> Device<D> {
     ghost use Rattle.sn_table.specs.Kept.{Kept};
     ghost use Rattle.sn_client.specs.Calls.{CallsOver, IfBroken, IfRefused, IfStands, IsOpen, MayHave, StandsOrHas, called_disk, device_disk, device_rows};
     ghost use Rattle.sn_client.specs.Going.{GoesOver, MayWant};
-    ghost use Rattle.sn_client.specs.Runs.{SignsInWith, nothing, sign_in};
+    ghost use Rattle.sn_device.specs.Runs.{SignsInWith, nothing, sign_in};
     ghost use Rattle.sn_client.specs.Signing.{MadeBySignIn};
-    ghost use Rattle.sn_client.specs.States.{IsSound};
+    ghost use Rattle.sn_device.specs.States.{IsSound};
     ghost use Rattle.sn_sets.specs.Seals.{IsLater};
-    ghost use Rattle.sn_client.specs.Steps.{Adopts, BeginsDevice, Renews};
+    ghost use Rattle.sn_device.specs.Steps.{Adopts, BeginsDevice, Renews};
 
     /// Signs in to an account at the link's host. Its identifier has 1 to 254 bytes. The time goes with the account's cost.
     pub fn sign_in<L: Link>(

@@ -1,7 +1,7 @@
 //! Whether the rows of a device are sound, and else the first kind of which some aren't.
 
 ghost use Rattle.std.specs.Prelude.{◌≡◌, ◌≢◌, ◌⊎◌, ◌↔◌, Some, IfOk, IsSome, IsTrue, true};
-ghost use Rattle.sn_client.specs.States.{AreOfDevice, AreSoundLocals, AreSoundSets, HasNoAccount, HasOwner, IsFirstUnsound, IsSoundItem, NamesVersion, columns};
+ghost use Rattle.sn_device.specs.States.{AreOfDevice, AreSoundLocals, AreSoundSets, HasNoAccount, HasOwner, IsFirstUnsound, IsSoundItem, NamesVersion, columns};
 ghost use Rattle.sn_client.specs.Unsound.{HasOwnStrings, HasSoundParts, IsApart, IsSoundBeside, IsSoundRow, Names, SeesMore, SeesRow};
 ghost use Rattle.sn_row_map.specs.RowMaps.{row_in};
 ghost use Rattle.sn_rows.specs.declared.body.RowBody.TheVariants.{Deleted};

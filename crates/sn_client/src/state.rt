@@ -2,8 +2,8 @@
 
 ghost use Rattle.std.specs.Prelude.{◌≡◌, None, Some, IfNone, IfOk, IfSome};
 ghost use Rattle.sn_client.specs.Index.{Indexes, IsNextWaiting, NoneWaitsBehind};
-ghost use Rattle.sn_client.specs.Sending.{NoneWaits};
-ghost use Rattle.sn_client.specs.States.{AreSoundSets, HasItem, HasLocal, HasNoAccount, HasOwner, HasSet, HasSets, IsFree, IsInSlot, IsSetOf};
+ghost use Rattle.sn_device.specs.Sending.{NoneWaits};
+ghost use Rattle.sn_device.specs.States.{AreSoundSets, HasItem, HasLocal, HasNoAccount, HasOwner, HasSet, HasSets, IsFree, IsInSlot, IsSetOf};
 ghost use Rattle.sn_row_map.specs.RowMaps.{row_in};
 ghost use Rattle.sn_rows.specs.declared.device_rows.LocalItem.{LocalItem};
 ghost use Rattle.sn_rows.specs.declared.device_rows.OwnerRow.{OwnerRow};

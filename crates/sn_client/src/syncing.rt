@@ -1,17 +1,18 @@
 //! Syncing with a server: exchanges, one after another, until nothing is left.
 
 ghost use Rattle.std.specs.Prelude.{◌≡◌, ◌↔◌, IfNone, IfSome, IsTrue};
-ghost use Rattle.sn_client.specs.Runs.{HasCursor, HasLongToken};
+ghost use Rattle.sn_device.specs.Runs.{HasCursor, HasLongToken};
 ghost use Rattle.sn_client.specs.Taken.{FitsTokens};
-ghost use Rattle.sn_client.specs.declared.error.ClientError.TheVariants as refusal;
-ghost use Rattle.sn_client.specs.declared.error.Place.TheVariants as place;
+ghost use Rattle.sn_device.specs.declared.error.ClientError.TheVariants as refusal;
+ghost use Rattle.sn_device.specs.declared.error.Place.TheVariants as place;
 ghost use Rattle.sn_client.specs.Syncing.{IsCheckRefusal};
 
 use crate::applying::applied;
 use crate::asking::{MOST_EXCHANGES, ask};
 use crate::called::Called;
 use crate::device::Device;
-use crate::error::{ClientError, Place, of_commit};
+use crate::error::of_commit;
+use sn_device::{ClientError, Place};
 use crate::piece_end::PieceEnd;
 use crate::sending::{Sending, is_left, next_sending};
 use crate::state::{owner, sets_of};
@@ -53,11 +54,11 @@ impl<D: Disk> Device<D> {
     ghost use Rattle.sn_table.specs.Kept.{Kept};
     ghost use Rattle.std.specs.Prelude.{Option, IfErr, IfOk};
     ghost use Rattle.sn_client.specs.Calls.{CallsOver, HasFront, IfBroken, IfRefused, IfStands, IsOpen, MayHave, called_disk, device_disk, device_rows, tried};
-    ghost use Rattle.sn_client.specs.Runs.{Exchanges, IsDue, IsUnapplied, Sends, SyncsUnder, begun, items_of, most_exchanges, sync};
-    ghost use Rattle.sn_client.specs.States.{HasOwner, HasSets, IsSound};
-    ghost use Rattle.sn_client.specs.Steps.{AppliesTo};
-    ghost use Rattle.sn_client.specs.Syncing.{HasNoneAsked, IfOn, MadeAtMost, IsApplied, IsAskedAndApplied, IsExchanged, IsOpenSince, IsSyncFrom, KeepsDevice, MayHaveSince, WentBy, called_of, called_past, gives_nothing};
-    ghost use Rattle.sn_client.specs.declared.error.ClientError.TheVariants as refusal;
+    ghost use Rattle.sn_device.specs.Runs.{Exchanges, IsDue, IsUnapplied, Sends, SyncsUnder, begun, items_of, most_exchanges, sync};
+    ghost use Rattle.sn_device.specs.States.{HasOwner, HasSets, IsSound, HasNoneAsked};
+    ghost use Rattle.sn_device.specs.Steps.{AppliesTo};
+    ghost use Rattle.sn_client.specs.Syncing.{IfOn, MadeAtMost, IsApplied, IsAskedAndApplied, IsExchanged, IsOpenSince, IsSyncFrom, KeepsDevice, MayHaveSince, WentBy, called_of, called_past, gives_nothing};
+    ghost use Rattle.sn_device.specs.declared.error.ClientError.TheVariants as refusal;
 
     /// Brings the device and its server together: sends what waits, and takes what the server has, in as many
     /// exchanges as that needs. The link's host is asked.

@@ -4,14 +4,14 @@ ghost use Rattle.std.specs.Prelude.{◌≡◌, ◌≢◌, ℕ, [], IfNone, IfSom
 ghost use Rattle.std.specs.Bool.{MatchBool};
 ghost use Rattle.std.specs.Option.{option_copied};
 ghost use Rattle.rand_chacha.specs.ChaCha.{ChaCha};
-ghost use Rattle.sn_client.specs.States.{HasItem, HasLocal, IsFree, IsUsed};
-ghost use Rattle.sn_client.specs.Taking.{last_number, made, with_words};
+ghost use Rattle.sn_device.specs.States.{HasItem, HasLocal, IsFree, IsUsed};
+ghost use Rattle.sn_device.specs.Taking.{last_number, made, with_words};
 ghost use Rattle.sn_client.specs.Taken.{AreFound, HasNumber, IsGone, PutsNamed, after, refusal_of, so_far};
 ghost use Rattle.sn_row_map.specs.RowMaps.{row_in};
 ghost use Rattle.sn_rows.specs.Table.{Rows, changed, rows_after};
 ghost use Rattle.sn_rows.specs.declared.device_rows.LocalItem.{LocalItem};
 
-use crate::error::ClientError;
+use sn_device::ClientError;
 use crate::index::Index;
 use crate::state::find_in;
 use sn_row_map::RowMap;

@@ -2,13 +2,13 @@
 
 ghost use Rattle.std.specs.Prelude.{◌≡◌, ◌↔◌, List, [], All, map, IfErr, IfOk, IsTrue, OnOk};
 ghost use Rattle.std.specs.List.{Contains};
-ghost use Rattle.sn_client.specs.States.{HasItem};
+ghost use Rattle.sn_device.specs.States.{HasItem};
 ghost use Rattle.sn_client.specs.Taken.{AreFound, HasNumber, HasVersion, IsVersion, StopsBy, StopsServer, after, left_by, so_far};
 ghost use Rattle.rand_chacha.specs.ChaCha.{ChaCha};
 ghost use Rattle.sn_client.specs.declared.taken.NotTaken.TheVariants as stop;
 ghost use Rattle.sn_sets.specs.declared.sets.Sets.{Sets};
 ghost use Rattle.sn_sync.specs.declared.answer.Conflict.TheVariants as conflict;
-ghost use Rattle.sn_client.specs.Taking.{RunsOut, RunsOutAt, Takes, TakesAll, TakesConflict, TakesServer, is_conflict, is_retrieved, is_saved, told_by};
+ghost use Rattle.sn_device.specs.Taking.{RunsOut, RunsOutAt, Takes, TakesAll, TakesConflict, TakesServer, is_conflict, is_retrieved, is_saved, told_by};
 ghost use Rattle.sn_row_map.specs.RowMaps.{row_in};
 ghost use Rattle.sn_rows.specs.Table.{rows_after};
 ghost use Rattle.sn_sets.specs.Seals.{IsLater};

@@ -2,9 +2,9 @@
 
 ghost use Rattle.std.specs.Prelude.{◌≡◌, ◌≢◌, ◌≤◌, None, IfErr, IfOk};
 ghost use Rattle.rand_chacha.specs.ChaCha.{ChaCha};
-ghost use Rattle.sn_client.specs.States.{columns};
+ghost use Rattle.sn_device.specs.States.{columns};
 ghost use Rattle.sn_client.specs.Taken.{HasNumber, IsUsedUp, IsVersion, StopsBy, after, so_far};
-ghost use Rattle.sn_client.specs.Taking.{IsKeptAs, MakesRow, Progress, StandsOn, TakesVersion, changed, with_words};
+ghost use Rattle.sn_device.specs.Taking.{IsKeptAs, MakesRow, Progress, StandsOn, TakesVersion, changed, with_words};
 ghost use Rattle.sn_rows.specs.Bounds.{HasDeviceLengths, last_stamp};
 ghost use Rattle.sn_rows.specs.Table.{Rows};
 ghost use Rattle.sn_sets.specs.Seals.{IsLater};

@@ -1,8 +1,8 @@
 -- The event of a line: what both ends did, the moves that this says, and how it ended.
 use Rattle.std.specs.Prelude.{◌≡◌, ℕ, List, [], ◌++◌, Bool, false, true, Option, Some, None}
-use Rattle.sn_client.specs.Runs.{Act, Call, Halt, answered, broken, content, delete, edit, list, passwd, put, refused, register, sign_in, sync}
-use Rattle.sn_client.specs.declared.error.ClientError.{ClientError}
-use Rattle.sn_client.specs.declared.error.ClientError.TheVariants as client
+use Rattle.sn_device.specs.Runs.{Act, Call, Halt, answered, broken, content, delete, edit, list, passwd, put, refused, register, sign_in, sync}
+use Rattle.sn_device.specs.declared.error.ClientError.{ClientError}
+use Rattle.sn_device.specs.declared.error.ClientError.TheVariants as client
 use Rattle.sn_events.specs.Events.{AreServedAt, status_of}
 use Rattle.sn_events.specs.Fates.{AnyAskLost, AreByLosses}
 use Rattle.sn_laws.specs.Lookups.{Bytes}

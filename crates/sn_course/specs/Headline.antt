@@ -26,7 +26,7 @@ use Rattle.sn_lines.specs.Lines.{MayHappen}
 use Rattle.sn_lines.specs.Passwords.{AreApart, IsParamsIn}
 use Rattle.sn_report.specs.declared.report.Event.{Event}
 use Rattle.sn_report.specs.declared.report.Report.{Report}
-use Rattle.sn_client.specs.States.{HasSet}
+use Rattle.sn_device.specs.States.{HasSet}
 use Rattle.sn_rows.specs.declared.change.Change.{Change}
 use Rattle.sn_rows.specs.declared.device_rows.SetRow.{SetRow}
 use Rattle.sn_rows.specs.declared.key.Slot.TheVariants.{Asked, Older}

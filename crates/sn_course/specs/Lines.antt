@@ -1,7 +1,7 @@
 -- What a line of a script asks for.
 use Rattle.std.specs.Prelude.{ℕ, zero, suc, List, [], ◌∷◌, Option, Some, None, codes, nat_le, if◌then◌else◌}
 use Rattle.std.specs.Option.{option_map}
-use Rattle.sn_client.specs.Runs.{Call, delete, edit, passwd, put, register, sign_in, sync}
+use Rattle.sn_device.specs.Runs.{Call, delete, edit, passwd, put, register, sign_in, sync}
 use Rattle.sn_laws.specs.Lookups.{Bytes}
 use Rattle.sn_link.specs.declared.losses.Losses.{Losses}
 use Rattle.sn_report.specs.Labels.{Labels, item_at}

@@ -2,7 +2,7 @@
 use Rattle.std.proofs.Common.{◌≡◌, ℕ, List, [], ◌∷◌, ◌++◌, Option, None, Some, refl, sym, ap, ◌∙◌, subst, inl, inr, append-nil, append_assoc}
 use Rattle.std.proofs.Math.Path.{fun_ext}
 use Rattle.sn_client.specs.Calls.{kept_done}
-use Rattle.sn_client.specs.Runs.{Act, asked, commits, rows_done}
+use Rattle.sn_device.specs.Runs.{Act, asked, commits, rows_done}
 use Rattle.sn_events.specs.Laws.{commits_of}
 use Rattle.sn_io.specs.Causes.{next_count}
 use Rattle.sn_laws.specs.Lookups.{Bytes}

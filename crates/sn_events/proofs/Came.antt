@@ -5,12 +5,12 @@ use Rattle.std.specs.Str.{bytes_eq}
 use Rattle.std.specs.declared.option.Option.{Option}
 use Rattle.rand_chacha.specs.ChaCha.{ChaCha}
 use Rattle.sn_client.specs.Calls.{Calls, CallsOver, Ends as CallEnds, IfRefused, IsOpen, called_disk, kept_done}
-use Rattle.sn_client.specs.Runs.{Act, AreExchanges, Call, Given, Halt, Run, answered, broken, refused, rows_done}
+use Rattle.sn_device.specs.Runs.{Act, AreExchanges, Call, Given, Halt, Run, answered, broken, refused, rows_done}
 use Rattle.sn_client.specs.declared.called.Called.{Called}
 use Rattle.sn_client.specs.declared.called.Called.TheVariants as how
 use Rattle.sn_client.specs.declared.device.Device.{Device as AnyDevice}
-use Rattle.sn_client.specs.declared.error.ClientError.{ClientError}
-use Rattle.sn_client.specs.declared.error.ClientError.TheVariants as refusal
+use Rattle.sn_device.specs.declared.error.ClientError.{ClientError}
+use Rattle.sn_device.specs.declared.error.ClientError.TheVariants as refusal
 use Rattle.sn_disk.specs.declared.disk.Disk.{Ghosts}
 use Rattle.sn_disk.specs.MemDisk.{Grows}
 use Rattle.sn_disk.specs.declared.memory.MemDisk.{MemDisk}

@@ -4,8 +4,8 @@ use Rattle.std.specs.declared.option.Option.{Option}
 use Rattle.rand_chacha.specs.ChaCha.{ChaCha}
 use Rattle.sn_account.specs.RuleLaws.{StaysSound}
 use Rattle.sn_account.specs.Sound.{IsSound}
-use Rattle.sn_client.specs.Asking.{Reply}
-use Rattle.sn_client.specs.Runs.{Act, AreExchanges, Call, Halt, Run, asked, commits, content, delete, edit, list, passwd, put, register, sign_in, sync}
+use Rattle.sn_device.specs.Asking.{Reply}
+use Rattle.sn_device.specs.Runs.{Act, AreExchanges, Call, Halt, Run, asked, commits, content, delete, edit, list, passwd, put, register, sign_in, sync}
 use Rattle.sn_events.proofs.Batches.{IsWhole, whole_asked}
 use Rattle.sn_events.proofs.Fating.{AllFated, all_fated}
 use Rattle.sn_events.proofs.Hearing.{register_hears, sign_in_hears}

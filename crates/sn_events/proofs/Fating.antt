@@ -3,8 +3,8 @@ use Rattle.std.proofs.Common.{◌≡◌, ℕ, List, [], ◌∷◌, true, false, 
 use Rattle.std.specs.declared.option.Option.{Option}
 use Rattle.sn_account.specs.RuleLaws.{StaysSound}
 use Rattle.sn_account.specs.Sound.{IsSound}
-use Rattle.sn_client.specs.Asking.{IsExchange, IsReply, Reply, lost, said, unheard, unread}
-use Rattle.sn_client.specs.Runs.{Act, AreExchanges, asked, commits}
+use Rattle.sn_device.specs.Asking.{IsExchange, IsReply, Reply, lost, said, unheard, unread}
+use Rattle.sn_device.specs.Runs.{Act, AreExchanges, asked, commits}
 use Rattle.sn_events.proofs.Batches.{failed_stays, never_serves}
 use Rattle.sn_events.specs.Events.{AreReadableBy, AreServedAt}
 use Rattle.sn_events.specs.Fates.{AreByLosses, IsFateBy, IsHeardSo, IsUnanswered}

@@ -3,11 +3,11 @@ use Rattle.std.proofs.Common.{◌≡◌, ℕ, List, [], ◌∷◌, ◌++◌, ref
 use Rattle.std.specs.Prelude.{codes, ⊤}
 use Rattle.std.specs.List.{flat_map}
 use Rattle.rand_chacha.specs.ChaCha.{ChaCha}
-use Rattle.sn_client.specs.Asking.{Fails, Reply, said}
-use Rattle.sn_client.specs.Runs.{Act, AreRounds, AsksAccount, AsksFirst, CommitsOnce, EndsBehind, EndsExchange, Given, Halt, IsRound, IsUnapplied, KeepsAccount, Round, Run, SignsInAgain, SignsInBy, SignsInUnder, SignsInWith, Standing, acts_of, asked, commits, items_of, posting, refused, register, sign_in}
-use Rattle.sn_client.specs.Steps.{AppliesTo, What, applies, begins, renews, adopts}
-use Rattle.sn_client.specs.declared.error.ClientError.{ClientError}
-use Rattle.sn_client.specs.declared.error.ClientError.TheVariants as refusal
+use Rattle.sn_device.specs.Asking.{Fails, Reply, said}
+use Rattle.sn_device.specs.Runs.{Act, AreRounds, AsksAccount, AsksFirst, CommitsOnce, EndsBehind, EndsExchange, Given, Halt, IsRound, IsUnapplied, KeepsAccount, Round, Run, SignsInAgain, SignsInBy, SignsInUnder, SignsInWith, Standing, acts_of, asked, commits, items_of, posting, refused, register, sign_in}
+use Rattle.sn_device.specs.Steps.{AppliesTo, What, applies, begins, renews, adopts}
+use Rattle.sn_device.specs.declared.error.ClientError.{ClientError}
+use Rattle.sn_device.specs.declared.error.ClientError.TheVariants as refusal
 use Rattle.sn_events.specs.Answers.{IsPlain, IsWant}
 use Rattle.sn_laws.specs.Lookups.{Bytes}
 use Rattle.sn_link.specs.Laws.{HearsNoWant, IsWanting}

@@ -4,11 +4,11 @@ use Rattle.std.specs.Prelude.{codes, ⊤}
 use Rattle.std.specs.Int.{to_be_bytes, w32}
 use Rattle.std.specs.List.{flat_map}
 use Rattle.rand_chacha.specs.ChaCha.{ChaCha}
-use Rattle.sn_client.specs.Asking.{Reply, lost, said, unheard, unread}
-use Rattle.sn_client.specs.Runs.{Act, AdoptsOrDrops, AdoptsOrKeeps, AnswersChange, AnswersNothing, AsksFor, AsksForNew, AsksHost, ChangesTo, CommitsStep, Drops, DropsOrKeeps, EndsBy, EndsSync, Exchanges, Finds, FindsParams, Halt, Hears, IsBatch, Point, Resolves, Run, Standing, StopsAt, SyncsUnder, Then, Turn, acts_of, begun, broken, change_to, goes_on, is_over, passwd, refused, sync}
-use Rattle.sn_client.specs.Steps.{Forgets, What, adopts, asks, forgets}
-use Rattle.sn_client.specs.declared.error.ClientError.{ClientError}
-use Rattle.sn_client.specs.declared.error.ClientError.TheVariants as refusal
+use Rattle.sn_device.specs.Asking.{Reply, lost, said, unheard, unread}
+use Rattle.sn_device.specs.Runs.{Act, AdoptsOrDrops, AdoptsOrKeeps, AnswersChange, AnswersNothing, AsksFor, AsksForNew, AsksHost, ChangesTo, CommitsStep, Drops, DropsOrKeeps, EndsBy, EndsSync, Exchanges, Finds, FindsParams, Halt, Hears, IsBatch, Point, Resolves, Run, Standing, StopsAt, SyncsUnder, Then, Turn, acts_of, begun, broken, change_to, goes_on, is_over, passwd, refused, sync}
+use Rattle.sn_device.specs.Steps.{Forgets, What, adopts, asks, forgets}
+use Rattle.sn_device.specs.declared.error.ClientError.{ClientError}
+use Rattle.sn_device.specs.declared.error.ClientError.TheVariants as refusal
 use Rattle.sn_events.proofs.Hearing.{account_other, exchange_hears, hears_both, no_acts, params_other, rounds_hear, said_other}
 use Rattle.sn_events.specs.Answers.{IsPlain, IsWant}
 use Rattle.sn_laws.specs.Lookups.{Bytes}

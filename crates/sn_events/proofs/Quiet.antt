@@ -2,10 +2,10 @@
 use Rattle.std.proofs.Common.{◌≡◌, ℕ, List, [], ◌∷◌, refl, sym, ◌∙◌, subst, inl, inr}
 use Rattle.std.specs.Prelude.{⊤, ◌≢◌}
 use Rattle.rand_chacha.specs.ChaCha.{ChaCha}
-use Rattle.sn_client.specs.Runs.{Act, Call, CommitsOnce, Given, Halt, PutsItem, Run, StopsAt, WithContent, a_uuid, answered, asked, commits, content, delete, edit, list, nothing, passwd, put, refused, register, sign_in, sync}
-use Rattle.sn_client.specs.Steps.{What, deletes, edits, puts}
-use Rattle.sn_client.specs.declared.error.ClientError.{ClientError}
-use Rattle.sn_client.specs.declared.error.ClientError.TheVariants as refusal
+use Rattle.sn_device.specs.Runs.{Act, Call, CommitsOnce, Given, Halt, PutsItem, Run, StopsAt, WithContent, a_uuid, answered, asked, commits, content, delete, edit, list, nothing, passwd, put, refused, register, sign_in, sync}
+use Rattle.sn_device.specs.Steps.{What, deletes, edits, puts}
+use Rattle.sn_device.specs.declared.error.ClientError.{ClientError}
+use Rattle.sn_device.specs.declared.error.ClientError.TheVariants as refusal
 use Rattle.sn_events.specs.Fates.{AreByLosses}
 use Rattle.sn_events.specs.Laws.{commits_of}
 use Rattle.sn_laws.specs.Lookups.{Bytes}

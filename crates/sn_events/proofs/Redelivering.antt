@@ -3,7 +3,7 @@ use Rattle.std.proofs.Common.{◌≡◌, ◌≢◌, ℕ, List, [], true, false, 
 use Rattle.sn_account.specs.RuleLaws.{StaysSound}
 use Rattle.sn_account.specs.Sound.{IsSound}
 use Rattle.std.specs.declared.option.Option.{Option}
-use Rattle.sn_client.specs.Asking.{IsRequestBytes, said, unheard}
+use Rattle.sn_device.specs.Asking.{IsRequestBytes, said, unheard}
 use Rattle.sn_events.proofs.Batches.{whole_befalls}
 use Rattle.sn_events.proofs.Coming.{open_serves, serves_rows}
 use Rattle.sn_events.proofs.Growing.{device_same, server_grows}

@@ -1,11 +1,11 @@
 -- What an event gives, by how the call of its device ended.
 use Rattle.std.specs.Prelude.{◌≡◌, Result, Ok, Err, ⊤}
 use Rattle.rand_chacha.specs.ChaCha.{ChaCha}
-use Rattle.sn_client.specs.Runs.{Given, Halt, answered, broken, refused}
+use Rattle.sn_device.specs.Runs.{Given, Halt, answered, broken, refused}
 use Rattle.sn_client.specs.declared.called.Called.{Called}
 use Rattle.sn_client.specs.declared.called.Called.TheVariants as called
-use Rattle.sn_client.specs.declared.error.ClientError.{ClientError}
-use Rattle.sn_client.specs.declared.error.ClientError.TheVariants.{NoAccount, NoItem, Closed, TooLong, NotObject, Refused, BadAnswer, RoundsUsed, NoFreshUuid, WrongPassword, OtherAccount, HasAccount, Cost, NumbersUsed, Rekey, TooLarge, LinkFault, Memory}
+use Rattle.sn_device.specs.declared.error.ClientError.{ClientError}
+use Rattle.sn_device.specs.declared.error.ClientError.TheVariants.{NoAccount, NoItem, Closed, TooLong, NotObject, Refused, BadAnswer, RoundsUsed, NoFreshUuid, WrongPassword, OtherAccount, HasAccount, Cost, NumbersUsed, Rekey, TooLarge, LinkFault, Memory}
 
 -- memory was wanting, on the device, or at the server, which has no other use for this status
 abbrev pub IsWant : ClientError → Type 0

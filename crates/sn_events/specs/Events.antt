@@ -2,8 +2,8 @@
 use Rattle.std.specs.Prelude.{◌≡◌, ℕ, List, [], ◌∷◌, false, true}
 pub use Rattle.sn_account.specs.RuleLaws.{status_of}
 use Rattle.rand_chacha.specs.ChaCha.{ChaCha}
-use Rattle.sn_client.specs.Runs.{Act, Call, Given, Halt, Run, asked, commits, refused}
-use Rattle.sn_client.specs.declared.error.ClientError.TheVariants as client
+use Rattle.sn_device.specs.Runs.{Act, Call, Given, Halt, Run, asked, commits, refused}
+use Rattle.sn_device.specs.declared.error.ClientError.TheVariants as client
 use Rattle.sn_events.specs.Answers.{IsHalt}
 use Rattle.sn_events.specs.Calling.{host}
 use Rattle.sn_events.specs.Devices.{device_of}

@@ -1,7 +1,7 @@
 -- What becomes of the requests of a call, by what is lost of them.
 use Rattle.std.specs.Prelude.{◌≡◌, ◌≢◌, ◌⊎◌, ℕ, List, [], ◌∷◌, Bool, false, true}
-use Rattle.sn_client.specs.Asking.{Reply, lost, said, unheard, unread}
-use Rattle.sn_client.specs.Runs.{Act, asked, commits}
+use Rattle.sn_device.specs.Asking.{Reply, lost, said, unheard, unread}
+use Rattle.sn_device.specs.Runs.{Act, asked, commits}
 use Rattle.sn_io.specs.Causes.{next_count}
 use Rattle.sn_link.specs.Losses.{lost_at}
 use Rattle.sn_link.specs.declared.losses.Losses.{Losses}

@@ -2,8 +2,8 @@
 use Rattle.std.specs.Prelude.{◌≡◌, ◌≢◌, ℕ, List, [], ◌∷◌, Some, true, false}
 use Rattle.rand_chacha.specs.ChaCha.{ChaCha}
 use Rattle.sn_account.specs.Sound.{IsSound}
-use Rattle.sn_client.specs.Asking.{IsRequestBytes}
-use Rattle.sn_client.specs.Runs.{Act, AreExchanges, Call, Halt, Run, asked, commits}
+use Rattle.sn_device.specs.Asking.{IsRequestBytes}
+use Rattle.sn_device.specs.Runs.{Act, AreExchanges, Call, Halt, Run, asked, commits}
 use Rattle.sn_events.specs.Answers.{IsPlain}
 use Rattle.sn_events.specs.Calling.{IsOpenHeld, IsRecording, host}
 use Rattle.sn_events.specs.Events.{AreReadableBy, AreServedAt, status_of}

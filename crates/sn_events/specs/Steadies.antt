@@ -1,7 +1,7 @@
 -- A device that is fit for any call.
 use Rattle.std.specs.Prelude.{◌≡◌}
 use Rattle.sn_client.specs.Calls.{device_rows}
-use Rattle.sn_client.specs.States.{IsSound}
+use Rattle.sn_device.specs.States.{IsSound}
 use Rattle.sn_client.specs.declared.device.Device.{Device as AnyDevice}
 use Rattle.sn_disk.specs.declared.disk.Disk.{Ghosts}
 use Rattle.sn_events.specs.declared.steady.Holding.{Holding}

@@ -2,13 +2,13 @@
 
 ghost use Rattle.std.specs.Prelude.{◌≡◌, ◌++◌, List, ℕ, codes, IfOk, OnOk};
 ghost use Rattle.rand_chacha.specs.ChaCha.{ChaCha};
-ghost use Rattle.sn_client.specs.Runs.{a_uuid, delete, edit, nothing, passwd, put, register, sign_in, sync};
+ghost use Rattle.sn_device.specs.Runs.{a_uuid, delete, edit, nothing, passwd, put, register, sign_in, sync};
 ghost use Rattle.sn_events.specs.Begins.{HasBegun};
 ghost use Rattle.sn_events.specs.Calling.{host};
 ghost use Rattle.sn_events.specs.Events.{AgainCame, AsksReadable, CallCame};
 ghost use Rattle.sn_events.specs.Slots.{device_slot, server_slot, slot_mark};
 ghost use Rattle.sn_events.specs.Standing.{Stands};
-ghost use Rattle.sn_client.specs.Asking.{IsRequestBytes};
+ghost use Rattle.sn_device.specs.Asking.{IsRequestBytes};
 ghost use Rattle.sn_disk.specs.MemShelf.{shelf_slot};
 ghost use Rattle.sn_disk.specs.Shelf.{unknown};
 ghost use Rattle.sn_journal.specs.declared.owner.Owner.TheVariants.{Device as DeviceOwner, Server as ServerOwner};

@@ -2,11 +2,15 @@
 
 ghost use Rattle.std.specs.Prelude.{◌≡◌, ◌++◌, List, IfOk};
 ghost use Rattle.sn_client.specs.Calls.{IsOpen as IsOpenDevice, device_disk};
+ghost use Rattle.sn_disk.specs.Disk.{Only};
+ghost use Rattle.sn_disk.specs.MemDisk.{disk_told};
+ghost use Rattle.sn_disk.specs.Steps.{Leaves};
 ghost use Rattle.sn_events.specs.Calling.{AreBehind};
 ghost use Rattle.sn_journal.specs.declared.owner.Owner.TheVariants.{Device as DeviceOwner, Server as ServerOwner};
 ghost use Rattle.sn_link.specs.Deliveries.{Holds, held_disk, serves};
 ghost use Rattle.sn_rows.specs.declared.change.Change.{Change};
 ghost use Rattle.sn_server.specs.Stores.{IsOpen as IsOpenServer, Kept as ServerKept};
+ghost use Rattle.sn_table.specs.Batches.{IsStore};
 ghost use Rattle.sn_table.specs.Kept.{Kept};
 ghost use Rattle.sn_tail.specs.Marks.{StoodAt, mark_of};
 ghost use Rattle.sn_tail.specs.Places.{place_behind};
@@ -15,7 +19,7 @@ use sn_client::Device;
 use sn_disk::MemDisk;
 use sn_journal::Owner;
 use sn_link::Held;
-use sn_marks::{device_stands, server_stands};
+use sn_recorder::server_stands;
 use sn_server::Server;
 use sn_tail::{Tail, first_place, mark_of, tail_of};
 use std::alloc::{AllocError, Global};
@@ -66,3 +70,12 @@ pub(crate) fn whole_tail(alloc: Global, server: &Server<MemDisk>) -> Result<Tail
         Err(_) => Err(AllocError),
     }
 }
+
+// The disk of an open device stands, at its present mark, for the device's batches, and a crash leaves nothing else.
+fn device_stands(_device: &Device<MemDisk>)
+    ensures at { (kept : Kept) → IsOpenDevice _device.now kept →
+        StoodAt (device_disk _device.now) (mark_of (device_disk _device.now)) DeviceOwner kept.batches }
+    ensures one { (kept : Kept) → IsOpenDevice _device.now kept →
+        Only (disk_told (device_disk _device.now)).bytes (Leaves (disk_told (device_disk _device.now))) }
+    ensures store { (kept : Kept) → IsOpenDevice _device.now kept → IsStore DeviceOwner (disk_told (device_disk _device.now)).bytes kept.batches }
+{}

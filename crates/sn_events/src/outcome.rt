@@ -1,7 +1,7 @@
 //! What an event gives.
 
 use crate::ends::Ends;
-use sn_client::ClientError;
+use sn_device::ClientError;
 use sn_recorder::Exchanged;
 use sn_rows::Change;
 use sn_string::OwnedList;

@@ -1,10 +1,10 @@
 -- A set that a device keeps as asked for was asked for in a commit that stood.
 use Rattle.std.proofs.Common.{◌≡◌, ℕ, List, [], ◌∷◌, Option, Some, None, sym, ap, ◌∙◌, subst}
 use Rattle.rand_chacha.specs.ChaCha.{ChaCha}
-use Rattle.sn_client.proofs.Facts.{Parts, adopted, apply_parts, delete_parts, edit_parts, one_owner, parts_keep, post_parts, put_parts, renew_parts}
-use Rattle.sn_client.specs.Sending.{PostsAll}
-use Rattle.sn_client.specs.States.{Bytes, HasOwner, HasSet, IsSetOf, IsSound}
-use Rattle.sn_client.specs.Steps.{AppliesTo, Asks, Deletes, Step, What, adopts, applies, asks, begins, deletes, edits, forgets, posts, puts, renews}
+use Rattle.sn_device.proofs.Facts.{Parts, adopted, apply_parts, delete_parts, edit_parts, one_owner, parts_keep, post_parts, put_parts, renew_parts}
+use Rattle.sn_device.specs.Sending.{PostsAll}
+use Rattle.sn_device.specs.States.{Bytes, HasOwner, HasSet, IsSetOf, IsSound}
+use Rattle.sn_device.specs.Steps.{AppliesTo, Asks, Deletes, Step, What, adopts, applies, asks, begins, deletes, edits, forgets, posts, puts, renews}
 use Rattle.sn_rows.specs.Facts.{put_elsewhere, put_here, removed_here}
 use Rattle.sn_rows.specs.Table.{Rows, rows_after}
 use Rattle.sn_rows.specs.declared.change.Change.{Change}

@@ -1,7 +1,7 @@
 -- What holds of each commit and of each request of a line holds of each of its steps.
 use Rattle.std.proofs.Common.{List, [], ◌∷◌, Bool, Option}
-use Rattle.sn_client.specs.Runs.{Act, Halt, answered, asked, broken, commits as committed, refused}
-use Rattle.sn_client.specs.Steps.{What}
+use Rattle.sn_device.specs.Runs.{Act, Halt, answered, asked, broken, commits as committed, refused}
+use Rattle.sn_device.specs.Steps.{What}
 use Rattle.sn_laws.specs.Each.{Each}
 use Rattle.sn_laws.specs.Lookups.{Bytes}
 use Rattle.sn_lines.proofs.RunSets.{IsHaltOf}

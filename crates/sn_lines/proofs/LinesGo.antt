@@ -1,7 +1,7 @@
 -- Whatever may happen leads on, and one line after another is one trace.
 use Rattle.std.proofs.Common.{◌≡◌, ℕ, List, [], ◌∷◌, ◌++◌, refl, sym, ap, ◌∙◌, subst}
 use Rattle.rand_chacha.specs.ChaCha.{ChaCha}
-use Rattle.sn_client.specs.Runs.{Act, Call, Halt, content, delete, edit, list, passwd, put, register, sign_in, sync}
+use Rattle.sn_device.specs.Runs.{Act, Call, Halt, content, delete, edit, list, passwd, put, register, sign_in, sync}
 use Rattle.sn_laws.proofs.Facts.{end_from-append}
 use Rattle.sn_laws.specs.Each.{Each}
 use Rattle.sn_laws.specs.Lookups.{Bytes, empty}

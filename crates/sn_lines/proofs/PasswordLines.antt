@@ -4,10 +4,10 @@ use Rattle.std.proofs.lemmas.Bool.{cases_Bool}
 use Rattle.std.proofs.lemmas.Option.{none-some, same_Some}
 use Rattle.std.specs.Prelude.{if◌then◌else◌, slice_get}
 use Rattle.std.specs.Str.{bytes_eq}
-use Rattle.sn_client.specs.Laws.{StepsStaySound}
-use Rattle.sn_client.specs.Runs.{Act, Call, Halt, answered, asked, broken, commits as committed, content, delete, edit, list, passwd, put, refused, register, sign_in, sync}
-use Rattle.sn_client.specs.States.{IsSound}
-use Rattle.sn_client.specs.Steps.{What, adopts, applies, asks, begins as begun, deletes, edits, forgets, posts, puts, renews}
+use Rattle.sn_device.specs.Laws.{StepsStaySound}
+use Rattle.sn_device.specs.Runs.{Act, Call, Halt, answered, asked, broken, commits as committed, content, delete, edit, list, passwd, put, refused, register, sign_in, sync}
+use Rattle.sn_device.specs.States.{IsSound}
+use Rattle.sn_device.specs.Steps.{What, adopts, applies, asks, begins as begun, deletes, edits, forgets, posts, puts, renews}
 use Rattle.sn_keys.specs.Keys.{AreKeysOf}
 use Rattle.sn_laws.proofs.Facts.{clash, each_front, end_from-append, same_text, text_same}
 use Rattle.sn_laws.specs.Each.{Each, One}

@@ -1,5 +1,5 @@
 -- Lines that change no password keep a world so.
-use Rattle.sn_client.specs.Runs.{Call, content, delete, edit, list, passwd, put, register, sign_in, sync}
+use Rattle.sn_device.specs.Runs.{Call, content, delete, edit, list, passwd, put, register, sign_in, sync}
 use Rattle.sn_laws.specs.Lookups.{Bytes}
 use Rattle.sn_laws.specs.declared.ideal.Ideal.{Ideal}
 use Rattle.sn_lines.proofs.LinesGo.{all_lead, both_turn}

@@ -1,10 +1,10 @@
 -- The sets that the commits of a call keep: the keys of the password that it is given, or one that was asked for before.
 use Rattle.std.proofs.Common.{◌≡◌, ◌⊎◌, ℕ, List, Some, sym, subst, inl, inr}
 use Rattle.rand_chacha.specs.ChaCha.{ChaCha}
-use Rattle.sn_client.specs.Runs.{Act, Call, ChangesPassword, ChangesTo, CommitsOnce, DeletesItem, GivesText, Halt, ListsItems, PutsItem, Run, RunsRegister, RunsSignIn, SignsInAgain, SignsInBy, SignsInUnder, SignsInWith, SyncsItems, SyncsUnder, WithContent, WithItem, a_uuid, begun, content, delete, edit, lines, list, nothing, passwd, put, register, sign_in, sync}
-use Rattle.sn_client.specs.States.{Bytes, HasSets, IsInSlot}
-use Rattle.sn_client.specs.Steps.{What, adopts, applies, asks, begins, deletes, edits, forgets, posts, puts, renews}
-use Rattle.sn_client.specs.declared.error.ClientError.TheVariants as refusal
+use Rattle.sn_device.specs.Runs.{Act, Call, ChangesPassword, ChangesTo, CommitsOnce, DeletesItem, GivesText, Halt, ListsItems, PutsItem, Run, RunsRegister, RunsSignIn, SignsInAgain, SignsInBy, SignsInUnder, SignsInWith, SyncsItems, SyncsUnder, WithContent, WithItem, a_uuid, begun, content, delete, edit, lines, list, nothing, passwd, put, register, sign_in, sync}
+use Rattle.sn_device.specs.States.{Bytes, HasSets, IsInSlot}
+use Rattle.sn_device.specs.Steps.{What, adopts, applies, asks, begins, deletes, edits, forgets, posts, puts, renews}
+use Rattle.sn_device.specs.declared.error.ClientError.TheVariants as refusal
 use Rattle.sn_keys.specs.Keys.{AreKeysOf}
 use Rattle.sn_lines.proofs.RunSets.{IsAllOf, account_so, answers_so, asks_so, changes_have, content_so, item_so, nothing_so, once_so, owner_so, refuses_so, syncs_have}
 use Rattle.sn_rows.specs.Table.{Rows}

@@ -4,12 +4,12 @@ use Rattle.std.specs.List.{flat_map}
 use Rattle.std.specs.Prelude.{codes}
 use Rattle.std.proofs.lemmas.List.Concat.{flat_map-cons}
 use Rattle.rand_chacha.specs.ChaCha.{ChaCha}
-use Rattle.sn_client.specs.Asking.{Reply, lost, said, unheard, unread}
-use Rattle.sn_client.specs.Runs.{Act, AdoptsOrDrops, AdoptsOrKeeps, AnswersChange, AnswersNothing, AsksAccount, AsksFirst, AsksFor, AsksHost, ChangesTo, CommitsOnce, CommitsStep, Drops, DropsOrKeeps, EndsBehind, EndsBy, EndsExchange, EndsSync, Exchanges, Finds, FindsParams, Given, Halt, Hears, KeepsAccount, Point, Refuses, Resolves, Round, Standing, StopsAt, SyncsUnder, Then, Turn, WithAccount, WithContent, WithItem, acts_of, answered, asked, broken, change_to, commits, goes_on, is_over, nothing, posting, refused}
-use Rattle.sn_client.specs.States.{Bytes, HasSets}
-use Rattle.sn_client.specs.Steps.{What, adopts, applies, asks, forgets, posts}
-use Rattle.sn_client.specs.declared.error.ClientError.{ClientError}
-use Rattle.sn_client.specs.declared.error.ClientError.TheVariants as refusal
+use Rattle.sn_device.specs.Asking.{Reply, lost, said, unheard, unread}
+use Rattle.sn_device.specs.Runs.{Act, AdoptsOrDrops, AdoptsOrKeeps, AnswersChange, AnswersNothing, AsksAccount, AsksFirst, AsksFor, AsksHost, ChangesTo, CommitsOnce, CommitsStep, Drops, DropsOrKeeps, EndsBehind, EndsBy, EndsExchange, EndsSync, Exchanges, Finds, FindsParams, Given, Halt, Hears, KeepsAccount, Point, Refuses, Resolves, Round, Standing, StopsAt, SyncsUnder, Then, Turn, WithAccount, WithContent, WithItem, acts_of, answered, asked, broken, change_to, commits, goes_on, is_over, nothing, posting, refused}
+use Rattle.sn_device.specs.States.{Bytes, HasSets}
+use Rattle.sn_device.specs.Steps.{What, adopts, applies, asks, forgets, posts}
+use Rattle.sn_device.specs.declared.error.ClientError.{ClientError}
+use Rattle.sn_device.specs.declared.error.ClientError.TheVariants as refusal
 use Rattle.sn_keys.specs.Keys.{AreKeysOf}
 use Rattle.sn_laws.specs.Each.{Each}
 use Rattle.sn_rows.specs.Table.{Rows}

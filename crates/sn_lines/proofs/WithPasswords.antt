@@ -2,7 +2,7 @@
 -- on.
 use Rattle.std.proofs.Common.{ℕ, List, ◌++◌}
 use Rattle.rand_chacha.specs.ChaCha.{ChaCha}
-use Rattle.sn_client.specs.Runs.{Act, Call, Halt}
+use Rattle.sn_device.specs.Runs.{Act, Call, Halt}
 use Rattle.sn_laws.specs.Lookups.{Bytes, empty}
 use Rattle.sn_laws.specs.declared.ideal.Ideal.{Ideal}
 use Rattle.sn_lines.proofs.FitsAlong.{may_happen, runs_so, words_fit}

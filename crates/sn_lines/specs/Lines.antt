@@ -2,7 +2,7 @@
 use Rattle.std.specs.Prelude.{◌≡◌, ℕ, List, [], ◌∷◌, ◌++◌}
 use Rattle.rand_chacha.specs.ChaCha.{ChaCha}
 use Rattle.sn_account.specs.Lookups.{HasStore}
-use Rattle.sn_client.specs.Runs.{Act, Call, Halt, Run, content, delete, edit, list, passwd, put, register, sign_in, sync}
+use Rattle.sn_device.specs.Runs.{Act, Call, Halt, Run, content, delete, edit, list, passwd, put, register, sign_in, sync}
 use Rattle.sn_laws.specs.Lookups.{Bytes, empty}
 use Rattle.sn_laws.specs.Runs.{Legal, end, end_from}
 use Rattle.sn_laws.specs.declared.ideal.Ideal.{Ideal}

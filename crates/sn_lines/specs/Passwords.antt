@@ -3,7 +3,7 @@
 use Rattle.std.specs.Prelude.{◌≡◌, List, ◌++◌, ℕ}
 use Rattle.rand_chacha.specs.ChaCha.{ChaCha}
 use Rattle.sn_account.specs.Lookups.{HasStore}
-use Rattle.sn_client.specs.Runs.{Act, Call, Halt, Run, content, delete, edit, list, passwd, put, register, sign_in, sync}
+use Rattle.sn_device.specs.Runs.{Act, Call, Halt, Run, content, delete, edit, list, passwd, put, register, sign_in, sync}
 use Rattle.sn_keys.specs.Keys.{AreKeysOf, check_value}
 use Rattle.sn_laws.specs.Each.{Each, One}
 use Rattle.sn_laws.specs.Lookups.{Bytes, empty}

@@ -6,7 +6,7 @@ ghost use Rattle.sn_lines.specs.Lines.{AllGo, AllKeep, EachKeeps, EachLeads};
 ghost use Rattle.sn_lines.specs.Passwords.{AllGoWith, AllKeepWith, ApartMayCall, EachHoldsOf, FirstHoldsOf, OfAnyPasswords, ParamsStay};
 ghost use Rattle.sn_lines.specs.Plain.{EachKeepsPlain, PlainKeeps};
 
-use sn_client::steps_stay_sound;
+use sn_device::steps_stay_sound;
 use sn_passwd::{every_sync_goes, passwds_go};
 use sn_world::{
     again_leads, calls_go, fresh_fits, holds_first, keeps, keeps_plain, registers_go, requests_fit,

@@ -15,8 +15,8 @@ use Rattle.form_urlencoded.proofs.FormLemmas.{All-byte_serialize, IsAscii-byte_s
 use Rattle.json.proofs.Printed.Utf8.{IsUtf8-are_ascii}
 use Rattle.httparse.specs.Grammar.{AllPass, IsToken, is_token_byte, is_uri_byte}
 use Rattle.percent_encoding.specs.Percent.{percent_encode_byte}
-use Rattle.sn_client.specs.Asking.{body_of, session_of, target_of}
-use Rattle.sn_client.specs.States.{Bytes}
+use Rattle.sn_device.specs.Asking.{body_of, session_of, target_of}
+use Rattle.sn_device.specs.States.{Bytes}
 use Rattle.sn_http.specs.Fields.{Fields}
 use Rattle.sn_http.specs.Lines.{close, content_length, content_type, line, only_if, section}
 use Rattle.sn_http.specs.Options.{is_token_text, is_visible}

@@ -2,8 +2,8 @@
 use Rattle.std.specs.Prelude.{◌≡◌, ◌⊎◌, ◌++◌, ℕ, List, [], ◌∷◌, length, true, Some, None}
 use Rattle.std.proofs.Common.{inl, inr, refl, sym, ◌∙◌, ap, subst, arith, append-nil, length-append}
 use Rattle.sn_account.specs.Rule.{Rule}
-use Rattle.sn_client.specs.Asking.{IsRequestBytes, body_of, session_of, target_of}
-use Rattle.sn_client.specs.States.{Bytes}
+use Rattle.sn_device.specs.Asking.{IsRequestBytes, body_of, session_of, target_of}
+use Rattle.sn_device.specs.States.{Bytes}
 use Rattle.sn_http.specs.Laws.{NoMessageWhereCheck, OneMessage, RequestReadsBack, SameMessage}
 use Rattle.sn_http.specs.Messages.{IsCheck, IsMessage}
 use Rattle.sn_http.specs.declared.message.Message.{Message}

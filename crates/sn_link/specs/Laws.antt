@@ -1,9 +1,9 @@
 -- What a device's exchanges over a link do to its server, as the world has it.
 use Rattle.std.specs.Prelude.{◌≡◌, ◌⊎◌, ◌≤◌, List, [], ◌∷◌, length, Option, ⊤}
 use Rattle.sn_account.specs.Sound.{IsSound}
-use Rattle.sn_client.specs.Asking.{IsRequestBytes, Reply, body_of, said, session_of, target_of, unheard}
-use Rattle.sn_client.specs.Runs.{Act, AreExchanges, asked, commits}
-use Rattle.sn_client.specs.States.{Bytes}
+use Rattle.sn_device.specs.Asking.{IsRequestBytes, Reply, body_of, said, session_of, target_of, unheard}
+use Rattle.sn_device.specs.Runs.{Act, AreExchanges, asked, commits}
+use Rattle.sn_device.specs.States.{Bytes}
 use Rattle.httparse.specs.Grammar.{AllPass}
 use Rattle.sn_http.specs.Laws.{IsWritable}
 use Rattle.sn_http.specs.Options.{is_visible}

@@ -5,8 +5,8 @@ use Rattle.std.proofs.lemmas.Option.{slice_get_within}
 use Rattle.std.specs.List.{Contains, flat_map, list_any}
 use Rattle.std.specs.Prelude.{◌||◌, Option, slice_get, take}
 use Rattle.std.specs.Str.{bytes_eq}
-use Rattle.sn_client.specs.Laws.{IsChecked}
-use Rattle.sn_client.specs.Taking.{is_conflict, is_retrieved, is_saved, told_by}
+use Rattle.sn_device.specs.Laws.{IsChecked}
+use Rattle.sn_device.specs.Taking.{is_conflict, is_retrieved, is_saved, told_by}
 use Rattle.sn_conflict.specs.Checks.{HasItsStrings, IsConflict, IsRetrieved, IsSaved, Passes}
 use Rattle.sn_conflict.specs.Lists.{AllRight}
 use Rattle.sn_laws.proofs.Facts.{is_false, or_left, or_right, same_text, text_same}

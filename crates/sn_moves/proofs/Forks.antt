@@ -4,9 +4,9 @@ use Rattle.std.specs.List.{list_any}
 use Rattle.std.specs.Option.{option_to_list}
 use Rattle.std.specs.Prelude.{if◌then◌else◌, is_some}
 use Rattle.std.specs.Str.{bytes_eq}
-use Rattle.sn_client.specs.Laws.{AreStanding}
-use Rattle.sn_client.specs.States.{Columns, HasItem, HasLocal}
-use Rattle.sn_client.specs.Taking.{Copies, MakesRow, Progress, Renames, TakesVersion}
+use Rattle.sn_device.specs.Laws.{AreStanding}
+use Rattle.sn_device.specs.States.{Columns, HasItem, HasLocal}
+use Rattle.sn_device.specs.Taking.{Copies, MakesRow, Progress, Renames, TakesVersion}
 use Rattle.sn_conflict.specs.Meetings.{MeetsText}
 use Rattle.sn_laws.proofs.Facts.{is_false, one_there, same_text}
 use Rattle.sn_laws.specs.Lookups.{Bytes}

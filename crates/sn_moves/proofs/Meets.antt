@@ -4,8 +4,8 @@ use Rattle.std.specs.List.{list_any}
 use Rattle.std.specs.Option.{option_to_list}
 use Rattle.std.specs.Prelude.{if◌then◌else◌, is_some}
 use Rattle.std.specs.Str.{bytes_eq}
-use Rattle.sn_client.specs.States.{Columns, HasItem}
-use Rattle.sn_client.specs.Taking.{Progress, TakesBody, TakesVersion}
+use Rattle.sn_device.specs.States.{Columns, HasItem}
+use Rattle.sn_device.specs.Taking.{Progress, TakesBody, TakesVersion}
 use Rattle.sn_conflict.specs.Meetings.{HasContent, HasContentOf, MeetsClean, MeetsDeletion, MeetsOwn, MeetsPosted}
 use Rattle.sn_laws.proofs.Facts.{one_there, text_same}
 use Rattle.sn_laws.specs.Lookups.{Bytes}

@@ -8,11 +8,11 @@ use Rattle.std.specs.Prelude.{◌&&◌, if◌then◌else◌, is_none}
 use Rattle.std.specs.Str.{bytes_eq}
 use Rattle.rand_chacha.specs.ChaCha.{ChaCha}
 use Rattle.sn_adopted.specs.Moves.{IsRetiring}
-use Rattle.sn_client.specs.Laws.{AreStanding, StayStanding}
-use Rattle.sn_client.specs.Sending.{PostsAll, PutsColumns}
-use Rattle.sn_client.specs.States.{AreSoundLocals, HasItem, HasLocal, IsInSlot, columns}
-use Rattle.sn_client.specs.Steps.{AppliesTo, Deletes, Edits, IsUnknown, Retires, Step, adopts, applies, asks, begins, deletes, drafted, edits, forgets, posts, puts, renews, start}
-use Rattle.sn_client.specs.Taking.{told_by}
+use Rattle.sn_device.specs.Laws.{AreStanding, StayStanding}
+use Rattle.sn_device.specs.Sending.{PostsAll, PutsColumns}
+use Rattle.sn_device.specs.States.{AreSoundLocals, HasItem, HasLocal, IsInSlot, columns}
+use Rattle.sn_device.specs.Steps.{AppliesTo, Deletes, Edits, IsUnknown, Retires, Step, adopts, applies, asks, begins, deletes, drafted, edits, forgets, posts, puts, renews, start}
+use Rattle.sn_device.specs.Taking.{told_by}
 use Rattle.sn_conflict.specs.Checks.{Passes}
 use Rattle.sn_laws.proofs.Facts.{one_there}
 use Rattle.sn_laws.specs.Lookups.{Bytes, account_named, device_named, held_by}

@@ -3,9 +3,9 @@ use Rattle.std.proofs.Common.{◌≡◌, ◌≢◌, ◌⊎◌, ℕ, Bool, true, 
 use Rattle.std.proofs.lemmas.Bool.{or_cases}
 use Rattle.std.specs.List.{list_any}
 use Rattle.std.specs.Str.{bytes_eq}
-use Rattle.sn_client.specs.Laws.{AreStanding, IsChecked, StayStanding}
-use Rattle.sn_client.specs.States.{HasItem, HasLocal}
-use Rattle.sn_client.specs.Taking.{Meets, Progress, Takes, TakesOwn, TakesServer, Told, is_conflict, is_retrieved, is_saved}
+use Rattle.sn_device.specs.Laws.{AreStanding, IsChecked, StayStanding}
+use Rattle.sn_device.specs.States.{HasItem, HasLocal}
+use Rattle.sn_device.specs.Taking.{Meets, Progress, Takes, TakesOwn, TakesServer, Told, is_conflict, is_retrieved, is_saved}
 use Rattle.sn_conflict.specs.Meetings.{MeetsAs}
 use Rattle.sn_conflict.specs.declared.meeting.Meeting.{Meeting}
 use Rattle.sn_conflict.specs.declared.meeting.Meeting.TheVariants as meeting

@@ -3,7 +3,7 @@
 
 ghost use Rattle.sn_moves.specs.Laws.{SaysAnswered, SaysComputed, SaysOne, SaysPlainly};
 
-use sn_client::stay_standing;
+use sn_device::stay_standing;
 use sn_laws::state_laws::deletions_stay;
 use sn_sync::laws::one_stamp;
 use sn_world::{plain_rows, says_some};

@@ -1,10 +1,10 @@
 -- The acts of each call are in order.
 use Rattle.std.proofs.Common.{◌≡◌, ℕ, false, List, [], ◌∷◌, refl, sym, subst, inl, inr, append-nil}
 use Rattle.rand_chacha.specs.ChaCha.{ChaCha}
-use Rattle.sn_client.specs.Asking.{Reply}
-use Rattle.sn_client.specs.Runs.{Act, AnswersNothing, AsksAccount, AsksFirst, Call, ChangesPassword, ChangesTo, CommitsOnce, DeletesItem, Given, GivesText, Halt, KeepsAccount, ListsItems, Point, PutsItem, Run, RunsCall, RunsRegister, RunsSignIn, SignsInAgain, SignsInBy, SignsInUnder, SignsInWith, SyncsItems, SyncsUnder, Turn, WithAccount, WithContent, WithItem, a_uuid, asked, begun, content, delete, edit, goes_on, is_over, list, nothing, passwd, put, register, sign_in, sync}
-use Rattle.sn_client.specs.States.{Bytes}
-use Rattle.sn_client.specs.Steps.{What, adopts, begins, deletes, edits, puts, renews}
+use Rattle.sn_device.specs.Asking.{Reply}
+use Rattle.sn_device.specs.Runs.{Act, AnswersNothing, AsksAccount, AsksFirst, Call, ChangesPassword, ChangesTo, CommitsOnce, DeletesItem, Given, GivesText, Halt, KeepsAccount, ListsItems, Point, PutsItem, Run, RunsCall, RunsRegister, RunsSignIn, SignsInAgain, SignsInBy, SignsInUnder, SignsInWith, SyncsItems, SyncsUnder, Turn, WithAccount, WithContent, WithItem, a_uuid, asked, begun, content, delete, edit, goes_on, is_over, list, nothing, passwd, put, register, sign_in, sync}
+use Rattle.sn_device.specs.States.{Bytes}
+use Rattle.sn_device.specs.Steps.{What, adopts, begins, deletes, edits, puts, renews}
 use Rattle.sn_rows.specs.Table.{Rows}
 use Rattle.sn_rows.specs.declared.device_rows.OwnerRow.{OwnerRow}
 use Rattle.sn_sets.specs.declared.sets.Sets.{Sets}

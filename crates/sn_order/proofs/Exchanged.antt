@@ -2,10 +2,10 @@
 use Rattle.std.proofs.Common.{◌≡◌, ◌++◌, ℕ, Bool, true, false, List, [], ◌∷◌, Option, Some, None, refl, sym, ap, ◌∙◌, subst, inl, inr, append_assoc}
 use Rattle.std.specs.List.{flat_map}
 use Rattle.rand_chacha.specs.ChaCha.{ChaCha}
-use Rattle.sn_client.specs.Asking.{Reply, said}
-use Rattle.sn_client.specs.Runs.{Act, AreRounds, EndsExchange, EndsSync, Exchanges, Halt, IsDone, IsRound, Point, Round, Standing, Turn, acts_of, asked, commits, goes_on, is_over, posting}
-use Rattle.sn_client.specs.Sending.{IsSyncOf, Numbered}
-use Rattle.sn_client.specs.Steps.{applies}
+use Rattle.sn_device.specs.Asking.{Reply, said}
+use Rattle.sn_device.specs.Runs.{Act, AreRounds, EndsExchange, EndsSync, Exchanges, Halt, IsDone, IsRound, Point, Round, Standing, Turn, acts_of, asked, commits, goes_on, is_over, posting}
+use Rattle.sn_device.specs.Sending.{IsSyncOf, Numbered}
+use Rattle.sn_device.specs.Steps.{applies}
 use Rattle.sn_rows.specs.Table.{Rows}
 use Rattle.sn_rows.specs.declared.change.Change.{Change}
 use Rattle.sn_rows.specs.declared.device_rows.OwnerRow.{OwnerRow}

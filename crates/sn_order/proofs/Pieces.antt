@@ -1,6 +1,6 @@
 -- Pieces of a call, one behind another.
 use Rattle.std.proofs.Common.{◌++◌, false, List, sym, subst, inl, inr, append_assoc}
-use Rattle.sn_client.specs.Runs.{Act, Point, Then, Turn, goes_on, is_over}
+use Rattle.sn_device.specs.Runs.{Act, Point, Then, Turn, goes_on, is_over}
 use Rattle.sn_order.specs.Order.{AreInOrder, next_request}
 use Rattle.sn_order.proofs.Plain.{MaySync}
 

@@ -1,6 +1,6 @@
 -- Acts without a sync: requests, and then one commit at most.
 use Rattle.std.proofs.Common.{◌≡◌, ◌++◌, Bool, true, false, List, [], ◌∷◌, Option, Some, None, refl, sym, ap, ◌∙◌, subst}
-use Rattle.sn_client.specs.Runs.{Act, asked, commits}
+use Rattle.sn_device.specs.Runs.{Act, asked, commits}
 use Rattle.sn_sync.specs.declared.request.Request.{Request}
 use Rattle.sn_order.specs.Kinds.{kind_by}
 use Rattle.sn_order.specs.Order.{AreInOrder, IsAhead, IsBefore, comes_first, is_asks, is_sync, next_kind, next_request}

@@ -1,10 +1,10 @@
 -- A change of password: the requests by which a set is asked for, or by which it is found out what became of it, and its adoption or its end.
 use Rattle.std.proofs.Common.{◌≡◌, ◌++◌, ℕ, Bool, true, false, List, [], ◌∷◌, Option, Some, None, refl, sym, ap, ◌∙◌, subst, inl, inr, append-nil}
-use Rattle.sn_client.specs.Asking.{Reply, lost, said, unheard, unread}
-use Rattle.sn_client.specs.Runs.{Act, AdoptsOrDrops, AdoptsOrKeeps, AnswersChange, AsksFor, AsksForNew, AsksHost, ChangesTo, CommitsStep, Drops, DropsOrKeeps, EndsBy, Exchanges, Finds, FindsParams, Halt, Hears, Point, Resolves, SyncsUnder, Then, Turn, asked, change_to, commits, goes_on, is_over}
-use Rattle.sn_client.specs.States.{Bytes}
-use Rattle.sn_client.specs.Steps.{adopts, asks, forgets}
-use Rattle.sn_client.specs.declared.error.ClientError.{ClientError}
+use Rattle.sn_device.specs.Asking.{Reply, lost, said, unheard, unread}
+use Rattle.sn_device.specs.Runs.{Act, AdoptsOrDrops, AdoptsOrKeeps, AnswersChange, AsksFor, AsksForNew, AsksHost, ChangesTo, CommitsStep, Drops, DropsOrKeeps, EndsBy, Exchanges, Finds, FindsParams, Halt, Hears, Point, Resolves, SyncsUnder, Then, Turn, asked, change_to, commits, goes_on, is_over}
+use Rattle.sn_device.specs.States.{Bytes}
+use Rattle.sn_device.specs.Steps.{adopts, asks, forgets}
+use Rattle.sn_device.specs.declared.error.ClientError.{ClientError}
 use Rattle.sn_rows.specs.declared.change.Change.{Change}
 use Rattle.sn_rows.specs.declared.device_rows.OwnerRow.{OwnerRow}
 use Rattle.sn_sets.specs.declared.sets.Sets.{Sets}

@@ -2,12 +2,12 @@
 use Rattle.std.proofs.Common.{◌≡◌, ◌⊎◌, ℕ, arith, Bool, true, false, List, [], ◌∷◌, ◌++◌, Option, Some, None, refl, sym, ap, ◌∙◌, subst, inl, inr}
 use Rattle.std.proofs.lemmas.List.Elements.{All-nil}
 use Rattle.rand_chacha.specs.ChaCha.{ChaCha}
-use Rattle.sn_client.proofs.Leading.{IsOfItems, Leads, lead_all}
-use Rattle.sn_client.specs.Changing.{RekeysAll}
-use Rattle.sn_client.specs.Sending.{Numbered, PostsAll, PutsColumns}
-use Rattle.sn_client.specs.States.{Bytes, Columns, columns}
-use Rattle.sn_client.specs.Steps.{Adopts, Applies, AppliesAnswer, AppliesTo, Asks, BeginsDevice, Deletes, DropsAsked, Edits, Forgets, IsUnknown, PutsNew, Renews, Retires, Step, What, adopts, applies, asks, begins, deletes, drafted, edits, forgets, posts, puts, renews, start}
-use Rattle.sn_client.specs.Taking.{told_by}
+use Rattle.sn_device.proofs.Facts.{IsOfItems, Leads, lead_all}
+use Rattle.sn_device.specs.Changing.{RekeysAll}
+use Rattle.sn_device.specs.Sending.{Numbered, PostsAll, PutsColumns}
+use Rattle.sn_device.specs.States.{Bytes, Columns, columns}
+use Rattle.sn_device.specs.Steps.{Adopts, Applies, AppliesAnswer, AppliesTo, Asks, BeginsDevice, Deletes, DropsAsked, Edits, Forgets, IsUnknown, PutsNew, Renews, Retires, Step, What, adopts, applies, asks, begins, deletes, drafted, edits, forgets, posts, puts, renews, start}
+use Rattle.sn_device.specs.Taking.{told_by}
 use Rattle.sn_rows.specs.Table.{Removes, Rows}
 use Rattle.sn_rows.specs.declared.body.RowBody.TheVariants as row
 use Rattle.sn_rows.specs.declared.change.Change.{Change}

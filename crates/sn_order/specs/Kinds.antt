@@ -1,7 +1,7 @@
 -- What a batch of a device is, by its changes.
 use Rattle.std.specs.Prelude.{Bool, false, List, if◌then◌else◌}
 use Rattle.std.specs.List.{list_any}
-use Rattle.sn_client.specs.Steps.{What, adopts, applies, asks, begins, deletes, edits, forgets, posts, puts, renews}
+use Rattle.sn_device.specs.Steps.{What, adopts, applies, asks, begins, deletes, edits, forgets, posts, puts, renews}
 use Rattle.sn_rows.specs.Table.{same_key}
 use Rattle.sn_rows.specs.declared.change.Change.{Change}
 use Rattle.sn_rows.specs.declared.change.Change.TheVariants.{Put, Remove}

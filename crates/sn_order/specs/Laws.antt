@@ -1,8 +1,8 @@
 -- What holds of each commit and of each call of a device.
 use Rattle.std.specs.Prelude.{◌≡◌, ℕ, false, List}
 use Rattle.rand_chacha.specs.ChaCha.{ChaCha}
-use Rattle.sn_client.specs.Runs.{Act, Call, Halt, Run}
-use Rattle.sn_client.specs.Steps.{Step, What}
+use Rattle.sn_device.specs.Runs.{Act, Call, Halt, Run}
+use Rattle.sn_device.specs.Steps.{Step, What}
 use Rattle.sn_rows.specs.Table.{Rows}
 use Rattle.sn_rows.specs.declared.change.Change.{Change}
 use Rattle.sn_order.specs.Kinds.{kind_by, kind_of}

@@ -1,6 +1,6 @@
 -- In which order a call makes its commits and its requests: told apart by what the next commit is and what the next request is.
 use Rattle.std.specs.Prelude.{◌≡◌, Bool, true, false, List, [], ◌∷◌, Option, Some, None, if◌then◌else◌}
-use Rattle.sn_client.specs.Runs.{Act, asked, commits}
+use Rattle.sn_device.specs.Runs.{Act, asked, commits}
 use Rattle.sn_sync.specs.declared.request.Request.{Request}
 use Rattle.sn_sync.specs.declared.request.Request.TheVariants as request
 use Rattle.sn_order.specs.Kinds.{kind_by}

@@ -3,11 +3,11 @@
 use Rattle.std.proofs.Common.{◌≡◌, ◌⊎◌, ℕ, suc, List, [], ◌∷◌, ◌++◌, Option, Some, true, refl, sym, ap, ◌∙◌, subst, inl, inr}
 use Rattle.rand_chacha.specs.ChaCha.{ChaCha}
 use Rattle.sn_account.specs.Rule.{Rule}
-use Rattle.sn_client.specs.Runs.{Act, AnswersChange, AsksFor, AsksHost, CommitsStep, EndsBy, IsNewSet, Point, Then, Turn, change_to}
-use Rattle.sn_client.specs.States.{HasSets}
-use Rattle.sn_client.specs.Steps.{adopts, asks}
-use Rattle.sn_client.specs.declared.error.ClientError.{ClientError}
-use Rattle.sn_client.specs.declared.error.ClientError.TheVariants as refusal
+use Rattle.sn_device.specs.Runs.{Act, AnswersChange, AsksFor, AsksHost, CommitsStep, EndsBy, IsNewSet, Point, Then, Turn, change_to}
+use Rattle.sn_device.specs.States.{HasSets}
+use Rattle.sn_device.specs.Steps.{adopts, asks}
+use Rattle.sn_device.specs.declared.error.ClientError.{ClientError}
+use Rattle.sn_device.specs.declared.error.ClientError.TheVariants as refusal
 use Rattle.sn_keys.specs.Keys.{AreKeysOf}
 use Rattle.sn_laws.specs.Lookups.{Bytes}
 use Rattle.sn_laws.specs.Runs.{end_from}

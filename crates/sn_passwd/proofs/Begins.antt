@@ -2,9 +2,9 @@
 use Rattle.std.proofs.Common.{◌≡◌, ◌≢◌, Option, Some, None, Bool, true, false, refl, ap, ◌∙◌, subst}
 use Rattle.std.specs.Prelude.{if◌then◌else◌}
 use Rattle.std.specs.Str.{bytes_eq}
-use Rattle.sn_client.specs.Asking.{session_of}
-use Rattle.sn_client.specs.Runs.{change_to}
-use Rattle.sn_client.specs.States.{HasSets, IsInSlot}
+use Rattle.sn_device.specs.Asking.{session_of}
+use Rattle.sn_device.specs.Runs.{change_to}
+use Rattle.sn_device.specs.States.{HasSets, IsInSlot}
 use Rattle.sn_laws.proofs.Facts.{same_text, text_same}
 use Rattle.sn_laws.specs.Lookups.{Bytes}
 use Rattle.sn_rows.specs.Table.{Rows}

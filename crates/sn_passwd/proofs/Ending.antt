@@ -2,9 +2,9 @@
 use Rattle.std.proofs.Common.{◌≡◌, ℕ, List, [], ◌∷◌, length, Some, false, sym, ◌∙◌, subst, inr}
 use Rattle.std.proofs.lemmas.Bool.{false_from_ne_true}
 use Rattle.rand_chacha.specs.ChaCha.{ChaCha}
-use Rattle.sn_client.specs.Runs.{Act, Call, Given, Point, answered, passwd, rows_done, sync}
-use Rattle.sn_client.specs.Sending.{NoneWaits}
-use Rattle.sn_client.specs.States.{HasLocal}
+use Rattle.sn_device.specs.Runs.{Act, Call, Given, Point, answered, passwd, rows_done, sync}
+use Rattle.sn_device.specs.Sending.{NoneWaits}
+use Rattle.sn_device.specs.States.{HasLocal}
 use Rattle.sn_finished.specs.Finished.{CarriesLast, HasFinished}
 use Rattle.sn_finished.specs.Laws.{FinishedCarries}
 use Rattle.sn_laws.specs.Each.{Each}

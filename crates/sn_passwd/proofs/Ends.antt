@@ -1,7 +1,7 @@
 -- A call that is over: the steps that its acts are, and where it is answered what is known then.
 use Rattle.std.proofs.Common.{List, Option, refl, sym, subst}
-use Rattle.sn_client.specs.Runs.{Act, AnswersNothing, Call, Halt, Point, Refuses, answered, broken, goes_on, refused, rows_done}
-use Rattle.sn_client.specs.declared.error.ClientError.{ClientError}
+use Rattle.sn_device.specs.Runs.{Act, AnswersNothing, Call, Halt, Point, Refuses, answered, broken, goes_on, refused, rows_done}
+use Rattle.sn_device.specs.declared.error.ClientError.{ClientError}
 use Rattle.sn_laws.specs.Lookups.{Bytes}
 use Rattle.sn_laws.specs.declared.ideal.Ideal.{Ideal}
 use Rattle.sn_passwd.proofs.Pieces.{Known, LeadsTurn, NeverAnswers, Piece, PieceGoes, answered_turn, answers_nothing_goes}

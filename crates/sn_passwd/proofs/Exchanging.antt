@@ -3,10 +3,10 @@ use Rattle.std.proofs.Common.{◌≡◌, ◌+◌, ℕ, List, [], ◌∷◌, ◌+
 use Rattle.std.specs.List.{flat_map}
 use Rattle.std.proofs.lemmas.List.{append-nil}
 use Rattle.rand_chacha.specs.ChaCha.{ChaCha}
-use Rattle.sn_client.proofs.Facts.{EndsAlone, StopsAlone}
-use Rattle.sn_client.specs.Runs.{Act, AreRounds, EndsSync, Exchanges, Given, Halt, IsDone, Point, Round, Standing, acts_of, answered, commits as committed, goes_on, is_over, nothing, rows_done}
-use Rattle.sn_client.specs.Sending.{NoneWaits}
-use Rattle.sn_client.specs.Steps.{applies}
+use Rattle.sn_device.proofs.Facts.{EndsAlone, StopsAlone}
+use Rattle.sn_device.specs.Runs.{Act, AreRounds, EndsSync, Exchanges, Given, Halt, IsDone, Point, Round, Standing, acts_of, answered, commits as committed, goes_on, is_over, nothing, rows_done}
+use Rattle.sn_device.specs.Sending.{NoneWaits}
+use Rattle.sn_device.specs.Steps.{applies}
 use Rattle.sn_laws.specs.Lookups.{Bytes}
 use Rattle.sn_laws.specs.Runs.{end_from}
 use Rattle.sn_laws.specs.declared.ideal.Ideal.{Ideal}

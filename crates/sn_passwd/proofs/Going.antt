@@ -1,10 +1,10 @@
 -- A whole sync, a set asked for or not, and a whole change of password are steps of the world, whichever of their requests and answers are lost.
 use Rattle.std.proofs.Common.{◌≡◌, ◌⊎◌, ℕ, List, ◌++◌, Option, refl, sym, subst, inl, inr}
 use Rattle.rand_chacha.specs.ChaCha.{ChaCha}
-use Rattle.sn_client.specs.Runs.{Act, AnswersNothing, AsksFor, Call, ChangesTo, Exchanges, Halt, Point, Refuses, Run, SyncsItems, SyncsUnder, Then, Turn, begun, goes_on, is_over, passwd, rows_done, sync}
-use Rattle.sn_client.specs.States.{HasSets}
-use Rattle.sn_client.specs.declared.error.ClientError.{ClientError}
-use Rattle.sn_client.specs.declared.error.ClientError.TheVariants as refusal
+use Rattle.sn_device.specs.Runs.{Act, AnswersNothing, AsksFor, Call, ChangesTo, Exchanges, Halt, Point, Refuses, Run, SyncsItems, SyncsUnder, Then, Turn, begun, goes_on, is_over, passwd, rows_done, sync}
+use Rattle.sn_device.specs.States.{HasSets}
+use Rattle.sn_device.specs.declared.error.ClientError.{ClientError}
+use Rattle.sn_device.specs.declared.error.ClientError.TheVariants as refusal
 use Rattle.sn_laws.specs.Lookups.{Bytes}
 use Rattle.sn_laws.specs.declared.ideal.Ideal.{Ideal}
 use Rattle.sn_passwd.proofs.Asking.{AsksDrawn, IsRefused, IsSetFor, asks_drawn_never, asks_or_not, drawn_keys, is_refused_never}

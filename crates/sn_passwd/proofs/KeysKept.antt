@@ -1,7 +1,7 @@
 -- What the commit of a set that is asked for leaves of a device's keys.
 use Rattle.std.proofs.Common.{◌≡◌, ◌≢◌, List, Option, Some, None, ap, ◌∙◌, subst}
-use Rattle.sn_client.specs.States.{Bytes, HasSets, IsInSlot}
-use Rattle.sn_client.specs.Steps.{Asks}
+use Rattle.sn_device.specs.States.{Bytes, HasSets, IsInSlot}
+use Rattle.sn_device.specs.Steps.{Asks}
 use Rattle.sn_rows.specs.Facts.{put_elsewhere, put_here}
 use Rattle.sn_rows.specs.Table.{Rows, rows_after}
 use Rattle.sn_rows.specs.declared.change.Change.{Change}

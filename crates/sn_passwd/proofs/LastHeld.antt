@@ -2,8 +2,8 @@
 use Rattle.std.proofs.Common.{◌≡◌, ◌≤◌, ℕ, List, [], ◌∷◌, ◌++◌, length, Some, true, sym, ap, ◌∙◌, subst, arith}
 use Rattle.sn_account.specs.Sessions.{session_token}
 use Rattle.sn_account.specs.Sound.{most_generations}
-use Rattle.sn_client.proofs.Facts.{one_owner}
-use Rattle.sn_client.specs.Steps.{applies}
+use Rattle.sn_device.proofs.Facts.{one_owner}
+use Rattle.sn_device.specs.Steps.{applies}
 use Rattle.sn_laws.specs.Lookups.{Bytes, device_named, greatest}
 use Rattle.sn_laws.specs.Runs.{end_from}
 use Rattle.sn_laws.specs.declared.ideal.Account.{Account}

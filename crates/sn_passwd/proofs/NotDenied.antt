@@ -3,7 +3,7 @@ use Rattle.std.proofs.Common.{◌≡◌, ℕ, List, length, Some, sym, ap, ◌�
 use Rattle.sn_account.specs.Lookups.{HasAccount as HasAccountRow, HasStore}
 use Rattle.sn_account.specs.Rules.{ChangesKeys, ChangesPassword}
 use Rattle.sn_account.specs.Sessions.{IsSession, session_token}
-use Rattle.sn_client.specs.States.{HasSets}
+use Rattle.sn_device.specs.States.{HasSets}
 use Rattle.sn_keys.specs.Keys.{check_value}
 use Rattle.sn_laws.proofs.Facts.{one_there}
 use Rattle.sn_laws.specs.Lookups.{Bytes}

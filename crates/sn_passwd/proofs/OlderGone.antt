@@ -2,10 +2,10 @@
 use Rattle.std.proofs.Common.{◌≡◌, ◌⊎◌, ℕ, List, [], ◌∷◌, length, Option, Some, None, Bool, true, false, refl, sym, ap, ◌∙◌, subst, inl, inr}
 use Rattle.rand_chacha.specs.ChaCha.{ChaCha}
 use Rattle.sn_adopted.specs.Moves.{OlderStale}
-use Rattle.sn_client.proofs.Facts.{after_append, apply_parts}
-use Rattle.sn_client.specs.Sending.{NoneWaits}
-use Rattle.sn_client.specs.States.{HasLocal, IsInSlot}
-use Rattle.sn_client.specs.Steps.{AllFinished, Applies, Retires, Step, applies}
+use Rattle.sn_device.proofs.Facts.{after_append, apply_parts}
+use Rattle.sn_device.specs.Sending.{NoneWaits}
+use Rattle.sn_device.specs.States.{HasLocal, IsInSlot}
+use Rattle.sn_device.specs.Steps.{AllFinished, Applies, Retires, Step, applies}
 use Rattle.sn_items.specs.Items.{Carries, CarriesParams}
 use Rattle.sn_laws.proofs.Facts.{devices_all_hold, one_there}
 use Rattle.sn_laws.specs.Lookups.{Bytes, account_of, device_named, greatest}

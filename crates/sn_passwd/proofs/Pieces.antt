@@ -2,11 +2,11 @@
 use Rattle.std.proofs.Common.{◌≡◌, ℕ, suc, List, [], ◌∷◌, ◌++◌, Option, true, refl, sym, ap, ◌∙◌, subst, inl, inr}
 use Rattle.rand_chacha.specs.ChaCha.{ChaCha}
 use Rattle.sn_account.specs.Rule.{Rule}
-use Rattle.sn_client.specs.Asking.{Reply, lost, said, unheard, unread}
-use Rattle.sn_client.specs.Runs.{Act, AnswersNothing, AsksHost, CommitsStep, EndsBy, Given, Halt, Hears, Point, StopsAt, Then, Turn, answered, asked, commits as committed, goes_on, is_over, refused, rows_done}
-use Rattle.sn_client.specs.Steps.{Step, What}
-use Rattle.sn_client.specs.declared.error.ClientError.{ClientError}
-use Rattle.sn_client.specs.declared.error.ClientError.TheVariants as refusal
+use Rattle.sn_device.specs.Asking.{Reply, lost, said, unheard, unread}
+use Rattle.sn_device.specs.Runs.{Act, AnswersNothing, AsksHost, CommitsStep, EndsBy, Given, Halt, Hears, Point, StopsAt, Then, Turn, answered, asked, commits as committed, goes_on, is_over, refused, rows_done}
+use Rattle.sn_device.specs.Steps.{Step, What}
+use Rattle.sn_device.specs.declared.error.ClientError.{ClientError}
+use Rattle.sn_device.specs.declared.error.ClientError.TheVariants as refusal
 use Rattle.sn_laws.proofs.Facts.{end_from-append}
 use Rattle.sn_laws.specs.Lookups.{Bytes}
 use Rattle.sn_laws.specs.Runs.{LegalFrom, end_from}

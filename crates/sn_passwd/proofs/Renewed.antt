@@ -6,7 +6,7 @@ use Rattle.std.specs.Str.{bytes_eq}
 use Rattle.sn_account.specs.Sessions.{session_token}
 use Rattle.sn_account.specs.Sound.{most_generations}
 use Rattle.sn_adopted.specs.Moves.{adopting, reposting}
-use Rattle.sn_client.specs.Steps.{adopts}
+use Rattle.sn_device.specs.Steps.{adopts}
 use Rattle.sn_finished.specs.Finished.{IsFinishedBy, Retires}
 use Rattle.sn_laws.proofs.Facts.{device_after, device_joined, end_from-append, more_sets, one_there, text_same}
 use Rattle.sn_laws.specs.Each.{One}

@@ -7,12 +7,12 @@ use Rattle.sn_account.specs.Rule.{Rule}
 use Rattle.sn_account.specs.Rules.{IsPresent, TellsParams}
 use Rattle.sn_account.specs.Sessions.{session_token}
 use Rattle.sn_account.specs.Sound.{most_accounts, most_generations}
-use Rattle.sn_client.proofs.Facts.{Adopted, adopted, adopted_sets, one_owner}
-use Rattle.sn_client.specs.Runs.{Act, AdoptsOrDrops, AdoptsOrKeeps, AsksHost, CommitsStep, Drops, DropsOrKeeps, EndsBy, Finds, FindsParams, Point, Resolves, Turn, change_to}
-use Rattle.sn_client.specs.States.{HasOwner, HasSets, OwnerColumns}
-use Rattle.sn_client.specs.Steps.{Adopts, adopts, forgets}
-use Rattle.sn_client.specs.declared.error.ClientError.{ClientError}
-use Rattle.sn_client.specs.declared.error.ClientError.TheVariants as refusal
+use Rattle.sn_device.proofs.Facts.{Adopted, adopted, adopted_sets, one_owner}
+use Rattle.sn_device.specs.Runs.{Act, AdoptsOrDrops, AdoptsOrKeeps, AsksHost, CommitsStep, Drops, DropsOrKeeps, EndsBy, Finds, FindsParams, Point, Resolves, Turn, change_to}
+use Rattle.sn_device.specs.States.{HasOwner, HasSets, OwnerColumns}
+use Rattle.sn_device.specs.Steps.{Adopts, adopts, forgets}
+use Rattle.sn_device.specs.declared.error.ClientError.{ClientError}
+use Rattle.sn_device.specs.declared.error.ClientError.TheVariants as refusal
 use Rattle.sn_laws.specs.Lookups.{Bytes, greatest}
 use Rattle.sn_laws.specs.Runs.{end_from}
 use Rattle.sn_laws.specs.declared.ideal.Ideal.{Ideal}

@@ -1,11 +1,11 @@
 -- What the exchanges of a sync leave of a device's keys.
 use Rattle.std.proofs.Common.{◌≡◌, ◌⊎◌, ℕ, List, [], ◌∷◌, Option, Some, None, refl, sym, ap, ◌∙◌, subst, inl, inr}
 use Rattle.rand_chacha.specs.ChaCha.{ChaCha}
-use Rattle.sn_client.proofs.Facts.{RetiresOlder, after_append, apply_parts, beside, one_owner, parts_keep, posts_items, retires_older}
-use Rattle.sn_client.specs.Runs.{AreRounds, IsRound, Round, Standing}
-use Rattle.sn_client.specs.Sending.{PostsAll}
-use Rattle.sn_client.specs.States.{Bytes, HasOwner, IsInSlot, OwnerColumns}
-use Rattle.sn_client.specs.Steps.{Applies, Step, applies}
+use Rattle.sn_device.proofs.Facts.{RetiresOlder, after_append, apply_parts, beside, one_owner, parts_keep, posts_items, retires_older}
+use Rattle.sn_device.specs.Runs.{AreRounds, IsRound, Round, Standing}
+use Rattle.sn_device.specs.Sending.{PostsAll}
+use Rattle.sn_device.specs.States.{Bytes, HasOwner, IsInSlot, OwnerColumns}
+use Rattle.sn_device.specs.Steps.{Applies, Step, applies}
 use Rattle.sn_passwd.proofs.KeysKept.{slot_same}
 use Rattle.sn_passwd.proofs.Points.{HasKeys}
 use Rattle.sn_rows.specs.Facts.{put_here, removed_elsewhere}

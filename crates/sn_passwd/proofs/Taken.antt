@@ -1,9 +1,9 @@
 -- The rows that an answer has left so far are those after what it has changed so far.
 use Rattle.std.proofs.Common.{◌≡◌, ℕ, Bool, true, false, List, [], ◌∷◌, Option, Some, None, refl, sym, ap, ◌∙◌, subst, inl, inr}
 use Rattle.rand_chacha.specs.ChaCha.{ChaCha}
-use Rattle.sn_client.proofs.Facts.{after_append}
-use Rattle.sn_client.specs.Steps.{Applies, start}
-use Rattle.sn_client.specs.Taking.{MakesRow, Meets, Progress, Renames, Takes, TakesAll, TakesBody, TakesConflict, TakesOwn, TakesServer, TakesUnsaved, Told, changed, is_conflict, is_retrieved, is_saved, made, told_by, with_words}
+use Rattle.sn_device.proofs.Facts.{after_append}
+use Rattle.sn_device.specs.Steps.{Applies, start}
+use Rattle.sn_device.specs.Taking.{MakesRow, Meets, Progress, Renames, Takes, TakesAll, TakesBody, TakesConflict, TakesOwn, TakesServer, TakesUnsaved, Told, changed, is_conflict, is_retrieved, is_saved, made, told_by, with_words}
 use Rattle.sn_conflict.specs.declared.meeting.Meeting.{Meeting}
 use Rattle.sn_conflict.specs.declared.meeting.Meeting.TheVariants as meeting
 use Rattle.sn_laws.specs.Lookups.{Bytes}

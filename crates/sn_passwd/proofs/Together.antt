@@ -1,8 +1,8 @@
 -- A device and its server are brought together, and a new set is asked for: pieces of a sync and of a change of password as steps of the world.
 use Rattle.std.proofs.Common.{◌≡◌, ℕ, Option, Some, refl, sym, ap, ◌∙◌, subst, inl, inr}
 use Rattle.rand_chacha.specs.ChaCha.{ChaCha}
-use Rattle.sn_client.specs.Runs.{Exchanges, Point, Resolves, SyncsUnder, Then, change_to, rows_done}
-use Rattle.sn_client.specs.States.{HasOwner, HasSets, IsInSlot}
+use Rattle.sn_device.specs.Runs.{Exchanges, Point, Resolves, SyncsUnder, Then, change_to, rows_done}
+use Rattle.sn_device.specs.States.{HasOwner, HasSets, IsInSlot}
 use Rattle.sn_laws.specs.Lookups.{Bytes}
 use Rattle.sn_laws.specs.declared.ideal.Account.{Account}
 use Rattle.sn_laws.specs.declared.ideal.Device.{Device}

@@ -1,7 +1,7 @@
 -- Whole calls that change a password, or bring a change to its end that was asked for, as steps of the world, whatever is lost on the way.
 use Rattle.std.specs.Prelude.{ℕ, List}
 use Rattle.rand_chacha.specs.ChaCha.{ChaCha}
-use Rattle.sn_client.specs.Runs.{Act, Halt, Run, passwd, sync}
+use Rattle.sn_device.specs.Runs.{Act, Halt, Run, passwd, sync}
 use Rattle.sn_laws.specs.Lookups.{Bytes}
 use Rattle.sn_laws.specs.declared.ideal.Ideal.{Ideal}
 use Rattle.sn_rows.specs.Table.{Rows}

@@ -1,8 +1,8 @@
 -- What a sync and a change of password leave, where they are answered.
 use Rattle.std.specs.Prelude.{◌≡◌, ◌<◌, ℕ, List, [], ◌∷◌, Option, Some, None, false, length}
 use Rattle.rand_chacha.specs.ChaCha.{ChaCha}
-use Rattle.sn_client.specs.Runs.{Act, Call, Given, Run, answered, passwd, rows_done, sync}
-use Rattle.sn_client.specs.States.{HasLocal, HasSets}
+use Rattle.sn_device.specs.Runs.{Act, Call, Given, Run, answered, passwd, rows_done, sync}
+use Rattle.sn_device.specs.States.{HasLocal, HasSets}
 use Rattle.sn_finished.specs.Finished.{CarriesLast}
 use Rattle.sn_keys.specs.Keys.{AreKeysOf}
 use Rattle.sn_laws.specs.Lookups.{Bytes, account_named}

@@ -9,12 +9,12 @@ use Rattle.sn_account.specs.RuleLaws.{StaysSound}
 use Rattle.sn_account.specs.Sessions.{IsSession}
 use Rattle.sn_account.specs.Sound.{IsSound as IsSoundServer}
 use Rattle.sn_account.specs.Syncs.{above_of, is_first}
-use Rattle.sn_client.specs.Asking.{Reply, said}
-use Rattle.sn_client.specs.Runs.{Act, AreRounds, EndsExchange, Halt, IsRound, Round, Sends, Standing, acts_of, answered, asked, commits, most_exchanges, nothing, posting, refused, rows_done}
-use Rattle.sn_client.proofs.Facts.{EndsAlone, ExchangesAlone}
-use Rattle.sn_client.specs.States.{IsSound}
-use Rattle.sn_client.specs.Steps.{AppliesAnswer, AppliesTo, applies}
-use Rattle.sn_client.specs.declared.error.ClientError.TheVariants as refusal
+use Rattle.sn_device.specs.Asking.{Reply, said}
+use Rattle.sn_device.specs.Runs.{Act, AreRounds, EndsExchange, Halt, IsRound, Round, Sends, Standing, acts_of, answered, asked, commits, most_exchanges, nothing, posting, refused, rows_done}
+use Rattle.sn_device.proofs.Facts.{EndsAlone, ExchangesAlone}
+use Rattle.sn_device.specs.States.{IsSound}
+use Rattle.sn_device.specs.Steps.{AppliesAnswer, AppliesTo, applies}
+use Rattle.sn_device.specs.declared.error.ClientError.TheVariants as refusal
 use Rattle.sn_conflict.specs.Checks.{most_retrieved}
 use Rattle.sn_pull.specs.Laws.{PagesAnswer, PullAmongOthers}
 use Rattle.sn_pull.specs.Pages.{IsPageAnswer}

@@ -11,8 +11,8 @@ use Rattle.sn_account.specs.Pages.{AreGiven, Found, IsPage}
 use Rattle.sn_account.specs.Sound.{IsSound as IsSoundServer, NamesItem}
 use Rattle.sn_account.specs.Stored.{IsGiven, body_of}
 use Rattle.sn_account.specs.Syncs.{AreTokens}
-use Rattle.sn_client.specs.Runs.{HasLongToken}
-use Rattle.sn_client.specs.States.{Bytes, token_of}
+use Rattle.sn_device.specs.Runs.{HasLongToken}
+use Rattle.sn_device.specs.States.{Bytes, token_of}
 use Rattle.sn_conflict.specs.Checks.{AreStringsOf, FailsAt, HasItsStrings, IsConflict, IsRetrieved, IsSaved, IsStringOf, MayGoOn, RetrievedRight, most_retrieved}
 use Rattle.sn_conflict.specs.Lists.{AllRight}
 use Rattle.sn_conflict.specs.declared.error.CheckError.{CheckError}

@@ -10,14 +10,14 @@ use Rattle.sn_account.specs.Laws.{HasOneAccount}
 use Rattle.sn_account.specs.Pages.{Found}
 use Rattle.sn_account.specs.Sound.{IsSound as IsSoundServer}
 use Rattle.sn_account.specs.Syncs.{above_of, is_first}
-use Rattle.sn_client.specs.Asking.{Fails, Reply, lost, said}
-use Rattle.sn_client.specs.Runs.{Act, AreRounds, EndsBehind, EndsExchange, Halt, IsAllDone, IsCheckPlace, IsDone, IsRound, IsUnapplied, Round, Run, Standing, StopsAt, acts_of, answered, asked, broken, commits, items_of, most_exchanges, nothing, posting, refused, rows_done, sync}
-use Rattle.sn_client.proofs.Facts.{EndsAlone, ExchangesAlone, synced_alone}
-use Rattle.sn_client.specs.States.{Bytes, HasLocal, HasOwner, HasSets, IsInSlot, IsSound, owner_columns, token_of}
-use Rattle.sn_client.specs.Steps.{AppliesAnswer, AppliesTo, What, applies, start}
-use Rattle.sn_client.specs.Taking.{Progress, RunsOut, RunsOutAt, Told, is_retrieved, last_number}
-use Rattle.sn_client.specs.declared.error.ClientError.{ClientError}
-use Rattle.sn_client.specs.declared.error.ClientError.TheVariants as refusal
+use Rattle.sn_device.specs.Asking.{Fails, Reply, lost, said}
+use Rattle.sn_device.specs.Runs.{Act, AreRounds, EndsBehind, EndsExchange, Halt, IsAllDone, IsCheckPlace, IsDone, IsRound, IsUnapplied, Round, Run, Standing, StopsAt, acts_of, answered, asked, broken, commits, items_of, most_exchanges, nothing, posting, refused, rows_done, sync}
+use Rattle.sn_device.proofs.Facts.{EndsAlone, ExchangesAlone, synced_alone}
+use Rattle.sn_device.specs.States.{Bytes, HasLocal, HasOwner, HasSets, IsInSlot, IsSound, owner_columns, token_of}
+use Rattle.sn_device.specs.Steps.{AppliesAnswer, AppliesTo, What, applies, start}
+use Rattle.sn_device.specs.Taking.{Progress, RunsOut, RunsOutAt, Told, is_retrieved, last_number}
+use Rattle.sn_device.specs.declared.error.ClientError.{ClientError}
+use Rattle.sn_device.specs.declared.error.ClientError.TheVariants as refusal
 use Rattle.sn_conflict.specs.Checks.{most_retrieved}
 use Rattle.sn_conflict.specs.declared.error.CheckError.{CheckError}
 use Rattle.sn_conflict.specs.declared.error.CheckError.TheVariants as wrong

@@ -5,12 +5,12 @@ use Rattle.std.proofs.lemmas.List.{append-nil}
 use Rattle.std.proofs.lemmas.List.Concat.{flat_map-cons}
 use Rattle.rand_chacha.specs.ChaCha.{ChaCha}
 use Rattle.sn_account.specs.Laws.{HasOneAccount}
-use Rattle.sn_client.specs.Asking.{Reply, said}
-use Rattle.sn_client.specs.Runs.{Act, AreRounds, EndsBehind, EndsExchange, Halt, Round, Standing, acts_of, asked, broken, commits, posting, refused, rows_done}
-use Rattle.sn_client.proofs.Facts.{EndsAlone, ExchangesAlone}
-use Rattle.sn_client.specs.States.{IsSound, token_of}
-use Rattle.sn_client.specs.Steps.{AppliesAnswer, AppliesTo, What, applies}
-use Rattle.sn_client.specs.declared.error.ClientError.TheVariants as refusal
+use Rattle.sn_device.specs.Asking.{Reply, said}
+use Rattle.sn_device.specs.Runs.{Act, AreRounds, EndsBehind, EndsExchange, Halt, Round, Standing, acts_of, asked, broken, commits, posting, refused, rows_done}
+use Rattle.sn_device.proofs.Facts.{EndsAlone, ExchangesAlone}
+use Rattle.sn_device.specs.States.{IsSound, token_of}
+use Rattle.sn_device.specs.Steps.{AppliesAnswer, AppliesTo, What, applies}
+use Rattle.sn_device.specs.declared.error.ClientError.TheVariants as refusal
 use Rattle.sn_conflict.specs.Checks.{most_retrieved}
 use Rattle.sn_pull.specs.Laws.{MayPullAgain, PullGoesOn}
 use Rattle.sn_pull.specs.Pulls.{MayPull}

@@ -2,9 +2,9 @@
 use Rattle.std.proofs.Common.{◌≡◌, ◌≢◌, ℕ, List, [], ◌∷◌, length, Option, Some, None, refl, sym, ap, ◌∙◌, subst, inl, inr}
 use Rattle.std.specs.Prelude.{IsSome}
 use Rattle.sn_account.specs.Sessions.{IsSession}
-use Rattle.sn_client.specs.Sending.{NoneWaits}
-use Rattle.sn_client.specs.States.{Bytes, HasLocal, HasSets, IsFresh, IsInSlot, IsSetOf, OwnerColumns, owner_columns}
-use Rattle.sn_client.specs.Steps.{BeginsDevice, first_owner}
+use Rattle.sn_device.specs.Sending.{NoneWaits}
+use Rattle.sn_device.specs.States.{Bytes, HasLocal, HasSets, IsFresh, IsInSlot, IsSetOf, OwnerColumns, owner_columns}
+use Rattle.sn_device.specs.Steps.{BeginsDevice, first_owner}
 use Rattle.sn_pull.specs.Laws.{BegunMayPull, MayPullAgain}
 use Rattle.sn_pull.specs.Pulls.{IsTokenGiven, MayPull}
 use Rattle.sn_pull.proofs.CheckLemmas.{no_token}

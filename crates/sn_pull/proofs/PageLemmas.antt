@@ -9,7 +9,7 @@ use Rattle.sn_account.specs.Laws.{HasOneAccount}
 use Rattle.sn_account.specs.Lookups.{HasItem}
 use Rattle.sn_account.specs.Pages.{Found, IsGreatest, IsPage}
 use Rattle.sn_account.specs.Syncs.{AreChanges, AreTokens, IsStampOf, Synced, above_of, is_first, start}
-use Rattle.sn_client.specs.States.{Bytes}
+use Rattle.sn_device.specs.States.{Bytes}
 use Rattle.sn_pull.specs.Laws.{PagesAnswer}
 use Rattle.sn_pull.specs.Pages.{IsPageAnswer}
 use Rattle.sn_pull.specs.Pulls.{Has}

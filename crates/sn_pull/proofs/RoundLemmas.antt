@@ -10,12 +10,12 @@ use Rattle.sn_account.specs.Rule.{Rule}
 use Rattle.sn_account.specs.Sessions.{IsSession}
 use Rattle.sn_account.specs.Sound.{IsSound as IsSoundServer}
 use Rattle.sn_account.specs.Syncs.{AreTokens, IsStampOf, above_of, is_first}
-use Rattle.sn_client.specs.Asking.{Reply, lost, said, unheard}
-use Rattle.sn_client.specs.Runs.{IsBatch, Sends}
-use Rattle.sn_client.specs.Sending.{AreChosen, AreSentAs, AreUnsent, NoneWaits, Numbered, PostsAll}
-use Rattle.sn_client.specs.States.{Bytes, HasLocal, HasOwner, IsInSlot, OwnerColumns, owner_columns, text_of_token, token_of}
-use Rattle.sn_client.specs.Steps.{Applies, PutsOwner, Retires, start, with_tokens}
-use Rattle.sn_client.specs.Taking.{Progress, TakesAll, is_retrieved}
+use Rattle.sn_device.specs.Asking.{Reply, lost, said, unheard}
+use Rattle.sn_device.specs.Runs.{IsBatch, Sends}
+use Rattle.sn_device.specs.Sending.{AreChosen, AreSentAs, AreUnsent, NoneWaits, Numbered, PostsAll}
+use Rattle.sn_device.specs.States.{Bytes, HasLocal, HasOwner, IsInSlot, OwnerColumns, owner_columns, text_of_token, token_of}
+use Rattle.sn_device.specs.Steps.{Applies, PutsOwner, Retires, start, with_tokens}
+use Rattle.sn_device.specs.Taking.{Progress, TakesAll, is_retrieved}
 use Rattle.sn_conflict.specs.Checks.{most_retrieved}
 use Rattle.sn_pull.specs.Laws.{PagesAnswer}
 use Rattle.sn_pull.specs.Pages.{IsPageAnswer}

@@ -2,8 +2,8 @@
 use Rattle.std.proofs.Common.{◌≡◌, ◌⊎◌, ℕ, true, false, List, [], ◌∷◌, ◌++◌, None, sym, ap, ◌∙◌, inl, inr}
 use Rattle.std.proofs.lemmas.Bool.{cases_Bool}
 use mathlib.Core.Path.{fun_ext}
-use Rattle.sn_client.specs.Sending.{PutsColumns}
-use Rattle.sn_client.specs.States.{Columns, HasLocal, HasOwner, columns}
+use Rattle.sn_device.specs.Sending.{PutsColumns}
+use Rattle.sn_device.specs.States.{Columns, HasLocal, HasOwner, columns}
 use Rattle.sn_rows.specs.Facts.{keys_compare, put_here, put_or_not, removed_elsewhere, removed_here, row_after-append}
 use Rattle.sn_rows.specs.Table.{Removes, Rows, rows_after, same_key}
 use Rattle.sn_rows.specs.declared.change.Change.{Change}

@@ -4,9 +4,9 @@ use Rattle.std.specs.Int.{to_be_bytes, w32}
 use Rattle.std.proofs.lemmas.Bool.{and_parts}
 use Rattle.std.proofs.lemmas.List.Concat.{flat_map-cons}
 use Rattle.std.proofs.lemmas.List.Elements.{All-head, All-tail}
-use Rattle.sn_client.specs.Sending.{PutsColumns}
-use Rattle.sn_client.specs.States.{Bytes, Columns, OwnerColumns}
-use Rattle.sn_client.specs.Steps.{PutsOwner}
+use Rattle.sn_device.specs.Sending.{PutsColumns}
+use Rattle.sn_device.specs.States.{Bytes, Columns, OwnerColumns}
+use Rattle.sn_device.specs.Steps.{PutsOwner}
 use Rattle.sn_pull.proofs.VersionLemmas.{lengths}
 use Rattle.sn_rows.specs.Cells.{base_bytes, body_bytes, cells_bytes, counted}
 use Rattle.sn_rows.specs.Columns.{body_of, key_cells, value_cells}

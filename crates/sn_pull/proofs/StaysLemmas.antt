@@ -6,7 +6,7 @@ use Rattle.sn_account.specs.Rule.{Rule, RuleOf}
 use Rattle.sn_account.specs.Rules.{BeginsAccount, ChangesKeys, ChangesPassword, Registers, Replaces}
 use Rattle.sn_account.specs.Sound.{IsSound as IsSoundServer}
 use Rattle.sn_account.specs.Syncs.{AreChanges, Synced, Syncs, start}
-use Rattle.sn_client.specs.States.{Bytes}
+use Rattle.sn_device.specs.States.{Bytes}
 use Rattle.sn_pull.specs.Laws.{PullStays}
 use Rattle.sn_pull.specs.Pulls.{BeginsAbove, BeginsFirst, IsOfAccount, IsTokenGiven}
 use Rattle.sn_pull.proofs.RowLemmas.{after_append}

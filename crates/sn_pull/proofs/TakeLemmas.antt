@@ -6,9 +6,9 @@ use Rattle.std.proofs.lemmas.List.Elements.{All-append, All-cons, All-nil}
 use Rattle.rand_chacha.specs.ChaCha.{ChaCha}
 use Rattle.sn_account.specs.Pages.{Found}
 use Rattle.sn_account.specs.Stored.{IsGiven}
-use Rattle.sn_client.specs.Sending.{PutsColumns}
-use Rattle.sn_client.specs.States.{Bytes, Columns, HasItem, HasLocal, IsFree, columns}
-use Rattle.sn_client.specs.Taking.{MakesRow, Meets, Progress, StandsOn, Takes, TakesAll, TakesBody, TakesServer, Told, changed, is_retrieved, made, with_words}
+use Rattle.sn_device.specs.Sending.{PutsColumns}
+use Rattle.sn_device.specs.States.{Bytes, Columns, HasItem, HasLocal, IsFree, columns}
+use Rattle.sn_device.specs.Taking.{MakesRow, Meets, Progress, StandsOn, Takes, TakesAll, TakesBody, TakesServer, Told, changed, is_retrieved, made, with_words}
 use Rattle.sn_conflict.specs.Meetings.{IsKnown, MeetsAs}
 use Rattle.sn_conflict.specs.declared.meeting.Meeting.{Meeting}
 use Rattle.sn_conflict.specs.declared.meeting.Meeting.TheVariants as meeting

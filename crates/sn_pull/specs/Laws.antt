@@ -5,9 +5,9 @@ use Rattle.sn_account.specs.Rule.{Rule}
 use Rattle.sn_account.specs.Sessions.{IsSession}
 use Rattle.sn_account.specs.Sound.{IsSound as IsSoundServer}
 use Rattle.sn_account.specs.Syncs.{IsStampOf, above_of, is_first}
-use Rattle.sn_client.specs.Runs.{Act, Halt, Run, broken, rows_done, sync}
-use Rattle.sn_client.specs.States.{Bytes, IsSound}
-use Rattle.sn_client.specs.Steps.{Step, What, begins}
+use Rattle.sn_device.specs.Runs.{Act, Halt, Run, broken, rows_done, sync}
+use Rattle.sn_device.specs.States.{Bytes, IsSound}
+use Rattle.sn_device.specs.Steps.{Step, What, begins}
 use Rattle.sn_pull.specs.Pages.{IsPageAnswer}
 use Rattle.sn_pull.specs.Pulls.{EndsPull, IsTokenGiven, MayPull}
 use Rattle.sn_pull.specs.Serving.{AreServed, AreServedAmong}

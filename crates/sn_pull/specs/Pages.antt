@@ -6,7 +6,7 @@ use Rattle.sn_rows.specs.Table.{Rows}
 use Rattle.sn_sync.specs.declared.answer.Answer.{Answer}
 use Rattle.sn_sync.specs.declared.answer.Answer.TheVariants as answer
 use Rattle.sn_sync.specs.declared.item.Item.{Item}
-use Rattle.sn_client.specs.States.{Bytes}
+use Rattle.sn_device.specs.States.{Bytes}
 
 -- the page of account n above a stamp: nothing is saved, nothing conflicts, and the page is retrieved, with the tokens that go with it
 pub record IsPageAnswer (server : Rows) (n above : ℕ) (first : Bool) (limit : ℕ) (given : Answer) : Type 0 where

@@ -4,12 +4,12 @@ use Rattle.rand_chacha.specs.ChaCha.{ChaCha}
 use Rattle.sn_account.specs.Lookups.{HasItem as HasStored, HasStore}
 use Rattle.sn_account.specs.Pages.{IsGreatest}
 use Rattle.sn_account.specs.Sessions.{IsSession}
-use Rattle.sn_client.specs.Runs.{Act, Halt, answered, broken, most_exchanges, nothing, refused, rows_done}
-use Rattle.sn_client.specs.Sending.{NoneWaits}
-use Rattle.sn_client.specs.States.{Bytes, HasItem, HasLocal, HasSets, IsFree, owner_columns}
-use Rattle.sn_client.specs.Steps.{What, with_tokens}
-use Rattle.sn_client.specs.Taking.{last_number}
-use Rattle.sn_client.specs.declared.error.ClientError.TheVariants as refusal
+use Rattle.sn_device.specs.Runs.{Act, Halt, answered, broken, most_exchanges, nothing, refused, rows_done}
+use Rattle.sn_device.specs.Sending.{NoneWaits}
+use Rattle.sn_device.specs.States.{Bytes, HasItem, HasLocal, HasSets, IsFree, owner_columns}
+use Rattle.sn_device.specs.Steps.{What, with_tokens}
+use Rattle.sn_device.specs.Taking.{last_number}
+use Rattle.sn_device.specs.declared.error.ClientError.TheVariants as refusal
 use Rattle.sn_pull.specs.Serving.{EndsLost, requests_in}
 use Rattle.sn_rows.specs.Table.{Rows}
 use Rattle.sn_rows.specs.declared.body.RowBody.TheVariants as body

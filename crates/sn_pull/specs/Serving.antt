@@ -2,9 +2,9 @@
 use Rattle.std.specs.Prelude.{◌≡◌, ◌⊎◌, ◌+◌, ℕ, List, [], ◌∷◌, ◌++◌}
 use Rattle.sn_account.specs.Rule.{Rule}
 use Rattle.sn_account.specs.Sessions.{IsSession}
-use Rattle.sn_client.specs.Asking.{Reply, lost, said, unheard}
-use Rattle.sn_client.specs.Runs.{Act, asked, commits}
-use Rattle.sn_client.specs.States.{Bytes}
+use Rattle.sn_device.specs.Asking.{Reply, lost, said, unheard}
+use Rattle.sn_device.specs.Runs.{Act, asked, commits}
+use Rattle.sn_device.specs.States.{Bytes}
 use Rattle.sn_rows.specs.Table.{Rows, rows_after}
 use Rattle.sn_rows.specs.declared.change.Change.{Change}
 use Rattle.sn_sync.specs.Fits.{FitsRequest}

@@ -1,6 +1,6 @@
 -- Where all requests have fates, all are readable.
 use Rattle.std.proofs.Common.{[], ◌∷◌}
-use Rattle.sn_client.specs.Runs.{asked, commits}
+use Rattle.sn_device.specs.Runs.{asked, commits}
 use Rattle.sn_world.specs.Calls.{rows_behind}
 use Rattle.sn_readable.specs.Laws.{ReadableIfAnswered}
 

@@ -2,9 +2,9 @@
 use Rattle.std.proofs.Common.{ℕ, List, sym, subst, inl, inr}
 use Rattle.std.specs.Str.{IsUtf8}
 use Rattle.rand_chacha.specs.ChaCha.{ChaCha}
-use Rattle.sn_client.specs.Runs.{Act, AsksAccount, AsksFirst, AsksParams, Call, ChangesPassword, CommitsOnce, DeletesItem, Given, GivesText, Halt, KeepsAccount, ListsItems, PutsItem, Run, RunsRegister, RunsSignIn, SignsInAgain, SignsInBy, SignsInUnder, SignsInWith, SyncsItems, WithAccount, WithContent, WithItem, a_uuid, content, delete, edit, list, nothing, passwd, put, register, sign_in, sync}
-use Rattle.sn_client.specs.States.{Bytes, HasSets}
-use Rattle.sn_client.specs.Steps.{What, adopts, begins, deletes, edits, puts, renews}
+use Rattle.sn_device.specs.Runs.{Act, AsksAccount, AsksFirst, AsksParams, Call, ChangesPassword, CommitsOnce, DeletesItem, Given, GivesText, Halt, KeepsAccount, ListsItems, PutsItem, Run, RunsRegister, RunsSignIn, SignsInAgain, SignsInBy, SignsInUnder, SignsInWith, SyncsItems, WithAccount, WithContent, WithItem, a_uuid, content, delete, edit, list, nothing, passwd, put, register, sign_in, sync}
+use Rattle.sn_device.specs.States.{Bytes, HasSets}
+use Rattle.sn_device.specs.Steps.{What, adopts, begins, deletes, edits, puts, renews}
 use Rattle.sn_link.specs.Laws.{IsReadable, ReadableWithin}
 use Rattle.sn_rows.specs.Table.{Rows}
 use Rattle.sn_rows.specs.declared.device_rows.OwnerRow.{OwnerRow}

@@ -1,10 +1,10 @@
 -- Each request of a sync, of a device that asks for a set too, and of a change of password is readable.
 use Rattle.std.proofs.Common.{◌≡◌, ℕ, List, Some, subst, inl, inr}
 use Rattle.rand_chacha.specs.ChaCha.{ChaCha}
-use Rattle.sn_client.specs.Runs.{Act, AnswersChange, AsksFor, AsksForNew, AsksHost, ChangesPassword, ChangesTo, CommitsStep, Exchanges, Halt, Resolves, SyncsItems, SyncsUnder, Then, begun, change_to}
-use Rattle.sn_client.specs.States.{Bytes, HasSets, IsInSlot}
-use Rattle.sn_client.specs.Steps.{asks}
-use Rattle.sn_client.specs.declared.error.ClientError.TheVariants as refusal
+use Rattle.sn_device.specs.Runs.{Act, AnswersChange, AsksFor, AsksForNew, AsksHost, ChangesPassword, ChangesTo, CommitsStep, Exchanges, Halt, Resolves, SyncsItems, SyncsUnder, Then, begun, change_to}
+use Rattle.sn_device.specs.States.{Bytes, HasSets, IsInSlot}
+use Rattle.sn_device.specs.Steps.{asks}
+use Rattle.sn_device.specs.declared.error.ClientError.TheVariants as refusal
 use Rattle.sn_link.specs.Laws.{ReadableWithin}
 use Rattle.sn_rows.specs.Table.{Rows}
 use Rattle.sn_rows.specs.declared.device_rows.OwnerRow.{OwnerRow}

@@ -1,6 +1,6 @@
 -- The requests that were ever made are readable, behind each line of the world.
 use Rattle.std.proofs.Common.{◌≡◌, List, [], ◌∷◌, Bool, Option, sym, subst, inl, inr}
-use Rattle.sn_client.specs.Runs.{Act, Halt, answered, asked, broken, commits as committed, refused}
+use Rattle.sn_device.specs.Runs.{Act, Halt, answered, asked, broken, commits as committed, refused}
 use Rattle.sn_laws.specs.Each.{Each, One}
 use Rattle.sn_link.specs.Laws.{AreReadable, IsReadable}
 use Rattle.sn_string.specs.declared.params.KeySet.{KeySet}

@@ -1,10 +1,10 @@
 -- A device's rows of which what it sends is readable: what commits of a sync and of a change of password leave of them.
 use Rattle.std.proofs.Common.{◌≡◌, ℕ, List, [], ◌∷◌, ◌≤◌, length, Option, sym, ap, ◌∙◌, subst, inl, inr}
 use Rattle.rand_chacha.specs.ChaCha.{ChaCha}
-use Rattle.sn_client.proofs.Facts.{RetiresOlder, adopted, after_append, beside, one_owner, past_asked, posts_items, retires_older}
-use Rattle.sn_client.specs.Sending.{PostsAll}
-use Rattle.sn_client.specs.States.{Bytes, HasOwner, OwnerColumns, text_of_token, token_of}
-use Rattle.sn_client.specs.Steps.{Adopts, AppliesAnswer, AppliesTo, Asks, Forgets, Step, What, adopts, applies, asks, forgets, posts}
+use Rattle.sn_device.proofs.Facts.{RetiresOlder, adopted, after_append, beside, one_owner, past_asked, posts_items, retires_older}
+use Rattle.sn_device.specs.Sending.{PostsAll}
+use Rattle.sn_device.specs.States.{Bytes, HasOwner, OwnerColumns, text_of_token, token_of}
+use Rattle.sn_device.specs.Steps.{Adopts, AppliesAnswer, AppliesTo, Asks, Forgets, Step, What, adopts, applies, asks, forgets, posts}
 use Rattle.sn_rows.specs.Facts.{put_here, removed_elsewhere}
 use Rattle.sn_rows.specs.Table.{Puts, Rows, rows_after}
 use Rattle.sn_rows.specs.declared.change.Change.{Change}

@@ -1,6 +1,6 @@
 -- The requests of registration, sign-in and a change of password are readable.
 use Rattle.std.proofs.Common.{ℕ, refl, inl, inr, arith}
-use Rattle.sn_client.specs.States.{Bytes}
+use Rattle.sn_device.specs.States.{Bytes}
 use Rattle.sn_link.specs.Laws.{IsReadable, ReadableWithin}
 use Rattle.sn_string.specs.declared.params.Params.{Params}
 use Rattle.sn_sync.specs.Fits.{AreBytes, FitsRequest}

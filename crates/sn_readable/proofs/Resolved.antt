@@ -1,11 +1,11 @@
 -- What became of a change of password is found out: each request for that is readable, and the rows are ready again behind its commit.
 use Rattle.std.proofs.Common.{ℕ, inl, inr}
 use Rattle.std.specs.Prelude.{codes}
-use Rattle.sn_client.specs.Runs.{AdoptsOrDrops, AdoptsOrKeeps, CommitsStep, Drops, DropsOrKeeps, EndsBy, Finds, FindsParams, Resolves, change_to}
-use Rattle.sn_client.specs.States.{Bytes}
-use Rattle.sn_client.specs.Steps.{adopts, forgets}
-use Rattle.sn_client.specs.declared.error.ClientError.{ClientError}
-use Rattle.sn_client.specs.declared.error.ClientError.TheVariants as refusal
+use Rattle.sn_device.specs.Runs.{AdoptsOrDrops, AdoptsOrKeeps, CommitsStep, Drops, DropsOrKeeps, EndsBy, Finds, FindsParams, Resolves, change_to}
+use Rattle.sn_device.specs.States.{Bytes}
+use Rattle.sn_device.specs.Steps.{adopts, forgets}
+use Rattle.sn_device.specs.declared.error.ClientError.{ClientError}
+use Rattle.sn_device.specs.declared.error.ClientError.TheVariants as refusal
 use Rattle.sn_link.specs.Laws.{IsReadable, ReadableWithin}
 use Rattle.sn_rows.specs.declared.device_rows.OwnerRow.{OwnerRow}
 use Rattle.sn_string.specs.declared.params.KeySet.{KeySet}

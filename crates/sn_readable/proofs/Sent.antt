@@ -7,9 +7,9 @@ use Rattle.std.proofs.lemmas.List.Elements.{All-cons, All-contains_itself, All-h
 use Rattle.std.proofs.lemmas.List.Sums.{AllPass-from_list_all, sum_by-cons}
 use Rattle.sn_account.proofs.Facts.{IsSlim, item_size, length-stamp, lengths, sealed_are_unescaped}
 use Rattle.sn_account.specs.AnswerSize.{AreUnescaped, NamesShortly, strings_size}
-use Rattle.sn_client.specs.Runs.{Sends}
-use Rattle.sn_client.specs.Sending.{AreSentAs, FitsSending, IsSentAs, Numbered, SaysBase, first_some, message_body, sent_of, weight_of}
-use Rattle.sn_client.specs.States.{Bytes, HasLocal, IsSound, IsSoundItem, NamesVersion, columns, token_of}
+use Rattle.sn_device.specs.Runs.{Sends}
+use Rattle.sn_device.specs.Sending.{AreSentAs, FitsSending, IsSentAs, Numbered, SaysBase, first_some, message_body, sent_of, weight_of}
+use Rattle.sn_device.specs.States.{Bytes, HasLocal, IsSound, IsSoundItem, NamesVersion, columns, token_of}
 use Rattle.sn_conflict.specs.Checks.{most_retrieved}
 use Rattle.sn_link.specs.Laws.{IsReadable, ReadableWithin}
 use Rattle.sn_rows.specs.Bounds.{is_text_of, is_visible}

@@ -3,10 +3,10 @@ use Rattle.std.proofs.Common.{ℕ, List, [], ◌∷◌, ◌++◌, None, refl, sy
 use Rattle.std.specs.List.{flat_map}
 use Rattle.std.proofs.lemmas.List.Concat.{flat_map-cons}
 use Rattle.rand_chacha.specs.ChaCha.{ChaCha}
-use Rattle.sn_client.specs.Asking.{said}
-use Rattle.sn_client.specs.Runs.{Act, AreRounds, EndsExchange, EndsSync, Exchanges, Halt, IsRound, Round, Sends, Standing, Turn, acts_of, asked, commits, posting}
-use Rattle.sn_client.specs.States.{Bytes}
-use Rattle.sn_client.specs.Steps.{applies}
+use Rattle.sn_device.specs.Asking.{said}
+use Rattle.sn_device.specs.Runs.{Act, AreRounds, EndsExchange, EndsSync, Exchanges, Halt, IsRound, Round, Sends, Standing, Turn, acts_of, asked, commits, posting}
+use Rattle.sn_device.specs.States.{Bytes}
+use Rattle.sn_device.specs.Steps.{applies}
 use Rattle.sn_link.specs.Laws.{IsAnswered, IsReadable, ReadableWithin}
 use Rattle.sn_rows.specs.Table.{Rows}
 use Rattle.sn_rows.specs.declared.change.Change.{Change}

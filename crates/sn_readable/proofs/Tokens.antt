@@ -3,8 +3,8 @@ use Rattle.std.proofs.Common.{◌≡◌, ◌⊎◌, ℕ, ◌≤◌, Bool, true, 
 use Rattle.sn_account.specs.Pages.{Found}
 use Rattle.sn_account.specs.Rule.{Rule}
 use Rattle.sn_account.specs.Syncs.{AreTokens, Serves, ServesBounded, ServesFrom, Syncs}
-use Rattle.sn_client.specs.Asking.{said}
-use Rattle.sn_client.specs.States.{HasOwner, text_of_token, token_of}
+use Rattle.sn_device.specs.Asking.{said}
+use Rattle.sn_device.specs.States.{HasOwner, text_of_token, token_of}
 use Rattle.sn_link.specs.Laws.{IsAnswered}
 use Rattle.sn_rows.specs.Table.{Rows}
 use Rattle.sn_rows.specs.declared.change.Change.{Change}

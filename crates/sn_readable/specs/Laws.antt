@@ -2,7 +2,7 @@
 use Rattle.std.specs.Prelude.{◌≤◌, ℕ, List, [], ◌∷◌, length, ⊤}
 use Rattle.httparse.specs.Grammar.{AllPass}
 use Rattle.rand_chacha.specs.ChaCha.{ChaCha}
-use Rattle.sn_client.specs.Runs.{Act, Call, Halt, Run, asked, commits}
+use Rattle.sn_device.specs.Runs.{Act, Call, Halt, Run, asked, commits}
 use Rattle.sn_http.specs.Options.{is_visible}
 use Rattle.sn_laws.specs.Each.{Each}
 use Rattle.sn_laws.specs.declared.ideal.Ideal.{Ideal}

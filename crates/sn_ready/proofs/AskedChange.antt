@@ -6,12 +6,12 @@ use Rattle.sn_account.specs.Lookups.{HasAccount as HasAccountRow}
 use Rattle.sn_account.specs.Rule.{Rule}
 use Rattle.sn_account.specs.Rules.{ChangesKeys, ChangesPassword, IsPresent}
 use Rattle.sn_account.specs.Sessions.{IsSession}
-use Rattle.sn_client.specs.Asking.{Reply, said}
-use Rattle.sn_client.specs.Runs.{Act, AnswersChange, AsksFor, AsksHost, CommitsStep, Drops, Halt, Hears, IsBatch, IsNewSet, Point, RefusesChange, Refuses, Standing, Then, Turn, asked, change_to, commits as committed, goes_on, is_over, most_exchanges, refused}
-use Rattle.sn_client.specs.States.{HasSets}
-use Rattle.sn_client.specs.Steps.{Step, What, adopts, asks, forgets}
-use Rattle.sn_client.specs.declared.error.ClientError.{ClientError}
-use Rattle.sn_client.specs.declared.error.ClientError.TheVariants as refusal
+use Rattle.sn_device.specs.Asking.{Reply, said}
+use Rattle.sn_device.specs.Runs.{Act, AnswersChange, AsksFor, AsksHost, CommitsStep, Drops, Halt, Hears, IsBatch, IsNewSet, Point, RefusesChange, Refuses, Standing, Then, Turn, asked, change_to, commits as committed, goes_on, is_over, most_exchanges, refused}
+use Rattle.sn_device.specs.States.{HasSets}
+use Rattle.sn_device.specs.Steps.{Step, What, adopts, asks, forgets}
+use Rattle.sn_device.specs.declared.error.ClientError.{ClientError}
+use Rattle.sn_device.specs.declared.error.ClientError.TheVariants as refusal
 use Rattle.sn_laws.specs.Each.{Each}
 use Rattle.sn_laws.specs.Lookups.{Bytes}
 use Rattle.sn_laws.specs.declared.ideal.Ideal.{Ideal}

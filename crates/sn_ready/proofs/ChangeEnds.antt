@@ -3,11 +3,11 @@ use Rattle.std.proofs.Common.{◌≡◌, ◌⊎◌, ◌+◌, ◌<◌, ℕ, suc, 
 use Rattle.std.specs.List.{flat_map}
 use Rattle.std.proofs.lemmas.List.{append-nil}
 use Rattle.rand_chacha.specs.ChaCha.{ChaCha}
-use Rattle.sn_client.specs.Runs.{Act, AsksFor, EndsSync, Exchanges, Halt, IsDone, Point, RefusesChange, Refuses, Standing, Then, Turn, acts_of, answered, commits as committed, goes_on, is_over, most_exchanges, nothing}
-use Rattle.sn_client.specs.States.{HasOwner, HasSets}
-use Rattle.sn_client.specs.Steps.{adopts}
-use Rattle.sn_client.specs.declared.error.ClientError.{ClientError}
-use Rattle.sn_client.specs.declared.error.ClientError.TheVariants as refusal
+use Rattle.sn_device.specs.Runs.{Act, AsksFor, EndsSync, Exchanges, Halt, IsDone, Point, RefusesChange, Refuses, Standing, Then, Turn, acts_of, answered, commits as committed, goes_on, is_over, most_exchanges, nothing}
+use Rattle.sn_device.specs.States.{HasOwner, HasSets}
+use Rattle.sn_device.specs.Steps.{adopts}
+use Rattle.sn_device.specs.declared.error.ClientError.{ClientError}
+use Rattle.sn_device.specs.declared.error.ClientError.TheVariants as refusal
 use Rattle.sn_laws.proofs.Facts.{each_back, each_front}
 use Rattle.sn_laws.specs.Each.{Each}
 use Rattle.sn_laws.specs.Laws.{VersionsRise}

@@ -1,8 +1,8 @@
 -- Neither the commit of a set that is asked for nor the one that drops it is more than a batch.
 use Rattle.std.proofs.Common.{◌≡◌, ◌+◌, ◌≤◌, ℕ, List, [], ◌∷◌, length, length-append, drop, Some, None, refl, sym, ap, ◌∙◌, subst, arith}
 use Rattle.std.specs.Int.{to_be_bytes, w32}
-use Rattle.sn_client.specs.Runs.{IsBatch}
-use Rattle.sn_client.specs.Steps.{Asks, Forgets}
+use Rattle.sn_device.specs.Runs.{IsBatch}
+use Rattle.sn_device.specs.Steps.{Asks, Forgets}
 use Rattle.sn_laws.specs.Lookups.{Bytes}
 use Rattle.sn_rows.specs.Cells.{cells_bytes, counted}
 use Rattle.sn_rows.specs.Columns.{key_cells, value_cells}
@@ -20,7 +20,7 @@ use Rattle.sn_rows.specs.declared.value.Value.TheVariants as value
 use Rattle.sn_string.specs.declared.params.KeySet.{KeySet}
 use Rattle.sn_string.specs.declared.params.Params.{Params}
 use Rattle.sn_keys.specs.Keys.{AreKeysOf, derived, third}
-use Rattle.sn_client.specs.States.{IsSetOf}
+use Rattle.sn_device.specs.States.{IsSetOf}
 use Rattle.std.proofs.lemmas.List.{length-take}
 use Rattle.sn_world.proofs.AnswerPage.{lengths}
 use Rattle.sn_world.proofs.RowSizes.{size_of, sizes_cons, sizes_of}

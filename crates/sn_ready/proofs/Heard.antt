@@ -8,9 +8,9 @@ use Rattle.sn_account.specs.Rule.{Rule}
 use Rattle.sn_account.specs.Sound.{IsSound as IsSoundServer}
 use Rattle.sn_account.specs.Syncs.{IsStampOf}
 use Rattle.sn_account.specs.Tells.{AreApart, uuids}
-use Rattle.sn_client.specs.Runs.{HasLongToken, IsBatch}
-use Rattle.sn_client.specs.States.{HasOwner, token_of}
-use Rattle.sn_client.specs.Steps.{Applies}
+use Rattle.sn_device.specs.Runs.{HasLongToken, IsBatch}
+use Rattle.sn_device.specs.States.{HasOwner, token_of}
+use Rattle.sn_device.specs.Steps.{Applies}
 use Rattle.sn_conflict.specs.Checks.{IsRetrieved, MayGoOn, Passes, most_retrieved}
 use Rattle.sn_conflict.specs.Lists.{AllRight}
 use Rattle.sn_laws.specs.Each.{Each}

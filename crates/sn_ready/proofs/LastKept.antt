@@ -3,8 +3,8 @@ use Rattle.std.proofs.Common.{◌≡◌, ℕ, List, [], ◌∷◌, ◌++◌, ref
 use Rattle.std.specs.List.{AllZip}
 use Rattle.std.specs.Prelude.{find}
 use Rattle.std.proofs.lemmas.List.{append-nil}
-use Rattle.sn_client.specs.Runs.{Round}
-use Rattle.sn_client.specs.Steps.{applies, posts}
+use Rattle.sn_device.specs.Runs.{Round}
+use Rattle.sn_device.specs.Steps.{applies, posts}
 use Rattle.sn_laws.specs.Lookups.{Bytes, is_account, is_device}
 use Rattle.sn_laws.specs.Moves.{after}
 use Rattle.sn_laws.specs.Runs.{end_from}

@@ -6,10 +6,10 @@ use Rattle.std.proofs.lemmas.Bool.{false_from_ne_true}
 use Rattle.sn_account.specs.Rules.{IsBehind, IsPresent}
 use Rattle.sn_account.specs.Sessions.{IsSession, session_token}
 use Rattle.sn_account.specs.Sound.{most_generations}
-use Rattle.sn_client.specs.Runs.{RefusesChange}
-use Rattle.sn_client.specs.Sending.{NoneWaits}
-use Rattle.sn_client.specs.States.{HasLocal, HasSets}
-use Rattle.sn_client.specs.declared.error.ClientError.{ClientError}
+use Rattle.sn_device.specs.Runs.{RefusesChange}
+use Rattle.sn_device.specs.Sending.{NoneWaits}
+use Rattle.sn_device.specs.States.{HasLocal, HasSets}
+use Rattle.sn_device.specs.declared.error.ClientError.{ClientError}
 use Rattle.sn_finished.specs.Finished.{CarriesLast}
 use Rattle.sn_items.specs.Items.{Carries}
 use Rattle.sn_laws.proofs.Facts.{one_there}

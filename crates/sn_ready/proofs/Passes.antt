@@ -4,9 +4,9 @@ use Rattle.std.specs.List.{Contains}
 use Rattle.sn_account.specs.Lookups.{HasItem}
 use Rattle.sn_account.specs.Sound.{IsSound as IsSoundServer}
 use Rattle.sn_account.specs.Tells.{IsOthers, IsSavedOf, TellsConflict}
-use Rattle.sn_client.specs.Runs.{HasLongToken}
-use Rattle.sn_client.specs.Sending.{SaysBase, first_some, message_body}
-use Rattle.sn_client.specs.States.{HasLocal}
+use Rattle.sn_device.specs.Runs.{HasLongToken}
+use Rattle.sn_device.specs.Sending.{SaysBase, first_some, message_body, IsSentAs}
+use Rattle.sn_device.specs.States.{HasLocal}
 use Rattle.sn_conflict.specs.Checks.{AreStringsOf, HasConflictOf, HasItsStrings, IsConflict, IsNew, IsRetrieved, IsSaved, MayGoOn, Passes}
 use Rattle.sn_conflict.specs.Lists.{AllRight}
 use Rattle.sn_items.specs.Items.{OpensItem}
@@ -59,7 +59,6 @@ use Rattle.sn_ready.proofs.ShortVersions.{AreShortVersions, IsShortBody, version
 use Rattle.sn_laws.specs.declared.ideal.Body.{Body as Versions}
 use Rattle.sn_shows.specs.Devices.{OpensBase}
 use Rattle.sn_shows.specs.Sets.{OpensUnder}
-use Rattle.sn_client.specs.Sending.{IsSentAs}
 use Rattle.std.specs.Prelude.{Bool}
 use Rattle.sn_world.specs.Making.{IsSentBy, IsSentOf, SendsAgain}
 use Rattle.sn_world.specs.World.{World}

@@ -1,8 +1,8 @@
 -- A change of password of a device that is ready is answered, or ends by one of the causes that are named.
 use Rattle.std.proofs.Common.{◌≡◌, ◌⊎◌, ◌+◌, ℕ, suc, List, ◌++◌, length, None, refl, sym, ap, ◌∙◌, subst, inl, inr, arith}
 use Rattle.rand_chacha.specs.ChaCha.{ChaCha}
-use Rattle.sn_client.specs.Runs.{Act, AnswersNothing, AsksFor, ChangesTo, Exchanges, Halt, Point, Then, Turn, answered, begun, goes_on, is_over, nothing}
-use Rattle.sn_client.specs.States.{HasSets}
+use Rattle.sn_device.specs.Runs.{Act, AnswersNothing, AsksFor, ChangesTo, Exchanges, Halt, Point, Then, Turn, answered, begun, goes_on, is_over, nothing, RefusesChange}
+use Rattle.sn_device.specs.States.{HasSets}
 use Rattle.sn_laws.proofs.Facts.{each_back}
 use Rattle.sn_laws.specs.Each.{Each}
 use Rattle.sn_laws.specs.Laws.{VersionsRise}
@@ -33,9 +33,8 @@ use Rattle.sn_world.specs.World.{World}
 use Rattle.sn_ready.proofs.ChangeEnds.{EndedOr, Outcome, change_so, ends_done, row_of}
 use Rattle.sn_account.specs.Rules.{IsBehind, IsPresent}
 use Rattle.sn_account.specs.Sessions.{IsSession}
-use Rattle.sn_client.specs.Runs.{RefusesChange}
-use Rattle.sn_client.specs.Sending.{NoneWaits}
-use Rattle.sn_client.specs.declared.error.ClientError.{ClientError}
+use Rattle.sn_device.specs.Sending.{NoneWaits}
+use Rattle.sn_device.specs.declared.error.ClientError.{ClientError}
 use Rattle.sn_finished.specs.Finished.{CarriesLast}
 use Rattle.sn_laws.specs.Runs.{LegalFrom}
 use Rattle.sn_laws.specs.declared.ideal.Account.{Account}

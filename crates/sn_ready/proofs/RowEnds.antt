@@ -1,9 +1,9 @@
 -- How a row of exchanges ends of a device that is ready, wherever it begins within a call.
 use Rattle.std.proofs.Common.{◌≡◌, ◌⊎◌, ◌+◌, ℕ, List, [], length, None, ap, ◌∙◌, subst, inl, inr, arith}
 use Rattle.rand_chacha.specs.ChaCha.{ChaCha}
-use Rattle.sn_client.specs.Runs.{Act, EndsSync, Exchanges, Halt, Point, Standing, broken, is_over, most_exchanges, refused}
-use Rattle.sn_client.specs.Steps.{What}
-use Rattle.sn_client.specs.declared.error.ClientError.TheVariants as refusal
+use Rattle.sn_device.specs.Runs.{Act, EndsSync, Exchanges, Halt, Point, Standing, broken, is_over, most_exchanges, refused}
+use Rattle.sn_device.specs.Steps.{What}
+use Rattle.sn_device.specs.declared.error.ClientError.TheVariants as refusal
 use Rattle.sn_laws.specs.Each.{Each}
 use Rattle.sn_laws.specs.Laws.{VersionsRise}
 use Rattle.sn_laws.specs.Lookups.{Bytes}

@@ -1,9 +1,9 @@
 -- A sync of a device that is ready is answered, or ends by one of the causes that are named.
 use Rattle.std.proofs.Common.{◌≡◌, ℕ, List, [], length, None, refl, ap, ◌∙◌, subst, inl, inr, arith}
 use Rattle.rand_chacha.specs.ChaCha.{ChaCha}
-use Rattle.sn_client.specs.Runs.{Act, Halt, Run, Standing, most_exchanges, sync}
-use Rattle.sn_client.proofs.Facts.{EndsAlone, ExchangesAlone, synced_alone}
-use Rattle.sn_client.specs.States.{HasOwner}
+use Rattle.sn_device.specs.Runs.{Act, Halt, Run, Standing, most_exchanges, sync}
+use Rattle.sn_device.proofs.Facts.{EndsAlone, ExchangesAlone, synced_alone}
+use Rattle.sn_device.specs.States.{HasOwner}
 use Rattle.sn_laws.specs.Each.{Each}
 use Rattle.sn_laws.specs.Laws.{VersionsRise}
 use Rattle.sn_laws.specs.Lookups.{Bytes, empty}

@@ -6,12 +6,12 @@ use Rattle.sn_account.specs.Lookups.{HasAccount as HasAccountRow}
 use Rattle.sn_account.specs.Rules.{IsLeastBehind, IsPresent, IsUsed}
 use Rattle.sn_account.specs.Sessions.{IsSession}
 use Rattle.sn_account.specs.Sound.{most_generations}
-use Rattle.sn_client.specs.Asking.{said}
-use Rattle.sn_client.specs.Runs.{Act, Halt, IsBadCost, IsBatch, IsDone, IsDue, IsNewSet, Refuses, RefusesChange, Run, Standing, answered, asked, broken, change_to, commits, most_exchanges, nothing, passwd, refused}
-use Rattle.sn_client.specs.States.{HasOwner, HasSets}
-use Rattle.sn_client.specs.Steps.{Forgets, Step, What, adopts, asks, forgets}
-use Rattle.sn_client.specs.declared.error.ClientError.{ClientError}
-use Rattle.sn_client.specs.declared.error.ClientError.TheVariants as refusal
+use Rattle.sn_device.specs.Asking.{said}
+use Rattle.sn_device.specs.Runs.{Act, Halt, IsBadCost, IsBatch, IsDone, IsDue, IsNewSet, Refuses, RefusesChange, Run, Standing, answered, asked, broken, change_to, commits, most_exchanges, nothing, passwd, refused}
+use Rattle.sn_device.specs.States.{HasOwner, HasSets}
+use Rattle.sn_device.specs.Steps.{Forgets, Step, What, adopts, asks, forgets}
+use Rattle.sn_device.specs.declared.error.ClientError.{ClientError}
+use Rattle.sn_device.specs.declared.error.ClientError.TheVariants as refusal
 use Rattle.sn_finished.specs.Finished.{CarriesLast}
 use Rattle.sn_laws.specs.Each.{Each}
 use Rattle.sn_laws.specs.Lookups.{Bytes}

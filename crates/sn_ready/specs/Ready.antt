@@ -2,8 +2,8 @@
 -- before.
 use Rattle.std.specs.Prelude.{◌≡◌, ℕ, List, length}
 use Rattle.rand_chacha.specs.ChaCha.{ChaCha}
-use Rattle.sn_client.specs.Runs.{Act, Halt, Run, sync}
-use Rattle.sn_client.specs.States.{HasOwner}
+use Rattle.sn_device.specs.Runs.{Act, Halt, Run, sync}
+use Rattle.sn_device.specs.States.{HasOwner}
 use Rattle.sn_laws.specs.Each.{Each}
 use Rattle.sn_laws.specs.Lookups.{Bytes, empty, greatest}
 use Rattle.sn_laws.specs.Runs.{end}

@@ -5,8 +5,8 @@ use Rattle.std.proofs.lemmas.List.{append_cancel_left}
 use Rattle.sn_account.specs.Rule.{Rule}
 use Rattle.sn_account.specs.RuleLaws.{status_of}
 use Rattle.sn_account.specs.Sound.{IsSound}
-use Rattle.sn_client.specs.Asking.{IsExchange, IsReply, IsRequestBytes, Reply, lost, said, unheard, unread}
-use Rattle.sn_client.specs.States.{Bytes}
+use Rattle.sn_device.specs.Asking.{IsExchange, IsReply, IsRequestBytes, Reply, lost, said, unheard, unread}
+use Rattle.sn_device.specs.States.{Bytes}
 use Rattle.sn_http.specs.Answers.{answer as http_answer, IsAnswer as IsHttpAnswer}
 use Rattle.sn_http.specs.Laws.{SameMessage}
 use Rattle.sn_net.specs.Exchanges.{Exchange}

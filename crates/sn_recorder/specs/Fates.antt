@@ -2,9 +2,9 @@
 use Rattle.std.specs.Prelude.{◌≡◌, ℕ, List, [], Option, Some}
 use Rattle.sn_account.specs.RuleLaws.{status_of}
 use Rattle.sn_account.specs.Sound.{IsSound}
-use Rattle.sn_client.specs.Asking.{IsExchange, IsRequestBytes, Reply, unheard}
+use Rattle.sn_device.specs.Asking.{IsExchange, IsRequestBytes, Reply, unheard}
 use Rattle.sn_http.specs.Answers.{IsAnswer as IsHttpAnswer}
-use Rattle.sn_client.specs.States.{Bytes}
+use Rattle.sn_device.specs.States.{Bytes}
 use Rattle.sn_link.specs.Deliveries.{serves}
 use Rattle.sn_link.specs.Laws.{IsAnswered, IsReadable}
 use Rattle.sn_link.specs.Links.{Befalls}

@@ -1,8 +1,8 @@
 -- What is told of a call by its batches and its exchanges.
 use Rattle.std.specs.Prelude.{◌≡◌, List, [], ◌∷◌}
-use Rattle.sn_client.specs.Asking.{IsReply, IsRequestBytes, Reply}
-use Rattle.sn_client.specs.Runs.{Act, asked, commits as committed}
-use Rattle.sn_client.specs.States.{Bytes}
+use Rattle.sn_device.specs.Asking.{IsReply, IsRequestBytes, Reply}
+use Rattle.sn_device.specs.Runs.{Act, asked, commits as committed}
+use Rattle.sn_device.specs.States.{Bytes}
 use Rattle.sn_rows.specs.declared.change.Change.{Change}
 use Rattle.sn_server.specs.Stores.{batch_of}
 use Rattle.sn_sync.specs.Requests.{route_of}

@@ -8,10 +8,10 @@ ghost use Rattle.sn_rows.specs.declared.change.Change.{Change};
 ghost use Rattle.sn_server.specs.Stores.{IsOpen, Kept};
 ghost use Rattle.sn_tail.specs.Places.{place_behind};
 
+use crate::standing::server_stands;
 use sn_disk::MemDisk;
 use sn_journal::Owner;
 use sn_link::{Held, ServingLink};
-use sn_marks::server_stands;
 use sn_net::AskError;
 use sn_server::Server;
 use sn_string::OwnedList;

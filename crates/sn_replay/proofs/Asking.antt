@@ -3,7 +3,7 @@ use Rattle.std.proofs.Common.{◌≡◌, ◌≢◌, ℕ, List, [], ◌++◌, Opt
 use Rattle.std.specs.Option.{option_map}
 use Rattle.hex.specs.Hex.{encode_lower}
 use Rattle.rand_chacha.specs.ChaCha.{ChaCha}
-use Rattle.sn_client.specs.Runs.{IsNewSet, delete, edit, passwd, put, register, sign_in, sync}
+use Rattle.sn_device.specs.Runs.{IsNewSet, delete, edit, passwd, put, register, sign_in, sync}
 use Rattle.sn_course.specs.Stages.{Stage, Reported}
 use Rattle.sn_course.specs.Fits.{CallsOf}
 use Rattle.sn_course.specs.Headline.{IsPasswordOf}

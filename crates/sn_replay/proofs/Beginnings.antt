@@ -3,7 +3,7 @@ use Rattle.std.proofs.Common.{◌≡◌, ℕ, zero, suc, List, [], ◌∷◌, Op
 use Rattle.std.specs.List.{AllZip}
 use Rattle.rand_chacha.specs.ChaCha.{ChaCha}
 use Rattle.sn_course.specs.Stages.{made_by, start}
-use Rattle.sn_client.specs.Laws.{StepsStaySound}
+use Rattle.sn_device.specs.Laws.{StepsStaySound}
 use Rattle.sn_course.specs.Headline.{IsPasswordOf, Opens}
 use Rattle.sn_disk.specs.Shelf.{Slot, unknown}
 use Rattle.sn_disk.specs.declared.memory.MemDisk.{MemDisk}

@@ -1,7 +1,7 @@
 -- What the ends ask of a call, and what they gave of it by the line's own words.
 use Rattle.std.proofs.Common.{◌≡◌, List, [], ◌∷◌, subst}
 use Rattle.rand_chacha.specs.ChaCha.{ChaCha}
-use Rattle.sn_client.specs.Runs.{Act, Call, asked, commits as committed}
+use Rattle.sn_device.specs.Runs.{Act, Call, asked, commits as committed}
 use Rattle.sn_course.specs.Stages.{Stage}
 use Rattle.sn_course.specs.Headline.{IsPasswordOf, PasswordsApart}
 use Rattle.sn_events.specs.Calling.{host}

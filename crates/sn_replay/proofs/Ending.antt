@@ -2,9 +2,9 @@
 use Rattle.std.proofs.Common.{◌≡◌, ℕ, List, [], ◌++◌, Bool, true, refl, sym, ap, ◌∙◌, subst}
 use Rattle.std.specs.Prelude.{if◌then◌else◌}
 use Rattle.rand_chacha.specs.ChaCha.{ChaCha}
-use Rattle.sn_client.specs.Runs.{Act, Call, Given, Halt, answered, broken, passwd, refused, rows_done, sync}
-use Rattle.sn_client.specs.declared.error.ClientError.{ClientError}
-use Rattle.sn_client.specs.declared.error.ClientError.TheVariants as client
+use Rattle.sn_device.specs.Runs.{Act, Call, Given, Halt, answered, broken, passwd, refused, rows_done, sync}
+use Rattle.sn_device.specs.declared.error.ClientError.{ClientError}
+use Rattle.sn_device.specs.declared.error.ClientError.TheVariants as client
 use Rattle.sn_course.specs.Fits.{EndsRefused, EndsSo, EndsWell}
 use Rattle.sn_laws.proofs.Facts.{end_from-append, text_same}
 use Rattle.sn_laws.specs.Lookups.{Bytes, empty}

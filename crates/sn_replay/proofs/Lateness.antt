@@ -5,7 +5,7 @@ use Rattle.std.specs.List.{AllZip}
 use Rattle.std.specs.Str.{bytes_eq}
 use Rattle.std.proofs.lemmas.List.{reverse-append}
 use Rattle.sn_course.specs.Stages.{Stage, Reported, made_by, nth_made, past}
-use Rattle.sn_client.specs.Laws.{StepsStaySound}
+use Rattle.sn_device.specs.Laws.{StepsStaySound}
 use Rattle.sn_course.specs.Fits.{CameAgain, Fits}
 use Rattle.sn_course.specs.Headline.{IsPasswordOf}
 use Rattle.sn_course.specs.declared.settings.Settings.{Settings}

@@ -4,8 +4,8 @@ use Rattle.std.specs.Prelude.{if◌then◌else◌, filter, reverse}
 use Rattle.std.specs.List.{AllZip, list_any}
 use Rattle.std.specs.Str.{bytes_eq}
 use Rattle.std.proofs.lemmas.List.{append-nil, reverse-append}
-use Rattle.sn_client.specs.Asking.{Reply}
-use Rattle.sn_client.specs.Runs.{Act, asked, commits as committed}
+use Rattle.sn_device.specs.Asking.{Reply}
+use Rattle.sn_device.specs.Runs.{Act, asked, commits as committed}
 use Rattle.sn_course.specs.Stages.{made_by, names_with}
 use Rattle.sn_events.specs.Calling.{host}
 use Rattle.sn_laws.proofs.Facts.{same_text, text_same}

@@ -4,8 +4,8 @@ use Rattle.std.specs.Prelude.{if◌then◌else◌}
 use Rattle.std.specs.List.{AllZip}
 use Rattle.std.specs.Str.{bytes_eq}
 use Rattle.rand_chacha.specs.ChaCha.{ChaCha}
-use Rattle.sn_client.specs.Laws.{StepsStaySound}
-use Rattle.sn_client.specs.Runs.{Act, Call, Halt, answered, broken, refused, rows_done}
+use Rattle.sn_device.specs.Laws.{StepsStaySound}
+use Rattle.sn_device.specs.Runs.{Act, Call, Halt, answered, broken, refused, rows_done}
 use Rattle.sn_course.specs.Stages.{Stage, Reported, made_by, marks_with, names_with, past}
 use Rattle.sn_course.specs.Fits.{Called, EndsSo, EndsWell, Fits, ShowsAs}
 use Rattle.sn_course.specs.Headline.{IsPasswordOf}

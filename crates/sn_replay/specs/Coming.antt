@@ -1,8 +1,8 @@
 -- What came of a call, and the event that is told of it.
 use Rattle.std.specs.Prelude.{◌≡◌, ℕ, List, [], Bool, Option, Some, true}
 use Rattle.rand_chacha.specs.ChaCha.{ChaCha}
-use Rattle.sn_client.specs.Runs.{Act, Call, Halt, refused}
-use Rattle.sn_client.specs.declared.error.ClientError.TheVariants as client
+use Rattle.sn_device.specs.Runs.{Act, Call, Halt, refused}
+use Rattle.sn_device.specs.declared.error.ClientError.TheVariants as client
 use Rattle.sn_course.specs.Fits.{EndsSo}
 use Rattle.sn_events.specs.Calling.{host}
 use Rattle.sn_events.specs.Events.{AreServedAt}

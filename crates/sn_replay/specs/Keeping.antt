@@ -1,7 +1,7 @@
 -- What is kept of the requests that devices made.
 use Rattle.std.specs.Prelude.{ℕ, zero, suc, List, [], ◌∷◌, Bool, true, false, Option, Some, None, slice_get}
 use Rattle.std.specs.BTreeMap.{get_by_text}
-use Rattle.sn_client.specs.Asking.{IsRequestBytes}
+use Rattle.sn_device.specs.Asking.{IsRequestBytes}
 use Rattle.sn_events.specs.Calling.{host}
 use Rattle.sn_link.specs.Laws.{IsReadable}
 use Rattle.sn_recorder.specs.declared.exchanged.Exchanged.{Exchanged}

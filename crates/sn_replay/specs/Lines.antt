@@ -1,7 +1,7 @@
 -- What the lines of a script are to a replay.
 use Rattle.std.specs.Prelude.{◌≡◌, ℕ, ◌≤◌, List, Bool, true, false, Some}
 use Rattle.rand_chacha.specs.ChaCha.{ChaCha}
-use Rattle.sn_client.specs.Runs.{IsNewSet}
+use Rattle.sn_device.specs.Runs.{IsNewSet}
 use Rattle.sn_course.specs.Stages.{Stage, Reported}
 use Rattle.sn_course.specs.Headline.{IsNotAllowed, MayStand}
 use Rattle.sn_course.specs.Lines.{losses_of}

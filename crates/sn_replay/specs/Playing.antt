@@ -2,7 +2,7 @@
 use Rattle.std.specs.Prelude.{◌≡◌, ◌≢◌, ℕ, ◌+◌, ◌≤◌, List, [], ◌∷◌, ◌++◌, length, Option, Some, None, true}
 use Rattle.std.specs.List.{AllZip}
 use Rattle.rand_chacha.specs.ChaCha.{ChaCha}
-use Rattle.sn_client.specs.Runs.{Act, Call, Halt}
+use Rattle.sn_device.specs.Runs.{Act, Call, Halt}
 use Rattle.sn_course.specs.Stages.{Stage, Reported, made_by, past, reporting, start}
 use Rattle.sn_course.specs.Fits.{Called, EndsSo, EndsWell, Fits, HappensAs, ShowsAs, puts_item}
 use Rattle.sn_course.specs.Headline.{Goes, IsPasswordOf, MayStand, OpensWith, Opens, PasswordsApart, Recounts, RunsApart, SecretOf, Slots, moves_in}

@@ -8,7 +8,7 @@ use crate::kept::Requests;
 use crate::mirrors::Mirrors;
 use crate::replaying::{Replaying, Seen};
 use crate::settings::{Moment, line_words};
-use sn_client::steps_stay_sound;
+use sn_device::steps_stay_sound;
 use sn_events::{Begun, Ends};
 use sn_lines::{all_fit_first, each_fits};
 use sn_report::Labels;

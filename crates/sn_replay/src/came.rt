@@ -2,7 +2,7 @@
 
 ghost use Rattle.std.specs.Prelude.{IfOk};
 ghost use Rattle.rand_chacha.specs.ChaCha.{ChaCha};
-ghost use Rattle.sn_client.specs.Runs.{Call, Given};
+ghost use Rattle.sn_device.specs.Runs.{Call, Given};
 ghost use Rattle.sn_events.specs.Events.{CallCame};
 ghost use Rattle.sn_events.specs.declared.ends.Ends.{Ends};
 ghost use Rattle.sn_events.specs.declared.setting.Setting.{Setting};

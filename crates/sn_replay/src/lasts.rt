@@ -2,13 +2,13 @@
 
 ghost use Rattle.std.specs.Prelude.{◌≡◌, IfErr, IfOk};
 ghost use Rattle.rand_chacha.specs.ChaCha.{ChaCha};
-ghost use Rattle.sn_client.specs.Runs.{Given, Halt};
-ghost use Rattle.sn_client.specs.declared.error.ClientError.TheVariants as client;
+ghost use Rattle.sn_device.specs.Runs.{Given, Halt};
+ghost use Rattle.sn_device.specs.declared.error.ClientError.TheVariants as client;
 ghost use Rattle.sn_course.specs.Fits.{EndsRefused, EndsSo};
 ghost use Rattle.sn_events.specs.Answers.{IsHalt};
 ghost use Rattle.sn_telling.specs.Laws.{IsWhole};
 
-use sn_client::ClientError;
+use sn_device::ClientError;
 use sn_report::Last;
 use sn_status::ClientRefusal;
 use std::alloc::AllocError;

@@ -19,7 +19,7 @@ use crate::labelled::add_labels;
 use crate::mirrors::Mirrors;
 use crate::replaying::{LineTold, Replaying, Seen};
 use crate::settings::Moment;
-use sn_client::steps_stay_sound;
+use sn_device::steps_stay_sound;
 use sn_events::Again;
 use sn_laws::Move;
 use sn_lines::each_fits;

@@ -2,7 +2,7 @@
 
 ghost use Rattle.std.specs.Prelude.{◌≡◌, ℕ, List, IfOk};
 ghost use Rattle.rand_chacha.specs.ChaCha.{ChaCha};
-ghost use Rattle.sn_client.specs.Runs.{Call, Given};
+ghost use Rattle.sn_device.specs.Runs.{Call, Given};
 ghost use Rattle.sn_course.specs.Stages.{Stage};
 ghost use Rattle.sn_course.specs.Lines.{fates_of};
 ghost use Rattle.sn_course.specs.Settings.{words_of};
@@ -26,7 +26,7 @@ ghost use Rattle.sn_world.specs.World.{World};
 use crate::came::{Came, came_of};
 use crate::replaying::{LineTold, Replaying, Seen};
 use crate::seen::{puts, see};
-use sn_client::steps_stay_sound;
+use sn_device::steps_stay_sound;
 use sn_events::{Ends, Outcome};
 use sn_laws::Move;
 use sn_lines::each_fits;

@@ -1,6 +1,6 @@
 //! What a replay reports.
 
-use sn_client::Place;
+use sn_device::Place;
 use sn_laws::Move;
 use sn_status::ClientRefusal;
 use sn_string::{OwnedList, Text};

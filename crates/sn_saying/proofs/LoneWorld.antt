@@ -5,7 +5,7 @@ use Rattle.sn_account.specs.Lookups.{HasStore}
 use Rattle.sn_account.specs.Rule.{RuleOf}
 use Rattle.sn_account.specs.Sessions.{IsSession, session_token}
 use Rattle.sn_account.specs.Syncs.{Serves as ServesSync, ServesBounded, ServesFrom, Synced, Syncs, start}
-use Rattle.sn_client.specs.Sending.{SaysBase}
+use Rattle.sn_device.specs.Sending.{SaysBase}
 use Rattle.sn_laws.proofs.Facts.{carries_sets, last_among, one_there}
 use Rattle.sn_laws.specs.Each.{Each}
 use Rattle.sn_laws.specs.Lookups.{Bytes, greatest}

@@ -11,8 +11,8 @@ use Rattle.std.proofs.lemmas.Bool.{cases_Bool, eqb-true}
 use Rattle.std.proofs.lemmas.List.{append-nil, append_assoc}
 use Rattle.std.proofs.lemmas.List.Elements.{Contains-append_cases, Contains-append_left, Contains-append_right, Contains-push, Contains-push_cases}
 use Rattle.std.proofs.lemmas.Map.Keys.{IsStrictlyIncreasing-from_sorted}
-use Rattle.sn_client.specs.Listing.{AreItems}
-use Rattle.sn_client.specs.Sending.{Numbered}
+use Rattle.sn_device.specs.Listing.{AreItems}
+use Rattle.sn_device.specs.Sending.{Numbered}
 use Rattle.sn_laws.proofs.Facts.{one_there}
 use Rattle.sn_laws.specs.Lookups.{Bytes, last_of}
 use Rattle.sn_laws.specs.Relation.{IsBased}

@@ -1,7 +1,7 @@
 -- What an adoption says, as the rows of both ends have it.
 use Rattle.std.specs.Prelude.{◌≡◌, ◌≢◌, ◌==◌, ℕ, List, [], ◌∷◌, Option, Some, None, if◌then◌else◌}
-use Rattle.sn_client.specs.Listing.{AreItems}
-use Rattle.sn_client.specs.Sending.{Numbered}
+use Rattle.sn_device.specs.Listing.{AreItems}
+use Rattle.sn_device.specs.Sending.{Numbered}
 use Rattle.sn_laws.specs.Lookups.{Bytes}
 use Rattle.sn_laws.specs.declared.ideal.Account.{Account}
 use Rattle.sn_laws.specs.declared.ideal.Device.{Device}

@@ -1,7 +1,7 @@
 -- What a device has sent, as a row of its own has it.
 use Rattle.std.specs.Prelude.{◌≡◌, ℕ, false, Option, Some}
 use Rattle.sn_account.specs.Stored.{body_of}
-use Rattle.sn_client.specs.Sending.{message_body}
+use Rattle.sn_device.specs.Sending.{message_body}
 use Rattle.sn_laws.specs.Lookups.{Bytes}
 use Rattle.sn_rows.specs.declared.body.RowBody.{RowBody}
 use Rattle.sn_rows.specs.declared.body.RowStrings.{RowStrings}

@@ -3,7 +3,7 @@
 ghost use Rattle.std.specs.Prelude.{◌≡◌, ◌↔◌, IsTrue};
 ghost use Rattle.std.specs.Option.{option_copied};
 ghost use Rattle.sn_account.specs.Stored.{body_of};
-ghost use Rattle.sn_client.specs.Sending.{message_body};
+ghost use Rattle.sn_device.specs.Sending.{message_body};
 ghost use Rattle.sn_row_map.specs.RowMaps.{row_in};
 ghost use Rattle.sn_world.specs.Serving.{IsSentRow, stamp_in};
 ghost use Rattle.sn_saying.specs.Sent.{HasSent, HasStrings, IsSentAt};

@@ -2,7 +2,7 @@
 //! that is used up, or by an answer that lies.
 
 use crate::written::{moves_of, numbered};
-use sn_client::Place;
+use sn_device::Place;
 use sn_report::*;
 use sn_status::ClientRefusal;
 use sn_string::{OwnedList, Text};

@@ -3,8 +3,8 @@ use Rattle.std.specs.Prelude.{ℕ, List, ◌++◌, codes}
 use Rattle.std.specs.Fmt.{decimal}
 use Rattle.sn_status.specs.declared.refusal.ClientRefusal.{ClientRefusal}
 use Rattle.sn_status.specs.declared.refusal.ClientRefusal.TheVariants.{NoAccount, NoItem, Closed, TooLong, NotObject, RoundsUsed, NoFreshUuid, WrongPassword, OtherAccount, HasAccount, Cost, NumbersUsed, Rekey, TooLarge}
-use Rattle.sn_client.specs.declared.error.Place.{Place}
-use Rattle.sn_client.specs.declared.error.Place.TheVariants.{Head, Json, Member, Saved, Conflict, Retrieved, Cursor}
+use Rattle.sn_device.specs.declared.error.Place.{Place}
+use Rattle.sn_device.specs.declared.error.Place.TheVariants.{Head, Json, Member, Saved, Conflict, Retrieved, Cursor}
 use Rattle.sn_rekey.specs.declared.error.RekeyError.{RekeyError}
 use Rattle.sn_rekey.specs.declared.error.RekeyError.TheVariants.{ChangeRunning, Unsent}
 use Rattle.sn_rekey.specs.declared.error.Running.{Running}

@@ -3,7 +3,7 @@ ghost use Rattle.std.specs.Prelude.{◌≡◌, IfOk, string_bytes};
 ghost use Rattle.sn_status.specs.ClientLines.{client_text, place_text, rekey_text};
 
 use crate::refusal::ClientRefusal;
-use sn_client::Place;
+use sn_device::Place;
 use sn_rekey::{RekeyError, Running};
 use sn_string::uuid_text;
 use std::alloc::{AllocError, Global};

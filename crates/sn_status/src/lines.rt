@@ -6,7 +6,7 @@ ghost use Rattle.sn_status.specs.Lines.{line_of, item_text, form_text, IsTold};
 use crate::client_lines::{client_line, place_line};
 use crate::refusal::{FormRefusal, ItemRefusal, Refusal};
 use crate::status::{Status, Unfit};
-use sn_client::Place;
+use sn_device::Place;
 use sn_io::{Sink, write_all};
 use sn_string::{Text, hex_text, uuid_text};
 use std::alloc::{AllocError, Global};

@@ -2,7 +2,7 @@
 ghost use Rattle.std.specs.Prelude.{◌≡◌};
 
 use crate::refusal::Refusal;
-use sn_client::Place;
+use sn_device::Place;
 use sn_rows::RowKind;
 use sn_string::Text;
 

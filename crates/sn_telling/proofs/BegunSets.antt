@@ -1,7 +1,7 @@
 -- What is told of the set that a request would begin is what it begins.
 use Rattle.std.proofs.Common.{◌≡◌, Option, Some, sym, ap, ◌∙◌, subst}
-use Rattle.sn_client.specs.Runs.{Call, content, delete, edit, list, passwd, put, register, sign_in, sync}
-use Rattle.sn_client.specs.States.{IsInSlot}
+use Rattle.sn_device.specs.Runs.{Call, content, delete, edit, list, passwd, put, register, sign_in, sync}
+use Rattle.sn_device.specs.States.{IsInSlot}
 use Rattle.sn_keys.specs.Keys.{AreKeysOf, derived, third}
 use Rattle.sn_laws.specs.Lookups.{Bytes}
 use Rattle.sn_rows.specs.Table.{Rows}

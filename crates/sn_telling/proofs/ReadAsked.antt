@@ -1,6 +1,6 @@
 -- A device's rows keep one set as asked for at most.
 use Rattle.std.proofs.Common.{◌≡◌, Some, sym, ap, ◌∙◌, subst}
-use Rattle.sn_client.specs.States.{HasOwner, HasSet, IsSetOf}
+use Rattle.sn_device.specs.States.{HasOwner, HasSet, IsSetOf}
 use Rattle.sn_rows.specs.Table.{Rows}
 use Rattle.sn_rows.specs.declared.device_rows.OwnerRow.{OwnerRow}
 use Rattle.sn_rows.specs.declared.device_rows.SetRow.{SetRow}

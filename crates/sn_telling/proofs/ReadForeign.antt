@@ -3,7 +3,7 @@ use Rattle.std.proofs.Common.{◌≡◌, ℕ, List, Some, None, Result, Ok, Err,
 use Rattle.std.specs.Prelude.{IfOk}
 use Rattle.httparse.proofs.GrammarLemmas.{response_unique}
 use Rattle.httparse.specs.Grammar.{ResponseHead, status_code}
-use Rattle.sn_client.specs.Asking.{IsReply, said}
+use Rattle.sn_device.specs.Asking.{IsReply, said}
 use Rattle.sn_http.specs.Answers.{IsAnswer as IsHttpAnswer}
 use Rattle.sn_laws.specs.Lookups.{Bytes}
 use Rattle.sn_moves.specs.Foreign.{foreign_in}

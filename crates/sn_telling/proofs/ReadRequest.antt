@@ -2,8 +2,8 @@
 use Rattle.std.specs.Prelude.{◌≡◌, ◌++◌, ℕ, [], Option, Some, None}
 use Rattle.std.specs.Io.KnownBytes.{Consumes}
 use Rattle.std.proofs.Common.{refl, sym, ◌∙◌, ap, subst}
-use Rattle.sn_client.specs.Asking.{IsRequestBytes, body_of, session_of, target_of}
-use Rattle.sn_client.specs.States.{Bytes}
+use Rattle.sn_device.specs.Asking.{IsRequestBytes, body_of, session_of, target_of}
+use Rattle.sn_device.specs.States.{Bytes}
 use Rattle.sn_http.specs.Heads.{Carried, unread}
 use Rattle.sn_http.specs.Laws.{SameMessage}
 use Rattle.sn_http.specs.Messages.{IsCheck, IsMessage, OfTold, Takes}

@@ -5,13 +5,13 @@ use Rattle.std.specs.List.{flat_map}
 use Rattle.std.specs.Prelude.{codes}
 use Rattle.std.proofs.lemmas.List.Concat.{flat_map-cons}
 use Rattle.rand_chacha.specs.ChaCha.{ChaCha}
-use Rattle.sn_client.specs.Asking.{Reply, lost, said, unheard, unread}
-use Rattle.sn_client.specs.Runs.{Act, AdoptsOrDrops, AdoptsOrKeeps, AnswersChange, AnswersNothing, AreRounds, AsksAccount, AsksFirst, AsksFor, AsksHost, ChangesTo, CommitsOnce, CommitsStep, Drops, DropsOrKeeps, EndsBy, EndsExchange, EndsSync, Exchanges, Finds, FindsParams, Given, Halt, Hears, IsRound, KeepsAccount, Point, Resolves, Round, Sends, Standing, SyncsUnder, Then, Turn, WithAccount, WithContent, WithItem, acts_of, asked, change_to, commits, goes_on, is_over, nothing, posting}
-use Rattle.sn_client.specs.Sending.{IsSyncOf, Numbered}
-use Rattle.sn_client.specs.States.{Bytes}
-use Rattle.sn_client.specs.Steps.{What, adopts, applies, asks, forgets, posts}
-use Rattle.sn_client.specs.declared.error.ClientError.{ClientError}
-use Rattle.sn_client.specs.declared.error.ClientError.TheVariants as refusal
+use Rattle.sn_device.specs.Asking.{Reply, lost, said, unheard, unread}
+use Rattle.sn_device.specs.Runs.{Act, AdoptsOrDrops, AdoptsOrKeeps, AnswersChange, AnswersNothing, AreRounds, AsksAccount, AsksFirst, AsksFor, AsksHost, ChangesTo, CommitsOnce, CommitsStep, Drops, DropsOrKeeps, EndsBy, EndsExchange, EndsSync, Exchanges, Finds, FindsParams, Given, Halt, Hears, IsRound, KeepsAccount, Point, Resolves, Round, Sends, Standing, SyncsUnder, Then, Turn, WithAccount, WithContent, WithItem, acts_of, asked, change_to, commits, goes_on, is_over, nothing, posting}
+use Rattle.sn_device.specs.Sending.{IsSyncOf, Numbered}
+use Rattle.sn_device.specs.States.{Bytes}
+use Rattle.sn_device.specs.Steps.{What, adopts, applies, asks, forgets, posts}
+use Rattle.sn_device.specs.declared.error.ClientError.{ClientError}
+use Rattle.sn_device.specs.declared.error.ClientError.TheVariants as refusal
 use Rattle.sn_rows.specs.Table.{Rows}
 use Rattle.sn_rows.specs.declared.change.Change.{Change}
 use Rattle.sn_rows.specs.declared.device_rows.OwnerRow.{OwnerRow}

@@ -2,8 +2,8 @@
 use Rattle.std.proofs.Common.{◌≡◌, ◌++◌, List, [], ◌∷◌, Some, sym, ap, ◌∙◌, subst, inl, inr, length}
 use Rattle.sn_account.proofs.RisingLists.{one_rising, rises_so}
 use Rattle.sn_adopted.specs.Moves.{adopting, reposting}
-use Rattle.sn_client.specs.Listing.{AreItems}
-use Rattle.sn_client.specs.Sending.{Numbered}
+use Rattle.sn_device.specs.Listing.{AreItems}
+use Rattle.sn_device.specs.Sending.{Numbered}
 use Rattle.sn_laws.specs.Lookups.{Bytes, account_named, device_named}
 use Rattle.sn_laws.specs.declared.ideal.Account.{Account}
 use Rattle.sn_laws.specs.declared.ideal.Device.{Device}

@@ -1,9 +1,9 @@
 -- What is said of a batch of a device is what its commit says.
 use Rattle.std.proofs.Common.{◌≡◌, ◌++◌, ℕ, List, [], ◌∷◌, Option, Some, None, refl, sym, ap, ◌∙◌, subst, length}
 use Rattle.rand_chacha.specs.ChaCha.{ChaCha}
-use Rattle.sn_client.specs.Asking.{IsReply, said}
-use Rattle.sn_client.specs.States.{Columns}
-use Rattle.sn_client.specs.Steps.{PutsNew, Step, What, adopts, applies, asks, begins, deletes, edits, forgets, posts, puts, renews}
+use Rattle.sn_device.specs.Asking.{IsReply, said}
+use Rattle.sn_device.specs.States.{Columns}
+use Rattle.sn_device.specs.Steps.{PutsNew, Step, What, adopts, applies, asks, begins, deletes, edits, forgets, posts, puts, renews}
 use Rattle.sn_laws.specs.Lookups.{Bytes, account_named, device_named, held_by}
 use Rattle.sn_laws.specs.Reached.{DeletionsStay}
 use Rattle.sn_laws.specs.declared.ideal.Account.{Account}

@@ -1,7 +1,7 @@
 -- A whole call, and a request that comes late or again.
 use Rattle.std.proofs.Common.{◌≡◌, ◌++◌, List, Option, None, true, false, refl, sym, ap, ◌∙◌, subst}
 use Rattle.std.proofs.lemmas.List.{append-nil}
-use Rattle.sn_client.specs.Runs.{Halt, answered, broken, refused}
+use Rattle.sn_device.specs.Runs.{Halt, answered, broken, refused}
 use Rattle.sn_laws.specs.Lookups.{Bytes}
 use Rattle.sn_laws.specs.Reached.{DeletionsStay}
 use Rattle.sn_laws.specs.declared.moves.Move.{Move}

@@ -1,6 +1,6 @@
 -- What is said of a call's batches and exchanges is what its trace says.
 use Rattle.std.proofs.Common.{◌≡◌, ◌++◌, List, [], ◌∷◌, Bool, true, false, Option, Some, None, sym, ap, ◌∙◌, subst}
-use Rattle.sn_client.specs.Runs.{Act, Call, asked, commits as committed, rows_done}
+use Rattle.sn_device.specs.Runs.{Act, Call, asked, commits as committed, rows_done}
 use Rattle.sn_laws.specs.Lookups.{Bytes}
 use Rattle.sn_laws.specs.Reached.{DeletionsStay}
 use Rattle.sn_laws.specs.Runs.{end_from}

@@ -1,8 +1,8 @@
 -- A walk over batches and exchanges, taken apart at its next act.
 use Rattle.std.proofs.Common.{◌≡◌, ◌++◌, List, [], ◌∷◌, Bool, true, false, Option, Some, refl, sym, ap, ◌∙◌, subst, append_assoc}
 use Rattle.std.specs.Prelude.{if◌then◌else◌}
-use Rattle.sn_client.specs.Runs.{Act, asked, commits as committed}
-use Rattle.sn_client.specs.Steps.{What}
+use Rattle.sn_device.specs.Runs.{Act, asked, commits as committed}
+use Rattle.sn_device.specs.Steps.{What}
 use Rattle.sn_laws.specs.Lookups.{Bytes}
 use Rattle.sn_laws.specs.declared.moves.Move.{Move}
 use Rattle.sn_link.specs.Laws.{AreReadable}

@@ -1,8 +1,8 @@
 -- A line of the world says the moves that are told of its call, changes of password among them.
 use Rattle.std.specs.Prelude.{◌≡◌, ℕ, List, [], ◌∷◌, true, false, Option, None}
 use Rattle.rand_chacha.specs.ChaCha.{ChaCha}
-use Rattle.sn_client.specs.Asking.{IsRequestBytes}
-use Rattle.sn_client.specs.Runs.{Act, Call, Halt, Run, answered, asked, broken, commits as committed, refused, rows_done}
+use Rattle.sn_device.specs.Asking.{IsRequestBytes}
+use Rattle.sn_device.specs.Runs.{Act, Call, Halt, Run, answered, asked, broken, commits as committed, refused, rows_done}
 use Rattle.sn_laws.specs.Lookups.{Bytes}
 use Rattle.sn_laws.specs.declared.ideal.Ideal.{Ideal}
 use Rattle.sn_laws.specs.declared.moves.Move.{Move}

@@ -1,7 +1,7 @@
 -- The moves of a call by its batches and its exchanges alone, as they follow one another.
 use Rattle.std.specs.List.{list_any}
 use Rattle.std.specs.Prelude.{◌≡◌, List, [], ◌∷◌, ◌++◌, Bool, true, false, IsTrue, Option, Some, None, if◌then◌else◌}
-use Rattle.sn_client.specs.Asking.{IsReply, IsRequestBytes, said}
+use Rattle.sn_device.specs.Asking.{IsReply, IsRequestBytes, said}
 use Rattle.sn_laws.specs.Lookups.{Bytes}
 use Rattle.sn_laws.specs.declared.moves.Move.{Move}
 use Rattle.sn_link.specs.Laws.{IsReadable}

@@ -1,7 +1,7 @@
 //! The set that a request would begin.
 
 ghost use Rattle.std.specs.Prelude.{◌≡◌, IfOk, Some};
-ghost use Rattle.sn_client.specs.States.{IsSetOf};
+ghost use Rattle.sn_device.specs.States.{IsSetOf};
 ghost use Rattle.sn_row_map.specs.RowMaps.{row_in};
 ghost use Rattle.sn_string.specs.declared.params.KeySet.{KeySet};
 ghost use Rattle.sn_telling.specs.Walking.{IsBegunIn, set_given};

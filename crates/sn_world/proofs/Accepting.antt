@@ -32,7 +32,7 @@ use Rattle.sn_shows.specs.Laws.{PutsVersion, created_of}
 use Rattle.sn_shows.specs.Servers.{ShowsItem, ShowsStrings, account_at, first_of, stamps_in}
 use Rattle.sn_world.proofs.ShowsLemmas.{draft_is}
 use Rattle.sn_world.specs.Holds.{HasNumber}
-use Rattle.sn_client.specs.Sending.{SaysBase}
+use Rattle.sn_device.specs.Sending.{SaysBase}
 use Rattle.sn_world.specs.Live.{IsPosted}
 use Rattle.sn_sync.specs.Laws.{HasOneStamp}
 use Rattle.sn_world.proofs.Alive.{IsAlive}

@@ -5,11 +5,11 @@ use Rattle.rand_chacha.specs.ChaCha.{ChaCha}
 use Rattle.sn_account.specs.Lookups.{IsNamed}
 use Rattle.sn_account.specs.Rule.{Rule}
 use Rattle.sn_account.specs.Rules.{IsPresent, Registers, TellsParams}
-use Rattle.sn_client.specs.Runs.{Act, AsksAccount, AsksParams, Halt, IsOrMayBe, KeepsAccount, Run, RunsRegister, SignsInAgain, SignsInBy, SignsInUnder, SignsInWith, nothing, register, sign_in}
-use Rattle.sn_client.specs.States.{Bytes, HasSets}
-use Rattle.sn_client.specs.Steps.{What, adopts, begins, renews}
-use Rattle.sn_client.specs.declared.error.ClientError.TheVariants as refusal
-use Rattle.sn_client.specs.declared.error.Place.TheVariants as place
+use Rattle.sn_device.specs.Runs.{Act, AsksAccount, AsksParams, Halt, IsOrMayBe, KeepsAccount, Run, RunsRegister, SignsInAgain, SignsInBy, SignsInUnder, SignsInWith, nothing, register, sign_in}
+use Rattle.sn_device.specs.States.{Bytes, HasSets}
+use Rattle.sn_device.specs.Steps.{What, adopts, begins, renews}
+use Rattle.sn_device.specs.declared.error.ClientError.TheVariants as refusal
+use Rattle.sn_device.specs.declared.error.Place.TheVariants as place
 use Rattle.sn_keys.specs.Keys.{AreKeysOf}
 use Rattle.sn_laws.specs.Moves.{after}
 use Rattle.sn_laws.specs.Runs.{end_from}

@@ -8,11 +8,10 @@ use Rattle.sn_account.specs.Sessions.{IsSession, session_token}
 use Rattle.sn_adopted.proofs.Facts.{adopt_holds, adopt_shows, reposts_allowed, reposts_move, reposts_show}
 use Rattle.sn_adopted.specs.Laws.{HoldsAdopted}
 use Rattle.sn_adopted.specs.Moves.{AreReposted, OlderStale, WasSent, adopting, reposting, sent_again}
-use Rattle.sn_client.proofs.Facts.{Adopted, adopted as rows_adopted}
-use Rattle.sn_client.specs.Sending.{Numbered}
-use Rattle.sn_client.specs.States.{HasLocal, IsSound, OwnerColumns}
-use Rattle.sn_client.specs.Steps.{Adopts}
-use Rattle.sn_client.specs.Syncing.{HasNoneAsked}
+use Rattle.sn_device.proofs.Facts.{Adopted, adopted as rows_adopted}
+use Rattle.sn_device.specs.Sending.{Numbered}
+use Rattle.sn_device.specs.States.{HasLocal, IsSound, OwnerColumns, HasNoneAsked}
+use Rattle.sn_device.specs.Steps.{Adopts}
 use Rattle.sn_laws.proofs.Facts.{allowed_to, clash, draft_is, end_from-append, found_passes, last_item, one_there, same_text, text_same}
 use Rattle.sn_laws.specs.Each.{Each, One}
 use Rattle.sn_laws.specs.Lookups.{Bytes, account_for, account_named, account_of, device_named, draft_at, greatest, held_by, is_account, is_device, is_draft, last_of}

@@ -3,7 +3,7 @@
 use Rattle.std.specs.Prelude.{◌≡◌, ℕ, ◌∷◌, [], length, Some, IsTrue}
 use Rattle.sn_account.specs.Incoming.{Progress}
 use Rattle.sn_changed.specs.Leaves.{OnlyBecomes, with_version}
-use Rattle.sn_client.specs.States.{IsSound}
+use Rattle.sn_device.specs.States.{IsSound}
 use Rattle.sn_laws.specs.Lookups.{Bytes, greatest}
 use Rattle.sn_laws.specs.Moves.{after, allows}
 use Rattle.sn_laws.specs.declared.ideal.Account.{Account}

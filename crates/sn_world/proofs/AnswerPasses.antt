@@ -6,10 +6,10 @@ use Rattle.std.proofs.lemmas.Option.{slice_get_within}
 use Rattle.sn_account.specs.Lookups.{HasItem}
 use Rattle.sn_account.specs.Sound.{IsSound as IsSoundServer}
 use Rattle.sn_account.specs.Tells.{IsOthers, IsSavedOf, TellsConflict}
-use Rattle.sn_client.specs.Runs.{HasLongToken, IsCheckPlace}
-use Rattle.sn_client.specs.Sending.{SaysBase, first_some, message_body}
-use Rattle.sn_client.specs.States.{HasLocal}
-use Rattle.sn_client.specs.declared.error.Place.{Place}
+use Rattle.sn_device.specs.Runs.{HasLongToken, IsCheckPlace}
+use Rattle.sn_device.specs.Sending.{SaysBase, first_some, message_body}
+use Rattle.sn_device.specs.States.{HasLocal}
+use Rattle.sn_device.specs.declared.error.Place.{Place}
 use Rattle.sn_conflict.specs.Checks.{AreStringsOf, FailsAt, HasConflictOf, HasItsStrings, IsConflict, IsNew, IsRetrieved, IsSaved, MayGoOn, Passes}
 use Rattle.sn_conflict.specs.Lists.{AllRight, IsFirstWrong}
 use Rattle.sn_conflict.specs.declared.error.CheckError.{CheckError}

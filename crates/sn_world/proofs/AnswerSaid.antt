@@ -6,8 +6,8 @@ use Rattle.sn_account.specs.Incoming.{IsOwnBody}
 use Rattle.sn_account.specs.Tells.{IsStored}
 use Rattle.sn_adopted.proofs.Facts.{retire_shows}
 use Rattle.sn_adopted.specs.Moves.{IsRetiring}
-use Rattle.sn_client.specs.Steps.{Applies, AppliesTo, start}
-use Rattle.sn_client.specs.Taking.{Meets, Progress, Takes, TakesAll, TakesOwn, TakesServer, Told, is_conflict, is_retrieved, is_saved, told_by}
+use Rattle.sn_device.specs.Steps.{Applies, AppliesTo, start}
+use Rattle.sn_device.specs.Taking.{Meets, Progress, Takes, TakesAll, TakesOwn, TakesServer, Told, is_conflict, is_retrieved, is_saved, told_by}
 use Rattle.sn_conflict.specs.declared.meeting.Meeting.{Meeting}
 use Rattle.sn_conflict.specs.declared.meeting.Meeting.TheVariants as meeting
 use Rattle.sn_laws.specs.Each.{Each}

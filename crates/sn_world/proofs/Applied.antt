@@ -12,7 +12,7 @@ use Rattle.sn_sync.specs.declared.item.Body.TheVariants as body
 use Rattle.sn_world.proofs.DeviceRows.{one_local, posted_elsewhere}
 use Rattle.sn_world.proofs.Items.{apart_numbers}
 use Rattle.sn_world.proofs.Making.{sends_it}
-use Rattle.sn_client.specs.Sending.{first_some, message_body}
+use Rattle.sn_device.specs.Sending.{first_some, message_body}
 use Rattle.sn_world.specs.Settling.{AppliesLive}
 
 one_body : (x y : RowBody) (found : Option RowBody) → found ≡ Some x → found ≡ Some y → x ≡ y

@@ -9,10 +9,10 @@ use Rattle.sn_adopted.proofs.Facts.{stale_stays}
 use Rattle.sn_adopted.specs.Moves.{IsRetiring, OlderStale}
 use Rattle.sn_account.specs.Sessions.{IsSession}
 use Rattle.sn_account.specs.Tells.{AreApart, IsStored}
-use Rattle.sn_client.specs.Laws.{AreStanding}
-use Rattle.sn_client.specs.States.{HasLocal, HasOwner, IsSound, OwnerColumns}
-use Rattle.sn_client.specs.Steps.{Applies, MayRetire, Retires, applies, start}
-use Rattle.sn_client.specs.Taking.{Progress, Told, is_conflict, is_retrieved, is_saved, told_by}
+use Rattle.sn_device.specs.Laws.{AreStanding}
+use Rattle.sn_device.specs.States.{HasLocal, HasOwner, IsSound, OwnerColumns, text_of_token, token_of}
+use Rattle.sn_device.specs.Steps.{Applies, MayRetire, Retires, applies, start}
+use Rattle.sn_device.specs.Taking.{Progress, Told, is_conflict, is_retrieved, is_saved, told_by}
 use Rattle.sn_conflict.specs.Checks.{HasItsStrings, IsConflict, IsRetrieved, IsSaved}
 use Rattle.sn_laws.proofs.Facts.{end_from-append, one_there}
 use Rattle.sn_laws.specs.Each.{Each}
@@ -61,7 +61,6 @@ use Rattle.sn_world.specs.Pulled.{HasBase, PulledAt, PulledTo}
 use Rattle.sn_world.proofs.TakenAll.{Good, LinkedAt, NoneSaved, NotSaved, ToldApart, all_told}
 use Rattle.sn_world.proofs.TakenFrames.{Along, Took}
 use Rattle.sn_world.proofs.TakenMet.{TakingLaws}
-use Rattle.sn_client.specs.States.{text_of_token, token_of}
 use Rattle.sn_laws.specs.Lookups.{greatest}
 use Rattle.sn_rows.specs.declared.value.Value.{Value}
 use Rattle.sn_shows.specs.Servers.{ShowsItem, ShowsStore, account_at, stamps_in}

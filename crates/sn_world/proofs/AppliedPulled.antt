@@ -6,7 +6,7 @@ use Rattle.std.specs.List.{Contains}
 use Rattle.std.specs.Prelude.{codes, nat_lt}
 use Rattle.sn_account.specs.Lookups.{HasStore}
 use Rattle.sn_account.specs.Syncs.{IsStampOf, above_of, is_first}
-use Rattle.sn_client.specs.States.{HasOwner, token_of}
+use Rattle.sn_device.specs.States.{HasOwner, token_of}
 use Rattle.sn_laws.specs.Each.{Each}
 use Rattle.sn_laws.specs.Lookups.{Bytes, last_of}
 use Rattle.sn_laws.specs.Relation.{IsLive}

@@ -1,8 +1,8 @@
 -- A set that is asked for, or dropped, keeps the invariant: of a device's rows only that of the asked set changes.
 use Rattle.std.proofs.Common.{◌≡◌, ◌≢◌, [], ◌∷◌, List, refl, ap, ◌∙◌}
 use Rattle.sn_adopted.proofs.Facts.{ask_shows, forget_shows}
-use Rattle.sn_client.specs.States.{IsSound}
-use Rattle.sn_client.specs.Steps.{Asks, Forgets}
+use Rattle.sn_device.specs.States.{IsSound}
+use Rattle.sn_device.specs.Steps.{Asks, Forgets}
 use Rattle.sn_laws.specs.Lookups.{Bytes, device_named, greatest}
 use Rattle.sn_laws.specs.declared.ideal.Ideal.{Ideal}
 use Rattle.sn_rows.specs.Table.{Rows, key_of, rows_after}

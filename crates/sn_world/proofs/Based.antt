@@ -3,8 +3,8 @@ use Rattle.std.proofs.Common.{◌≡◌, ◌≢◌, ◌<◌, ◌≤◌, ℕ, Lis
 use Rattle.std.specs.Prelude.{if◌then◌else◌}
 use Rattle.rand_chacha.specs.ChaCha.{ChaCha}
 use Rattle.sn_account.specs.Tells.{IsStored}
-use Rattle.sn_client.specs.States.{Columns}
-use Rattle.sn_client.specs.Taking.{IsKeptAs}
+use Rattle.sn_device.specs.States.{Columns}
+use Rattle.sn_device.specs.Taking.{IsKeptAs}
 use Rattle.sn_items.specs.Items.{OpensItem}
 use Rattle.sn_items.specs.declared.sealed.Sealed.{Sealed}
 use Rattle.sn_laws.proofs.Facts.{last_among, one_there}

@@ -1,12 +1,12 @@
 -- Neither what a device posts nor an answer that it applies is more than a batch.
 use Rattle.std.proofs.Common.{◌≡◌, ◌+◌, ◌*◌, ◌≤◌, ℕ, List, [], ◌∷◌, ◌++◌, length, map, Option, Some, None, refl, ap, ◌∙◌, inl, inr, arith}
 use Rattle.rand_chacha.specs.ChaCha.{ChaCha}
-use Rattle.sn_client.specs.Laws.{IsChecked}
-use Rattle.sn_client.specs.Runs.{IsBatch}
-use Rattle.sn_client.specs.Sending.{AreUnsent, Numbered, Posts, PostsAll, as_posted}
-use Rattle.sn_client.specs.States.{OwnerColumns, columns, owner_columns}
-use Rattle.sn_client.specs.Steps.{Applies, Retires, start, with_tokens}
-use Rattle.sn_client.specs.Taking.{Told, is_conflict, is_retrieved, is_saved, told_by}
+use Rattle.sn_device.specs.Laws.{IsChecked}
+use Rattle.sn_device.specs.Runs.{IsBatch}
+use Rattle.sn_device.specs.Sending.{AreUnsent, Numbered, Posts, PostsAll, as_posted}
+use Rattle.sn_device.specs.States.{OwnerColumns, columns, owner_columns}
+use Rattle.sn_device.specs.Steps.{Applies, Retires, start, with_tokens}
+use Rattle.sn_device.specs.Taking.{Told, is_conflict, is_retrieved, is_saved, told_by}
 use Rattle.sn_conflict.specs.Checks.{HasItsStrings, IsConflict, IsRetrieved, IsSaved, Passes}
 use Rattle.sn_laws.specs.Each.{Each}
 use Rattle.sn_laws.specs.Lookups.{Bytes}

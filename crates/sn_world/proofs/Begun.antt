@@ -25,7 +25,7 @@ use Rattle.sn_shows.specs.Devices.{ShowsDevice, ShowsDeviceAs, ShowsNothing}
 use Rattle.sn_shows.specs.Laws.{AccountsApart, AreApart, JoinKeeps, JoinedShows}
 use Rattle.sn_shows.specs.Servers.{account_at}
 use Rattle.sn_string.specs.declared.params.KeySet.{KeySet}
-use Rattle.sn_client.specs.States.{token_of}
+use Rattle.sn_device.specs.States.{token_of, IsFresh, IsSound, OwnerColumns}
 use Rattle.sn_shows.specs.Servers.{stamps_in}
 use Rattle.sn_world.proofs.DeviceRows.{one_owner}
 use Rattle.sn_world.specs.Holds.{IsTokenBelow}
@@ -35,8 +35,7 @@ use Rattle.sn_world.proofs.Tokens.{apart_of, named_at, named_identifier}
 use Rattle.sn_world.specs.Committing.{MayBegin, SaysJoin}
 use Rattle.sn_world.specs.Holds.{DeviceToken, Holds, NumbersOf}
 use Rattle.sn_world.specs.Laws.{KeptBy}
-use Rattle.sn_client.specs.States.{IsFresh, IsSound, OwnerColumns}
-use Rattle.sn_client.specs.Steps.{BeginsDevice}
+use Rattle.sn_device.specs.Steps.{BeginsDevice}
 use Rattle.sn_world.specs.World.{OnDevice, World}
 
 -- an account that has a number is found by its identifier

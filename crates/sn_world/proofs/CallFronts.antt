@@ -1,6 +1,6 @@
 -- The first acts of a call are steps of the world too.
 use Rattle.std.proofs.Common.{◌≡◌, List, [], ◌∷◌, ◌++◌, Option, true, refl, sym, ap, ◌∙◌, subst, append_assoc}
-use Rattle.sn_client.specs.Runs.{Act, asked, commits as committed, rows_done}
+use Rattle.sn_device.specs.Runs.{Act, asked, commits as committed, rows_done}
 use Rattle.sn_laws.specs.Lookups.{Bytes}
 use Rattle.sn_laws.specs.Runs.{end_from}
 use Rattle.sn_laws.specs.declared.ideal.Ideal.{Ideal}

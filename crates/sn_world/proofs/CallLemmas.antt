@@ -1,11 +1,11 @@
 -- Steps of the world one after another; and the calls that ask a server for nothing.
 use Rattle.std.proofs.Common.{◌≡◌, ℕ, List, [], ◌∷◌, ◌++◌, length, Option, true, false, refl, sym, ap, ◌∙◌, subst, inl, inr, append_assoc}
 use Rattle.rand_chacha.specs.ChaCha.{ChaCha}
-use Rattle.sn_client.specs.Runs.{Act, Call, CommitsOnce, DeletesItem, Given, GivesText, Halt, ListsItems, PutsItem, Refuses, Run, RunsCall, StopsAt, WithAccount, WithContent, WithItem, a_text, a_uuid, answered, broken, commits as committed, content, delete, edit, lines, list, nothing, passwd, put, refused, register, rows_done, sign_in, sync}
-use Rattle.sn_client.specs.States.{Bytes}
-use Rattle.sn_client.specs.Steps.{Step, What, deletes, edits, puts}
-use Rattle.sn_client.specs.declared.error.ClientError.{ClientError}
-use Rattle.sn_client.specs.declared.error.ClientError.TheVariants as refusal
+use Rattle.sn_device.specs.Runs.{Act, Call, CommitsOnce, DeletesItem, Given, GivesText, Halt, ListsItems, PutsItem, Refuses, Run, RunsCall, StopsAt, WithAccount, WithContent, WithItem, a_text, a_uuid, answered, broken, commits as committed, content, delete, edit, lines, list, nothing, passwd, put, refused, register, rows_done, sign_in, sync}
+use Rattle.sn_device.specs.States.{Bytes}
+use Rattle.sn_device.specs.Steps.{Step, What, deletes, edits, puts}
+use Rattle.sn_device.specs.declared.error.ClientError.{ClientError}
+use Rattle.sn_device.specs.declared.error.ClientError.TheVariants as refusal
 use Rattle.sn_laws.proofs.Facts.{end_from-append}
 use Rattle.sn_laws.specs.Runs.{end_from}
 use Rattle.sn_laws.specs.declared.ideal.Ideal.{Ideal}

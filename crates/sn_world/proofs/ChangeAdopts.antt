@@ -7,8 +7,8 @@ use Rattle.sn_account.specs.Sessions.{session_token}
 use Rattle.sn_account.specs.Sound.{IsSound as IsSoundServer}
 use Rattle.sn_changed.specs.Laws.{ChangeServed, IsChanged, IsRefused, next_set}
 use Rattle.sn_changed.specs.Leaves.{ChangeLeaves, ComesNext, OnlyBecomes, with_set}
-use Rattle.sn_client.specs.Runs.{change_to}
-use Rattle.sn_client.specs.States.{HasOwner}
+use Rattle.sn_device.specs.Runs.{change_to}
+use Rattle.sn_device.specs.States.{HasOwner}
 use Rattle.sn_laws.proofs.Facts.{one_there}
 use Rattle.sn_laws.specs.Lookups.{Bytes, device_named, greatest}
 use Rattle.sn_laws.specs.Moves.{after}

@@ -24,7 +24,7 @@ use Rattle.sn_shows.specs.Devices.{ShowsBase, ShowsContent, ShowsDraft, ShowsDra
 use Rattle.sn_items.specs.Items.{OpensItem}
 use Rattle.sn_sets.specs.Sets.{sealed_of}
 use Rattle.sn_laws.specs.declared.ideal.Device.{Device}
-use Rattle.sn_client.specs.Sending.{PutsColumns}
+use Rattle.sn_device.specs.Sending.{PutsColumns}
 use Rattle.sn_shows.specs.Laws.{AccountsApart, EditKeeps, EditedShows, HasAccount, JoinKeeps, JoinedShows, PostKeeps, PostedShows, TokensShow}
 use Rattle.sn_string.specs.declared.params.KeySet.{KeySet}
 use Rattle.sn_sync.specs.declared.answer.Answer.{Answer}
@@ -48,9 +48,9 @@ use Rattle.sn_world.proofs.Renewed.{renewed}
 use Rattle.sn_world.specs.Committing.{MayCommit, SaysCommit, SaysDeletion, SaysEdit}
 use Rattle.sn_world.specs.Holds.{Holds, StaleOf, TokensDiffer}
 use Rattle.sn_world.specs.Laws.{KeepsCommitting, KeptBy}
-use Rattle.sn_client.specs.Laws.{StepsStaySound}
-use Rattle.sn_client.specs.States.{HasItem, HasLocal, IsSound, columns}
-use Rattle.sn_client.specs.Steps.{AppliesTo, Deletes, Edits, IsContent, IsUnknown, Step, What, adopts, applies, asks, begins, deletes, drafted, edits, forgets, posts, puts, renews}
+use Rattle.sn_device.specs.Laws.{StepsStaySound}
+use Rattle.sn_device.specs.States.{HasItem, HasLocal, IsSound, columns}
+use Rattle.sn_device.specs.Steps.{AppliesTo, Deletes, Edits, IsContent, IsUnknown, Step, What, adopts, applies, asks, begins, deletes, drafted, edits, forgets, posts, puts, renews}
 use Rattle.sn_world.specs.World.{OnDevice, World}
 
 -- the laws of the crates below that speak of a device's rows, and of what it sent

@@ -2,8 +2,8 @@
 use Rattle.std.proofs.Common.{◌≡◌, ◌≢◌, ◌⊎◌, ◌<◌, ℕ, zero, suc, List, [], ◌∷◌, Option, Some, None, refl, sym, ap, ◌∙◌, subst, inl, inr, ⊎_elim, arith}
 use Rattle.sn_account.specs.Stored.{body_of}
 use Rattle.sn_changed.proofs.Facts.{apart_numbers, apart_texts}
-use Rattle.sn_client.specs.Sending.{message_body}
-use Rattle.sn_client.specs.States.{HasItem, HasLocal, HasOwner, IsFree, IsSound, IsUsed}
+use Rattle.sn_device.specs.Sending.{message_body}
+use Rattle.sn_device.specs.States.{HasItem, HasLocal, HasOwner, IsFree, IsSound, IsUsed}
 use Rattle.sn_laws.specs.Lookups.{Bytes}
 use Rattle.sn_laws.specs.declared.moves.Move.{Move}
 use Rattle.sn_rows.specs.Table.{Rows, rows_after}

@@ -23,9 +23,9 @@ use Rattle.sn_string.specs.declared.params.KeySet.{KeySet}
 use Rattle.sn_sync.specs.declared.item.Item.{Item}
 use Rattle.sn_world.proofs.Frames.{KeepsPosted, SentAlike}
 use Rattle.sn_world.specs.Holds.{DeviceToken, IsTokenBelow, TokensBelow}
-use Rattle.sn_client.specs.Sending.{PutsColumns}
-use Rattle.sn_client.specs.States.{Columns, HasLocal, HasOwner, token_of}
-use Rattle.sn_client.specs.Taking.{new_columns}
+use Rattle.sn_device.specs.Sending.{PutsColumns}
+use Rattle.sn_device.specs.States.{Columns, HasLocal, HasOwner, token_of}
+use Rattle.sn_device.specs.Taking.{new_columns}
 use Rattle.sn_world.specs.Live.{IsPosted}
 use Rattle.sn_world.specs.World.{OnDevice, World}
 

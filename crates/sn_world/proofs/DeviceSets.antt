@@ -24,7 +24,7 @@ use Rattle.sn_shows.specs.Sets.{set_at}
 use Rattle.sn_string.proofs.Facts.{same_keys}
 use Rattle.sn_string.specs.declared.params.KeySet.{KeySet}
 use Rattle.sn_world.proofs.DeviceRows.{one_owner}
-use Rattle.sn_client.specs.States.{HasLocal, HasOwner, HasSets, IsFree, IsSetOf, IsSound}
+use Rattle.sn_device.specs.States.{HasLocal, HasOwner, HasSets, IsFree, IsSetOf, IsSound}
 
 pub one_set_row : (x y : SetRow) (found : Option Value) → found ≡ Some (value.Set x) → found ≡ Some (value.Set y) → x ≡ y
 one_set_row x y found e k = cc

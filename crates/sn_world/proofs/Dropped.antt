@@ -1,8 +1,8 @@
 -- A new item of which no server knows goes: its draft is dropped.
 use Rattle.std.proofs.Common.{◌≡◌, ℕ, List, [], ◌∷◌, Option, Some, None, refl, sym, ◌∙◌, subst, inl, ⊎_elim}
 use Rattle.std.specs.Prelude.{IsSome, IsTrue}
-use Rattle.sn_client.specs.States.{HasLocal, IsSound}
-use Rattle.sn_client.specs.Steps.{IsUnknown}
+use Rattle.sn_device.specs.States.{HasLocal, IsSound}
+use Rattle.sn_device.specs.Steps.{IsUnknown}
 use Rattle.sn_laws.proofs.Facts.{allowed_to}
 use Rattle.sn_laws.specs.Lookups.{Bytes, device_named, draft_at, greatest}
 use Rattle.sn_laws.specs.Moves.{after, allows}

@@ -34,9 +34,9 @@ use Rattle.sn_world.proofs.ShowsLemmas.{IsPut, draft_is, draft_passes, find_chan
 use Rattle.sn_world.proofs.Steps.{reached_more}
 use Rattle.sn_world.specs.Holds.{Holds, NumbersOf, StaleOf}
 use Rattle.sn_world.specs.Laws.{KeptBy}
-use Rattle.sn_client.specs.Sending.{PutsColumns}
-use Rattle.sn_client.specs.States.{Columns, HasLocal, IsSound, columns}
-use Rattle.sn_client.specs.Steps.{drafted}
+use Rattle.sn_device.specs.Sending.{PutsColumns}
+use Rattle.sn_device.specs.States.{Columns, HasLocal, IsSound, columns}
+use Rattle.sn_device.specs.Steps.{drafted}
 use Rattle.sn_world.specs.World.{OnDevice, World}
 
 -- ---- the drafts after an edit

@@ -3,7 +3,7 @@ use Rattle.std.proofs.Common.{◌≡◌, ℕ, zero, suc, [], Some, None, refl, a
 use Rattle.sn_laws.specs.declared.ideal.Account.{Account}
 use Rattle.sn_shows.specs.Servers.{account_at}
 use Rattle.sn_world.specs.Laws.{HoldsFirst}
-use Rattle.sn_client.specs.Laws.{FreshIsSound}
+use Rattle.sn_device.specs.Laws.{FreshIsSound}
 
 no_account : (number : ℕ) (a : Account) → account_at number [] ≡ Some a → ⊥
 no_account zero a e = absurd (cc)

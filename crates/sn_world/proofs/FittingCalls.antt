@@ -2,10 +2,10 @@
 use Rattle.std.proofs.Common.{◌≡◌, ℕ, List, [], ◌∷◌, ◌++◌, refl, sym, subst, inl, inr}
 use Rattle.std.specs.Str.{IsUtf8}
 use Rattle.rand_chacha.specs.ChaCha.{ChaCha}
-use Rattle.sn_client.specs.Laws.{AreSteps, RunsBySteps}
-use Rattle.sn_client.specs.Runs.{Act, AsksAccount, AsksFirst, AsksParams, Call, ChangesPassword, ChangesTo, CommitsOnce, DeletesItem, Given, GivesText, Halt, KeepsAccount, ListsItems, PutsItem, Run, RunsRegister, RunsSignIn, SignsInAgain, SignsInBy, SignsInUnder, SignsInWith, SyncsItems, SyncsUnder, WithAccount, WithContent, WithItem, a_uuid, asked, begun, commits, content, delete, edit, list, nothing, passwd, put, register, rows_done, sign_in, sync}
-use Rattle.sn_client.specs.States.{Bytes, HasSets}
-use Rattle.sn_client.specs.Steps.{What, adopts, begins, deletes, edits, puts, renews}
+use Rattle.sn_device.specs.Laws.{AreSteps, RunsBySteps}
+use Rattle.sn_device.specs.Runs.{Act, AsksAccount, AsksFirst, AsksParams, Call, ChangesPassword, ChangesTo, CommitsOnce, DeletesItem, Given, GivesText, Halt, KeepsAccount, ListsItems, PutsItem, Run, RunsRegister, RunsSignIn, SignsInAgain, SignsInBy, SignsInUnder, SignsInWith, SyncsItems, SyncsUnder, WithAccount, WithContent, WithItem, a_uuid, asked, begun, commits, content, delete, edit, list, nothing, passwd, put, register, rows_done, sign_in, sync}
+use Rattle.sn_device.specs.States.{Bytes, HasSets}
+use Rattle.sn_device.specs.Steps.{What, adopts, begins, deletes, edits, puts, renews}
 use Rattle.sn_rows.specs.Table.{Rows, rows_after}
 use Rattle.sn_rows.specs.declared.device_rows.OwnerRow.{OwnerRow}
 use Rattle.sn_sets.specs.declared.sets.Sets.{Sets}

@@ -1,7 +1,7 @@
 -- Calls over a server that answers by its rule are steps of the world.
 use Rattle.std.proofs.Common.{ℕ, List}
 use Rattle.rand_chacha.specs.ChaCha.{ChaCha}
-use Rattle.sn_client.specs.Runs.{Act, Call, Halt, Run, answered, content, delete, edit, list, passwd, put, register, sign_in, sync}
+use Rattle.sn_device.specs.Runs.{Act, Call, Halt, Run, answered, content, delete, edit, list, passwd, put, register, sign_in, sync}
 use Rattle.sn_laws.specs.Lookups.{Bytes}
 use Rattle.sn_laws.specs.declared.ideal.Ideal.{Ideal}
 use Rattle.sn_world.proofs.PlainLines.{keeps_password}

@@ -6,9 +6,9 @@ use Rattle.std.specs.Str.{IsUtf8, is_utf8}
 use Rattle.std.proofs.lemmas.Bool.{and_parts, leb-true}
 use Rattle.std.proofs.lemmas.List.Elements.{All-cons, All-contains_itself, All-head, All-nil, All-tail, All-weaker, Contains-append_left}
 use Rattle.std.proofs.lemmas.Str.{IsUtf8-from_is_utf8}
-use Rattle.sn_client.specs.Runs.{change_to}
-use Rattle.sn_client.specs.Sending.{AreSentAs, IsSentAs, Numbered}
-use Rattle.sn_client.specs.States.{Bytes, HasLocal}
+use Rattle.sn_device.specs.Runs.{change_to}
+use Rattle.sn_device.specs.Sending.{AreSentAs, IsSentAs, Numbered}
+use Rattle.sn_device.specs.States.{Bytes, HasLocal}
 use Rattle.sn_rows.specs.Bounds.{is_text_of}
 use Rattle.sn_rows.specs.Table.{Rows}
 use Rattle.sn_rows.specs.declared.device_rows.LocalItem.{LocalItem}

@@ -23,11 +23,11 @@ use Rattle.sn_sync.specs.declared.answer.Answer.TheVariants as answer
 use Rattle.sn_sync.specs.declared.item.Item.{Item}
 use Rattle.sn_sync.specs.declared.request.Request.{Request}
 use Rattle.sn_sync.specs.declared.request.Request.TheVariants as request
-use Rattle.sn_client.specs.Laws.{FreshIsSound, StepsStaySound}
-use Rattle.sn_client.specs.Sending.{Posts}
-use Rattle.sn_client.specs.States.{Bytes, Columns, HasLocal, HasOwner, HasSet, IsFresh, IsInSlot, IsSound}
-use Rattle.sn_client.specs.Steps.{Adopts, AppliesAnswer, AppliesTo, Asks, BeginsDevice, Deletes, Forgets, Step, What, adopts, applies, asks, begins, deletes, edits, forgets, posts, puts, renews}
-use Rattle.sn_client.proofs.Facts.{IsKept, Parts, Stand, adopted, apply_parts, apply_stands, begin_empty, delete_parts, delete_stands, edit_parts, edit_stands, item_after, new_stands, parts_keep, past_asked, post_parts, post_stands, put_parts, renew_parts}
+use Rattle.sn_device.specs.Laws.{FreshIsSound, StepsStaySound}
+use Rattle.sn_device.specs.Sending.{Posts}
+use Rattle.sn_device.specs.States.{Bytes, Columns, HasLocal, HasOwner, HasSet, IsFresh, IsInSlot, IsSound}
+use Rattle.sn_device.specs.Steps.{Adopts, AppliesAnswer, AppliesTo, Asks, BeginsDevice, Deletes, Forgets, Step, What, adopts, applies, asks, begins, deletes, edits, forgets, posts, puts, renews}
+use Rattle.sn_device.proofs.Facts.{IsKept, Parts, Stand, adopted, apply_parts, apply_stands, begin_empty, delete_parts, delete_stands, edit_parts, edit_stands, item_after, new_stands, parts_keep, past_asked, post_parts, post_stands, put_parts, renew_parts}
 use Rattle.sn_world.specs.Fitting.{FitsPasswords, FitsUuids, FitsWhat, FreshFits, StepsFit, StepsFitUuids}
 
 -- ---- uuids: a row's uuid is one that a string names, or a former row's

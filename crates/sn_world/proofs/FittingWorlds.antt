@@ -3,11 +3,11 @@ use Rattle.std.proofs.Common.{◌≡◌, ◌⊎◌, ℕ, List, [], ◌∷◌, �
 use Rattle.std.specs.Str.{bytes_eq}
 use Rattle.std.proofs.lemmas.Bool.{cases_Bool}
 use Rattle.rand_chacha.specs.ChaCha.{ChaCha}
-use Rattle.sn_client.specs.Asking.{Reply, unheard}
-use Rattle.sn_client.specs.Laws.{StepsStaySound}
-use Rattle.sn_client.specs.Runs.{Act, Call, Halt, Run, SyncsUnder, answered, asked, begun, broken, commits as committed, passwd, refused}
-use Rattle.sn_client.specs.States.{IsSound}
-use Rattle.sn_client.specs.Steps.{What}
+use Rattle.sn_device.specs.Asking.{Reply, unheard}
+use Rattle.sn_device.specs.Laws.{StepsStaySound}
+use Rattle.sn_device.specs.Runs.{Act, Call, Halt, Run, SyncsUnder, answered, asked, begun, broken, commits as committed, passwd, refused}
+use Rattle.sn_device.specs.States.{IsSound}
+use Rattle.sn_device.specs.Steps.{What}
 use Rattle.sn_laws.proofs.Facts.{clash, same_text, text_same}
 use Rattle.sn_laws.specs.Each.{Each, One}
 use Rattle.sn_laws.specs.Lookups.{Bytes, empty}

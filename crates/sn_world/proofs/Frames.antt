@@ -27,8 +27,8 @@ use Rattle.sn_laws.specs.declared.ideal.Version.{Version}
 use Rattle.sn_world.specs.Pulled.{BasesPulled, PulledAt, PulledTo}
 use Rattle.sn_world.specs.Holds.{AreFew, DeviceToken, HasToken, Holds, HoldsChange, HoldsSync, IsSync, IsTokenBelow, NumbersOf, Reached, StaleOf, TokensBelow}
 use Rattle.sn_world.specs.Live.{KnownBelow, LiveItem, LiveItems}
-use Rattle.sn_client.specs.Sending.{SaysBase}
-use Rattle.sn_client.specs.States.{HasLocal, IsSound, token_of}
+use Rattle.sn_device.specs.Sending.{SaysBase}
+use Rattle.sn_device.specs.States.{HasLocal, IsSound, token_of}
 use Rattle.sn_world.specs.World.{IsMade, Made, OnDevice, World}
 
 -- ---- worlds of the same parts

@@ -3,7 +3,7 @@ use Rattle.std.proofs.Common.{◌≡◌, List, length, Some, sym, subst}
 use Rattle.rand_chacha.specs.ChaCha.{ChaCha}
 use Rattle.sn_adopted.proofs.Facts.{stale_stays}
 use Rattle.sn_adopted.specs.Moves.{AdoptsNone}
-use Rattle.sn_client.specs.Steps.{Step, What}
+use Rattle.sn_device.specs.Steps.{Step, What}
 use Rattle.sn_laws.proofs.Facts.{devices_all_hold, nonces_differ, one_there}
 use Rattle.sn_laws.specs.Each.{Each}
 use Rattle.sn_laws.specs.Lookups.{Bytes, account_named, account_of, device_named}

@@ -1,6 +1,6 @@
 -- Strings that open under the sets that a device holds: to the text that they have in its account.
 use Rattle.std.proofs.Common.{◌≡◌, ℕ, List, [], ◌∷◌, Option, Some, sym, subst, inl, inr}
-use Rattle.sn_client.specs.States.{HasSets, IsInSlot}
+use Rattle.sn_device.specs.States.{HasSets, IsInSlot}
 use Rattle.sn_items.specs.ItemLaws.{OneContent}
 use Rattle.sn_items.specs.Items.{OpensItem}
 use Rattle.sn_items.specs.declared.sealed.Sealed.{Sealed}

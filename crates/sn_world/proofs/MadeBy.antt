@@ -1,7 +1,7 @@
 -- A request that is made keeps the invariant.
 use Rattle.std.proofs.Common.{◌≡◌, ◌≤◌, ℕ, List, [], ◌∷◌, length, Option, Some, None, refl, sym, ap, ◌∙◌, subst, ⊎_elim, arith}
 use Rattle.sn_account.specs.Sessions.{session_token}
-use Rattle.sn_client.specs.States.{HasOwner, IsInSlot}
+use Rattle.sn_device.specs.States.{HasOwner, IsInSlot}
 use Rattle.sn_laws.specs.Each.{Each, One}
 use Rattle.sn_laws.specs.Lookups.{Bytes, device_named, greatest}
 use Rattle.sn_laws.specs.declared.ideal.Device.{Device}

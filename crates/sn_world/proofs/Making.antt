@@ -4,7 +4,7 @@ use Rattle.std.proofs.Math.Nat.{eq-or-lt_of_le}
 use Rattle.std.proofs.lemmas.Bool.{cases_lt}
 use Rattle.std.specs.Prelude.{IsSome}
 use Rattle.sn_changed.specs.Stale.{HasRisingStamps, StaleBehind}
-use Rattle.sn_client.specs.Sending.{IsSentAs, SaysBase, first_some, message_body}
+use Rattle.sn_device.specs.Sending.{IsSentAs, SaysBase, first_some, message_body}
 use Rattle.sn_laws.specs.Each.{Each}
 use Rattle.sn_laws.specs.Laws.{VersionsRise}
 use Rattle.sn_laws.specs.Lookups.{Bytes, greatest}

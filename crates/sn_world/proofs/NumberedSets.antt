@@ -1,7 +1,7 @@
 -- The sets that a device holds, as its account's: the present one is that of the greatest number that is held, and an older one that of a lesser.
 use Rattle.std.proofs.Common.{◌≡◌, ◌≢◌, ◌⊎◌, ◌<◌, ◌≤◌, ℕ, List, [], ◌∷◌, length, Option, Some, None, refl, sym, ap, ◌∙◌, subst, inl, inr, ⊎_elim, arith}
 use Rattle.std.proofs.lemmas.Bool.Decides.{nat_tests}
-use Rattle.sn_client.specs.States.{HasSets, IsInSlot}
+use Rattle.sn_device.specs.States.{HasSets, IsInSlot}
 use Rattle.sn_items.specs.Items.{OpensItem}
 use Rattle.sn_items.specs.declared.sealed.Sealed.{Sealed}
 use Rattle.sn_laws.proofs.Facts.{one_there}

@@ -3,7 +3,7 @@ use Rattle.std.proofs.Common.{◌≡◌, ℕ, length, Option, Some, None, refl, 
 use Rattle.sn_account.specs.Lookups.{HasStore}
 use Rattle.sn_account.specs.Sessions.{IsSession, session_token}
 use Rattle.sn_account.specs.Syncs.{IsStampOf}
-use Rattle.sn_client.specs.States.{HasOwner}
+use Rattle.sn_device.specs.States.{HasOwner}
 use Rattle.sn_laws.specs.Lookups.{Bytes, greatest}
 use Rattle.sn_laws.specs.declared.ideal.Account.{Account}
 use Rattle.sn_laws.specs.declared.ideal.Device.{Device}

@@ -1,8 +1,8 @@
 -- What a device sends of a draft is of its account's present set.
 use Rattle.std.proofs.Common.{◌≡◌, ℕ, Option, Some, None, Bool, true, sym, ap, ◌∙◌, subst, inl, inr}
 use Rattle.sn_account.specs.Incoming.{IsOwnBody, IsOwnString}
-use Rattle.sn_client.specs.Sending.{first_some, message_body}
-use Rattle.sn_client.specs.States.{HasLocal}
+use Rattle.sn_device.specs.Sending.{first_some, message_body}
+use Rattle.sn_device.specs.States.{HasLocal}
 use Rattle.sn_items.specs.Items.{CarriesParams, OpensItem}
 use Rattle.sn_items.specs.Opens.{NamesItem}
 use Rattle.sn_items.specs.declared.sealed.Sealed.{Sealed}

@@ -3,13 +3,13 @@ use Rattle.std.proofs.Common.{◌≡◌, ℕ, List, [], ◌∷◌, sym, subst, i
 use Rattle.std.specs.List.{flat_map}
 use Rattle.std.proofs.lemmas.List.Concat.{flat_map-cons}
 use Rattle.rand_chacha.specs.ChaCha.{ChaCha}
-use Rattle.sn_client.proofs.Facts.{EndsAlone, ExchangesAlone, synced_alone}
-use Rattle.sn_client.specs.Asking.{Reply, said}
-use Rattle.sn_client.specs.Runs.{Act, AreRounds, AsksAccount, AsksFirst, Call, CommitsOnce, DeletesItem, EndsBehind, EndsExchange, Given, GivesText, Halt, IsRound, KeepsAccount, ListsItems, PutsItem, Refuses, Round, Run, RunsRegister, RunsSignIn, Sends, SignsInAgain, SignsInBy, SignsInUnder, SignsInWith, Standing, StopsAt, SyncsItems, WithAccount, WithContent, WithItem, a_uuid, acts_of, answered, asked, broken, commits, content, delete, edit, lines, list, nothing, passwd, posting, put, refused, register, sign_in, sync}
-use Rattle.sn_client.specs.States.{Bytes, HasSets}
-use Rattle.sn_client.specs.Steps.{What, adopts, applies, begins, deletes, edits, posts, puts, renews}
-use Rattle.sn_client.specs.declared.error.ClientError.{ClientError}
-use Rattle.sn_client.specs.declared.error.ClientError.TheVariants as refusal
+use Rattle.sn_device.proofs.Facts.{EndsAlone, ExchangesAlone, synced_alone}
+use Rattle.sn_device.specs.Asking.{Reply, said}
+use Rattle.sn_device.specs.Runs.{Act, AreRounds, AsksAccount, AsksFirst, Call, CommitsOnce, DeletesItem, EndsBehind, EndsExchange, Given, GivesText, Halt, IsRound, KeepsAccount, ListsItems, PutsItem, Refuses, Round, Run, RunsRegister, RunsSignIn, Sends, SignsInAgain, SignsInBy, SignsInUnder, SignsInWith, Standing, StopsAt, SyncsItems, WithAccount, WithContent, WithItem, a_uuid, acts_of, answered, asked, broken, commits, content, delete, edit, lines, list, nothing, passwd, posting, put, refused, register, sign_in, sync}
+use Rattle.sn_device.specs.States.{Bytes, HasSets}
+use Rattle.sn_device.specs.Steps.{What, adopts, applies, begins, deletes, edits, posts, puts, renews}
+use Rattle.sn_device.specs.declared.error.ClientError.{ClientError}
+use Rattle.sn_device.specs.declared.error.ClientError.TheVariants as refusal
 use Rattle.sn_laws.specs.Each.{Each}
 use Rattle.sn_rows.specs.Table.{Rows}
 use Rattle.sn_rows.specs.declared.change.Change.{Change}

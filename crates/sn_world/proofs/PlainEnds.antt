@@ -1,7 +1,7 @@
 -- Where no password was changed, what a device has: no row is to be sealed again, no older set is held, and its greatest set is its account's last.
 use Rattle.std.proofs.Common.{◌≡◌, ℕ, List, [], ◌∷◌, ◌++◌, length, None, sym, ◌∙◌, subst}
-use Rattle.sn_client.specs.Runs.{IsRound, Round, Standing}
-use Rattle.sn_client.specs.States.{HasSets}
+use Rattle.sn_device.specs.Runs.{IsRound, Round, Standing}
+use Rattle.sn_device.specs.States.{HasSets}
 use Rattle.sn_laws.specs.Each.{Each}
 use Rattle.sn_laws.specs.Lookups.{Bytes, greatest}
 use Rattle.sn_laws.specs.declared.ideal.Account.{Account}

@@ -4,10 +4,10 @@ use Rattle.std.proofs.lemmas.Bool.{cases_Bool}
 use Rattle.std.specs.Prelude.{IsSome}
 use Rattle.std.specs.Str.{bytes_eq}
 use Rattle.rand_chacha.specs.ChaCha.{ChaCha}
-use Rattle.sn_client.proofs.Facts.{adopted, apply_parts, delete_parts, edit_parts, parts_keep, post_parts, put_parts, renew_parts}
-use Rattle.sn_client.specs.States.{IsSound}
-use Rattle.sn_client.specs.Steps.{AppliesTo, Deletes, Step, What, adopts, applies, asks, begins, deletes, edits, forgets, posts, puts, renews}
-use Rattle.sn_client.specs.Sending.{PostsAll}
+use Rattle.sn_device.proofs.Facts.{adopted, apply_parts, delete_parts, edit_parts, parts_keep, post_parts, put_parts, renew_parts}
+use Rattle.sn_device.specs.States.{IsSound}
+use Rattle.sn_device.specs.Steps.{AppliesTo, Deletes, Step, What, adopts, applies, asks, begins, deletes, edits, forgets, posts, puts, renews}
+use Rattle.sn_device.specs.Sending.{PostsAll}
 use Rattle.sn_laws.proofs.Facts.{clash, end_from-append, same_text, text_same}
 use Rattle.sn_laws.specs.Each.{Each, One}
 use Rattle.sn_laws.specs.Lookups.{Bytes}

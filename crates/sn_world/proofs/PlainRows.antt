@@ -1,7 +1,7 @@
 -- Where each account has one set, no device has a row that is to be sealed again, and none an older set.
 use Rattle.std.proofs.Common.{◌≡◌, ◌<◌, ◌≤◌, ℕ, length, Option, Some, None, Bool, true, false, refl, sym, subst, arith}
 use Rattle.std.specs.Prelude.{IsSome}
-use Rattle.sn_client.specs.States.{HasLocal}
+use Rattle.sn_device.specs.States.{HasLocal}
 use Rattle.sn_laws.proofs.Facts.{is_false}
 use Rattle.sn_laws.specs.Lookups.{Bytes, account_named, device_named, greatest}
 use Rattle.sn_laws.specs.Relation.{IsUnder}

@@ -37,10 +37,10 @@ use Rattle.sn_world.proofs.Steps.{reached_more}
 use Rattle.sn_world.specs.Committing.{AreDifferent, IsPostOf}
 use Rattle.sn_world.specs.Holds.{Holds, NumbersOf, StaleOf}
 use Rattle.sn_world.specs.Laws.{KeptBy}
-use Rattle.sn_client.specs.Laws.{StepsStaySound}
-use Rattle.sn_client.specs.Sending.{Posts, PostsAll}
-use Rattle.sn_client.specs.States.{Columns, IsSound}
-use Rattle.sn_client.specs.Steps.{posts}
+use Rattle.sn_device.specs.Laws.{StepsStaySound}
+use Rattle.sn_device.specs.Sending.{Posts, PostsAll}
+use Rattle.sn_device.specs.States.{Columns, IsSound}
+use Rattle.sn_device.specs.Steps.{posts}
 use Rattle.sn_world.specs.World.{OnDevice, World}
 
 -- ---- one draft

@@ -1,6 +1,6 @@
 -- Where no set is asked for, a device's sets have none.
 use Rattle.std.proofs.Common.{◌≡◌, Option, Some, None, refl}
-use Rattle.sn_client.specs.States.{Bytes, HasSets, IsInSlot}
+use Rattle.sn_device.specs.States.{Bytes, HasSets, IsInSlot}
 use Rattle.sn_rows.specs.Table.{Rows}
 use Rattle.sn_rows.specs.declared.device_rows.OwnerRow.{OwnerRow}
 use Rattle.sn_rows.specs.declared.key.Key.TheVariants as key

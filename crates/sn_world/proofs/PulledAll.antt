@@ -2,9 +2,9 @@
 use Rattle.std.proofs.Common.{◌⊎◌, ℕ, List, [], ◌∷◌, Option, Some, None, true, false, sym, ap, ◌∙◌, subst, inl, inr}
 use Rattle.std.specs.List.{Contains}
 use Rattle.sn_account.specs.Tells.{IsOthers}
-use Rattle.sn_client.specs.Laws.{AreStanding}
-use Rattle.sn_client.specs.States.{Columns, HasLocal}
-use Rattle.sn_client.specs.Taking.{Progress, Renames, Told, is_conflict, is_retrieved, is_saved}
+use Rattle.sn_device.specs.Laws.{AreStanding}
+use Rattle.sn_device.specs.States.{Columns, HasLocal}
+use Rattle.sn_device.specs.Taking.{Progress, Renames, Told, is_conflict, is_retrieved, is_saved}
 use Rattle.sn_laws.specs.Each.{Each}
 use Rattle.sn_laws.specs.Lookups.{Bytes}
 use Rattle.sn_laws.specs.Runs.{end_from}

@@ -2,9 +2,9 @@
 use Rattle.std.proofs.Common.{◌≡◌, ◌≢◌, ◌<◌, ◌≤◌, ℕ, [], ◌∷◌, map, Option, Some, None, Bool, true, false, refl, sym, ap, ◌∙◌, subst, inl, inr, ⊎_elim, ◌⊎◌, arith}
 use Rattle.std.specs.Str.{bytes_eq}
 use Rattle.sn_account.specs.Tells.{IsStored}
-use Rattle.sn_client.specs.Sending.{PutsColumns}
-use Rattle.sn_client.specs.States.{Columns, HasItem, HasLocal, IsFree}
-use Rattle.sn_client.specs.Taking.{Copies, MakesRow, Progress, TakesBody, TakesServer}
+use Rattle.sn_device.specs.Sending.{PutsColumns}
+use Rattle.sn_device.specs.States.{Columns, HasItem, HasLocal, IsFree}
+use Rattle.sn_device.specs.Taking.{Copies, MakesRow, Progress, TakesBody, TakesServer}
 use Rattle.sn_conflict.specs.Meetings.{IsKnown, MeetsClosed}
 use Rattle.sn_conflict.specs.declared.meeting.Meeting.TheVariants as meeting
 use Rattle.sn_laws.proofs.Facts.{clash, one_there, same_text, text_same}

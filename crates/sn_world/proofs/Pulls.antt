@@ -1,6 +1,6 @@
 -- What changes of a device's rows leave of how far it has pulled.
 use Rattle.std.proofs.Common.{◌≡◌, ◌≢◌, ◌⊎◌, ℕ, List, [], ◌∷◌, Option, Some, None, refl, sym, ap, ◌∙◌, inr, ⊎_elim}
-use Rattle.sn_client.specs.States.{HasItem, HasLocal, HasOwner, token_of}
+use Rattle.sn_device.specs.States.{HasItem, HasLocal, HasOwner, token_of}
 use Rattle.sn_laws.specs.Lookups.{Bytes}
 use Rattle.sn_laws.specs.declared.ideal.Account.{Account}
 use Rattle.sn_laws.specs.declared.ideal.Device.{Device}

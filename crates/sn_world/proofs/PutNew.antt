@@ -33,8 +33,8 @@ use Rattle.sn_world.proofs.ShowsLemmas.{holder_from}
 use Rattle.sn_world.proofs.Steps.{reached_more}
 use Rattle.sn_world.specs.Holds.{DeviceToken, Holds, NumbersOf, StaleOf}
 use Rattle.sn_world.specs.Laws.{KeptBy}
-use Rattle.sn_client.specs.States.{Columns, IsSound, OwnerColumns}
-use Rattle.sn_client.specs.Steps.{PutsNew}
+use Rattle.sn_device.specs.States.{Columns, IsSound, OwnerColumns}
+use Rattle.sn_device.specs.Steps.{PutsNew}
 use Rattle.sn_world.specs.World.{OnDevice, World}
 
 pub and_true : (a b : Bool) → (a && b) ≡ true → (a ≡ true) × (b ≡ true)

@@ -3,11 +3,11 @@ use Rattle.std.proofs.Common.{◌≡◌, ◌+◌, ℕ, List, [], ◌∷◌, ◌+
 use Rattle.std.specs.List.{flat_map}
 use Rattle.rand_chacha.specs.ChaCha.{ChaCha}
 use Rattle.sn_account.specs.Rule.{Rule}
-use Rattle.sn_client.specs.Asking.{said}
-use Rattle.sn_client.specs.Runs.{Act, AreRounds, IsRound, Round, Standing, acts_of, asked, commits as committed, posting}
-use Rattle.sn_client.specs.Sending.{PostsAll}
-use Rattle.sn_client.specs.States.{IsSound}
-use Rattle.sn_client.specs.Steps.{applies, posts}
+use Rattle.sn_device.specs.Asking.{said}
+use Rattle.sn_device.specs.Runs.{Act, AreRounds, IsRound, Round, Standing, acts_of, asked, commits as committed, posting}
+use Rattle.sn_device.specs.Sending.{PostsAll}
+use Rattle.sn_device.specs.States.{IsSound}
+use Rattle.sn_device.specs.Steps.{applies, posts}
 use Rattle.sn_laws.specs.Each.{Each}
 use Rattle.sn_laws.specs.Lookups.{Bytes}
 use Rattle.sn_laws.specs.Runs.{end_from}

@@ -24,8 +24,8 @@ use Rattle.sn_world.proofs.Tokens.{apart_of}
 use Rattle.sn_world.specs.Committing.{MayRenew}
 use Rattle.sn_world.specs.Holds.{DeviceToken, Holds, StaleOf}
 use Rattle.sn_world.specs.Laws.{KeptBy}
-use Rattle.sn_client.specs.States.{IsSound, OwnerColumns}
-use Rattle.sn_client.specs.Steps.{Renews}
+use Rattle.sn_device.specs.States.{IsSound, OwnerColumns}
+use Rattle.sn_device.specs.Steps.{Renews}
 use Rattle.sn_world.specs.World.{OnDevice, World}
 
 module _ (apart : AccountsApart) (law : TokensShow) (secret : Bytes) (w next : World) (s : Ideal) (h : Holds secret w s) (name token : Bytes)

@@ -3,7 +3,7 @@ use Rattle.std.proofs.Common.{◌≡◌, ◌≢◌, ◌⊎◌, ◌<◌, ℕ, Lis
 use Rattle.std.specs.List.{Contains}
 use Rattle.std.specs.Prelude.{◌==◌}
 use Rattle.sn_adopted.specs.Moves.{reposting}
-use Rattle.sn_client.specs.Sending.{Numbered}
+use Rattle.sn_device.specs.Sending.{Numbered}
 use Rattle.sn_laws.proofs.Facts.{clash, number_same, one_there, same_number}
 use Rattle.sn_laws.specs.Each.{Each, One}
 use Rattle.sn_laws.specs.Lookups.{Bytes, last_of}

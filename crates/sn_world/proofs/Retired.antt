@@ -4,7 +4,7 @@ use Rattle.std.proofs.lemmas.Bool.Decides.{nat_tests}
 use Rattle.std.specs.Prelude.{◌==◌, IsTrue, find}
 use Rattle.std.specs.Str.{bytes_eq}
 use Rattle.sn_account.specs.Sessions.{IsSession, session_token}
-use Rattle.sn_client.specs.States.{IsSound}
+use Rattle.sn_device.specs.States.{IsSound}
 use Rattle.sn_laws.proofs.Facts.{clash, one_there, retired, same_text, text_same}
 use Rattle.sn_laws.specs.Lookups.{Bytes, device_named, greatest, is_account, is_device}
 use Rattle.sn_laws.specs.Moves.{after, allows, without}

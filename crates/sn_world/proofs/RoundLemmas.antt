@@ -3,10 +3,10 @@ use Rattle.std.proofs.Common.{◌≡◌, ℕ, List, [], ◌∷◌, ◌++◌, Opt
 use Rattle.rand_chacha.specs.ChaCha.{ChaCha}
 use Rattle.sn_account.specs.Rule.{Rule}
 use Rattle.sn_account.specs.Tells.{AreApart, uuids}
-use Rattle.sn_client.specs.Runs.{IsRound, Round, Sends, Standing, items_of}
-use Rattle.sn_client.specs.Sending.{PostsAll}
-use Rattle.sn_client.specs.States.{IsSound}
-use Rattle.sn_client.specs.Steps.{Step, applies, posts}
+use Rattle.sn_device.specs.Runs.{IsRound, Round, Sends, Standing, items_of}
+use Rattle.sn_device.specs.Sending.{PostsAll}
+use Rattle.sn_device.specs.States.{IsSound}
+use Rattle.sn_device.specs.Steps.{Step, applies, posts}
 use Rattle.sn_laws.specs.Lookups.{Bytes}
 use Rattle.sn_laws.specs.Runs.{end_from}
 use Rattle.sn_laws.specs.declared.ideal.Ideal.{Ideal}

@@ -5,9 +5,9 @@ use Rattle.std.specs.Prelude.{nat_le}
 use Rattle.std.specs.Str.{is_utf8}
 use Rattle.std.proofs.lemmas.Bool.{and_parts, cases_Bool, leb-true}
 use Rattle.std.proofs.lemmas.List.Concat.{flat_map-cons}
-use Rattle.sn_client.specs.Sending.{PutsColumns}
-use Rattle.sn_client.specs.States.{Columns, OwnerColumns}
-use Rattle.sn_client.specs.Steps.{PutsOwner}
+use Rattle.sn_device.specs.Sending.{PutsColumns}
+use Rattle.sn_device.specs.States.{Columns, OwnerColumns}
+use Rattle.sn_device.specs.Steps.{PutsOwner}
 use Rattle.sn_laws.specs.Each.{Each}
 use Rattle.sn_laws.specs.Lookups.{Bytes}
 use Rattle.sn_rows.specs.Bounds.{after_colon, before_colon, has_colon, has_device_lengths, is_colon, is_device_string}

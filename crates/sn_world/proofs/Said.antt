@@ -24,9 +24,9 @@ use Rattle.sn_world.specs.Committing.{IsPostOf, MayAdopt, MayBegin, MayCommit, S
 use Rattle.sn_world.specs.Happens.{commits, makes, serves, starts}
 use Rattle.sn_world.specs.Holds.{Holds}
 use Rattle.sn_world.specs.Laws.{SaysSome}
-use Rattle.sn_client.specs.Sending.{PostsAll, PutsColumns}
-use Rattle.sn_client.specs.States.{IsSound, columns}
-use Rattle.sn_client.specs.Steps.{Adopts, Deletes, IsUnknown, Step, What, adopts, applies, asks, begins, deletes, drafted, edits, forgets, posts, puts, renews}
+use Rattle.sn_device.specs.Sending.{PostsAll, PutsColumns}
+use Rattle.sn_device.specs.States.{IsSound, columns}
+use Rattle.sn_device.specs.Steps.{Adopts, Deletes, IsUnknown, Step, What, adopts, applies, asks, begins, deletes, drafted, edits, forgets, posts, puts, renews}
 use Rattle.sn_world.specs.Serving.{SaysRoute, SaysServed}
 use Rattle.sn_world.specs.World.{Made, World}
 

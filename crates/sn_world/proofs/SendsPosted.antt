@@ -10,9 +10,9 @@ use Rattle.std.specs.List.Sorted.{IsStrictlySortedBy}
 use Rattle.std.specs.Ordering.{nat_cmp}
 use Rattle.std.specs.Prelude.{IsSome}
 use Rattle.sn_account.specs.Tells.{AreApart, uuids}
-use Rattle.sn_client.specs.Runs.{items_of}
-use Rattle.sn_client.specs.Sending.{AreSentAs, AreUnsent, IsSentAs, IsUnsent, IsWaiting, Numbered, Posts, PostsAll, SaysBase, as_posted, first_some}
-use Rattle.sn_client.specs.States.{Columns, HasLocal, IsSound, columns, token_of}
+use Rattle.sn_device.specs.Runs.{items_of}
+use Rattle.sn_device.specs.Sending.{AreSentAs, AreUnsent, IsSentAs, IsUnsent, IsWaiting, Numbered, Posts, PostsAll, SaysBase, as_posted, first_some}
+use Rattle.sn_device.specs.States.{Columns, HasLocal, IsSound, columns, token_of}
 use Rattle.sn_laws.specs.Each.{Each}
 use Rattle.sn_laws.specs.Lookups.{Bytes}
 use Rattle.sn_rows.specs.Facts.{put_elsewhere, put_here}

@@ -20,7 +20,7 @@ use Rattle.sn_sets.specs.Sets.{sealed_of}
 use Rattle.sn_shows.specs.Devices.{ShowsContent, ShowsDrafted, ShowsPosted}
 use Rattle.sn_shows.specs.Servers.{ShowsStrings}
 use Rattle.sn_shows.specs.Sets.{OpensUnder}
-use Rattle.sn_client.specs.Sending.{message_body}
+use Rattle.sn_device.specs.Sending.{message_body}
 
 pub record Sent (sets : List KeySet) (number : ℕ) (item : LocalItem) (b : RowBody) (found : Option Draft) : Type 0 where
   pub draft : Draft

@@ -3,7 +3,7 @@ use Rattle.std.proofs.Common.{◌≡◌, ◌≢◌, ℕ, List, [], ◌∷◌, �
 use Rattle.std.specs.Prelude.{if◌then◌else◌}
 use Rattle.std.specs.Str.{bytes_eq}
 use Rattle.rand_chacha.specs.ChaCha.{ChaCha}
-use Rattle.sn_client.specs.Runs.{Act, Call, Halt, answered, asked, broken, commits as committed, content, delete, edit, list, passwd, put, refused, register, rows_done, sign_in, sync}
+use Rattle.sn_device.specs.Runs.{Act, Call, Halt, answered, asked, broken, commits as committed, content, delete, edit, list, passwd, put, refused, register, rows_done, sign_in, sync}
 use Rattle.sn_laws.proofs.Facts.{clash, end_from-append, same_text, text_same}
 use Rattle.sn_laws.specs.Each.{Each}
 use Rattle.sn_laws.specs.Lookups.{Bytes, empty}

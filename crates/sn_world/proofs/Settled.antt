@@ -21,7 +21,7 @@ use Rattle.sn_shows.specs.Devices.{ShowsDevice}
 use Rattle.sn_shows.specs.Laws.{AccountsApart, HasAccount, SettleKeeps}
 use Rattle.sn_sync.specs.declared.item.Item.{Item}
 use Rattle.sn_laws.specs.Lookups.{greatest}
-use Rattle.sn_client.specs.States.{Columns}
+use Rattle.sn_device.specs.States.{Columns}
 use Rattle.sn_shows.specs.Servers.{account_at, stamps_in}
 use Rattle.sn_world.proofs.DeviceRows.{one_local, owner_past, sync_tokens_same, token_same}
 use Rattle.sn_world.proofs.Frames.{DeviceFrame, HasPulled, device_kept}

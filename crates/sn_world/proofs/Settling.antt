@@ -46,7 +46,7 @@ use Rattle.sn_world.proofs.Removing.{no_row}
 use Rattle.sn_world.proofs.Standing.{its_last}
 use Rattle.sn_world.specs.Pulled.{HasNoBase}
 use Rattle.sn_world.specs.Settling.{MeetsStored, SettlesGone, SettlesOwn, TakesLast}
-use Rattle.sn_client.specs.States.{Columns}
+use Rattle.sn_device.specs.States.{Columns}
 
 module _ (server device : Rows) (s : Ideal) (name : Bytes) (n number : ℕ) (a : Account) (d : Device) (local : LocalItem) (i : Item)
     (one_stamp : HasOneStamp) (one_text : OneContent) (x : MeetsStored server device s name n number a d local i) where

@@ -5,7 +5,7 @@ use Rattle.std.specs.Prelude.{IsSome}
 use Rattle.sn_account.specs.Rule.{Rule}
 use Rattle.sn_account.specs.Rules.{Admits, IsPresent, SignsIn}
 use Rattle.sn_account.specs.Sessions.{account_uuid, session_token}
-use Rattle.sn_client.specs.States.{HasOwner}
+use Rattle.sn_device.specs.States.{HasOwner}
 use Rattle.sn_keys.specs.Keys.{check_value}
 use Rattle.sn_laws.proofs.Facts.{one_there}
 use Rattle.sn_laws.specs.Lookups.{Bytes, device_named, greatest}

@@ -1,7 +1,7 @@
 -- A row that takes a version: where its strings open under the older of two sets, it is to be sent again.
 use Rattle.std.proofs.Common.{◌≡◌, ◌<◌, ℕ, List, [], ◌∷◌, length, Option, Some, true, refl, sym, ap, ◌∙◌, subst, inl, ⊎_elim}
 use Rattle.sn_adopted.specs.Moves.{OlderStale}
-use Rattle.sn_client.specs.States.{HasSets}
+use Rattle.sn_device.specs.States.{HasSets}
 use Rattle.sn_laws.specs.Each.{One}
 use Rattle.sn_laws.specs.Lookups.{Bytes, greatest}
 use Rattle.sn_laws.specs.Reached.{IsOneOrTwo}

@@ -5,13 +5,13 @@ use Rattle.std.proofs.lemmas.List.{append-nil}
 use Rattle.rand_chacha.specs.ChaCha.{ChaCha}
 use Rattle.sn_account.specs.Rule.{Rule}
 use Rattle.sn_account.specs.Tells.{AreApart, uuids}
-use Rattle.sn_client.specs.Asking.{Reply, said}
-use Rattle.sn_client.specs.Runs.{Act, AreRounds, EndsBehind, EndsExchange, Halt, IsRound, Round, Run, Sends, Standing, acts_of, asked, commits as committed, items_of, posting, nothing, rows_done, sync}
-use Rattle.sn_client.proofs.Facts.{EndsAlone, ExchangesAlone, synced_alone}
-use Rattle.sn_client.specs.Sending.{PostsAll}
-use Rattle.sn_client.specs.States.{Bytes}
-use Rattle.sn_client.specs.Steps.{Step, applies, posts}
-use Rattle.sn_client.specs.declared.error.ClientError.TheVariants as refusal
+use Rattle.sn_device.specs.Asking.{Reply, said}
+use Rattle.sn_device.specs.Runs.{Act, AreRounds, EndsBehind, EndsExchange, Halt, IsRound, Round, Run, Sends, Standing, acts_of, asked, commits as committed, items_of, posting, nothing, rows_done, sync}
+use Rattle.sn_device.proofs.Facts.{EndsAlone, ExchangesAlone, synced_alone}
+use Rattle.sn_device.specs.Sending.{PostsAll}
+use Rattle.sn_device.specs.States.{Bytes}
+use Rattle.sn_device.specs.Steps.{Step, applies, posts}
+use Rattle.sn_device.specs.declared.error.ClientError.TheVariants as refusal
 use Rattle.sn_laws.specs.Runs.{end_from}
 use Rattle.sn_laws.specs.declared.ideal.Ideal.{Ideal}
 use Rattle.sn_rows.specs.Table.{Rows, rows_after}

@@ -1,7 +1,7 @@
 -- The rows of a device that has all versions of its account and no draft.
 use Rattle.std.proofs.Common.{◌≡◌, ◌<◌, ℕ, map, Option, Some, None, refl, sym, ap, ◌∙◌, subst, ⊎_elim, arith}
 use Rattle.std.specs.Prelude.{IsSome}
-use Rattle.sn_client.specs.States.{HasLocal}
+use Rattle.sn_device.specs.States.{HasLocal}
 use Rattle.sn_laws.specs.Each.{Each}
 use Rattle.sn_laws.specs.Laws.{Rises, VersionsRise}
 use Rattle.sn_laws.specs.Lookups.{Bytes, draft_at, greatest, last_of}

@@ -2,14 +2,14 @@
 use Rattle.std.proofs.Common.{◌≡◌, ◌≤◌, ℕ, List, [], ◌∷◌, ◌++◌, length, Option, None, true, false, codes, refl, sym, ap, ◌∙◌, subst, inl, inr, ⊎_elim, arith}
 use Rattle.rand_chacha.specs.ChaCha.{ChaCha}
 use Rattle.sn_account.specs.Rule.{Rule}
-use Rattle.sn_client.specs.Asking.{Fails, Reply, said}
-use Rattle.sn_client.specs.Runs.{Act, EndsBehind, EndsExchange, EndsUnapplied, Halt, HasLongToken, IsBatch, IsUnapplied, Run, Sends, Standing, StopsAt, asked, most_exchanges, posting, refused, sync}
-use Rattle.sn_client.proofs.Facts.{EndsAlone, ExchangesAlone, synced_alone}
-use Rattle.sn_client.specs.Sending.{AreSentAs, AreUnsent, Numbered, PostsAll}
-use Rattle.sn_client.specs.States.{HasOwner, token_of}
-use Rattle.sn_client.specs.Steps.{Applies, AppliesAnswer, What, applies, posts}
-use Rattle.sn_client.specs.declared.error.ClientError.{ClientError}
-use Rattle.sn_client.specs.declared.error.ClientError.TheVariants as refusal
+use Rattle.sn_device.specs.Asking.{Fails, Reply, said}
+use Rattle.sn_device.specs.Runs.{Act, EndsBehind, EndsExchange, EndsUnapplied, Halt, HasLongToken, IsBatch, IsUnapplied, Run, Sends, Standing, StopsAt, asked, most_exchanges, posting, refused, sync}
+use Rattle.sn_device.proofs.Facts.{EndsAlone, ExchangesAlone, synced_alone}
+use Rattle.sn_device.specs.Sending.{AreSentAs, AreUnsent, Numbered, PostsAll}
+use Rattle.sn_device.specs.States.{HasOwner, token_of}
+use Rattle.sn_device.specs.Steps.{Applies, AppliesAnswer, What, applies, posts}
+use Rattle.sn_device.specs.declared.error.ClientError.{ClientError}
+use Rattle.sn_device.specs.declared.error.ClientError.TheVariants as refusal
 use Rattle.sn_conflict.specs.Checks.{Passes, most_retrieved}
 use Rattle.sn_laws.specs.Each.{Each}
 use Rattle.sn_laws.specs.Laws.{VersionsRise}

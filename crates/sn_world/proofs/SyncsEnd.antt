@@ -4,13 +4,13 @@ use Rattle.std.specs.Prelude.{IsSome}
 use Rattle.std.specs.List.{flat_map}
 use Rattle.std.proofs.lemmas.List.{append-nil}
 use Rattle.rand_chacha.specs.ChaCha.{ChaCha}
-use Rattle.sn_client.specs.Asking.{Reply, said}
-use Rattle.sn_client.specs.Runs.{Act, AreRounds, EndsBehind, EndsExchange, Given, IsDone, IsRound, Round, Run, StopsAt, Standing, acts_of, answered, asked, commits as committed, posting, refused, rows_done, sync}
-use Rattle.sn_client.proofs.Facts.{EndsAlone, ExchangesAlone, synced_alone}
-use Rattle.sn_client.specs.Sending.{NoneWaits}
-use Rattle.sn_client.specs.States.{HasSets}
-use Rattle.sn_client.specs.Steps.{What, applies}
-use Rattle.sn_client.specs.declared.error.ClientError.{ClientError}
+use Rattle.sn_device.specs.Asking.{Reply, said}
+use Rattle.sn_device.specs.Runs.{Act, AreRounds, EndsBehind, EndsExchange, Given, IsDone, IsRound, Round, Run, StopsAt, Standing, acts_of, answered, asked, commits as committed, posting, refused, rows_done, sync}
+use Rattle.sn_device.proofs.Facts.{EndsAlone, ExchangesAlone, synced_alone}
+use Rattle.sn_device.specs.Sending.{NoneWaits}
+use Rattle.sn_device.specs.States.{HasSets}
+use Rattle.sn_device.specs.Steps.{What, applies}
+use Rattle.sn_device.specs.declared.error.ClientError.{ClientError}
 use Rattle.sn_laws.proofs.Facts.{end_from-append, one_there}
 use Rattle.sn_laws.specs.Lookups.{Bytes, device_named, draft_at, greatest}
 use Rattle.sn_laws.specs.Runs.{end_from}

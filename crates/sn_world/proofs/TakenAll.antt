@@ -2,9 +2,9 @@
 use Rattle.std.proofs.Common.{◌≡◌, ◌≢◌, ◌⊎◌, ℕ, List, [], ◌∷◌, Bool, true, false, refl, sym, subst, inl, inr}
 use Rattle.std.specs.List.{Contains}
 use Rattle.sn_account.specs.Tells.{IsOthers, IsSavedOf, IsStored}
-use Rattle.sn_client.specs.Laws.{AreStanding, IsChecked}
-use Rattle.sn_client.specs.States.{HasItem}
-use Rattle.sn_client.specs.Taking.{Meets, Progress, Takes, TakesOwn, TakesServer, Told, is_conflict, is_retrieved, is_saved}
+use Rattle.sn_device.specs.Laws.{AreStanding, IsChecked}
+use Rattle.sn_device.specs.States.{HasItem}
+use Rattle.sn_device.specs.Taking.{Meets, Progress, Takes, TakesOwn, TakesServer, Told, is_conflict, is_retrieved, is_saved}
 use Rattle.sn_conflict.specs.Checks.{HasItsStrings}
 use Rattle.sn_conflict.specs.declared.meeting.Meeting.{Meeting}
 use Rattle.sn_conflict.specs.declared.meeting.Meeting.TheVariants as meeting

@@ -1,9 +1,9 @@
 -- What one version of an answer makes of a row without a draft, or of an item without a row: it has no move.
 use Rattle.std.proofs.Common.{◌≡◌, ◌<◌, ℕ, [], ◌∷◌, Option, None, refl, sym, ap, ◌∙◌, subst, arith}
 use Rattle.sn_account.specs.Tells.{IsStored}
-use Rattle.sn_client.specs.Laws.{AreStanding}
-use Rattle.sn_client.specs.States.{Columns, HasItem, IsFree, columns}
-use Rattle.sn_client.specs.Taking.{MakesRow, Progress, TakesBody}
+use Rattle.sn_device.specs.Laws.{AreStanding}
+use Rattle.sn_device.specs.States.{Columns, HasItem, IsFree, columns}
+use Rattle.sn_device.specs.Taking.{MakesRow, Progress, TakesBody}
 use Rattle.sn_laws.specs.Lookups.{Bytes, draft_at, greatest}
 use Rattle.sn_laws.specs.declared.ideal.Account.{Account}
 use Rattle.sn_laws.specs.declared.ideal.Device.{Device}

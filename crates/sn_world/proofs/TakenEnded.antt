@@ -2,9 +2,9 @@
 use Rattle.std.proofs.Common.{◌≡◌, ℕ, [], ◌∷◌, ◌++◌, Some, None, sym, ap, subst}
 use Rattle.std.specs.Prelude.{IsTrue}
 use Rattle.sn_account.specs.Tells.{IsStored}
-use Rattle.sn_client.specs.Laws.{AreStanding}
-use Rattle.sn_client.specs.States.{HasItem}
-use Rattle.sn_client.specs.Taking.{Progress, TakesBody}
+use Rattle.sn_device.specs.Laws.{AreStanding}
+use Rattle.sn_device.specs.States.{HasItem}
+use Rattle.sn_device.specs.Taking.{Progress, TakesBody}
 use Rattle.sn_laws.specs.Lookups.{Bytes}
 use Rattle.sn_laws.specs.Moves.{after, allows}
 use Rattle.sn_laws.specs.declared.ideal.Account.{Account}

@@ -2,9 +2,9 @@
 use Rattle.std.proofs.Common.{◌≡◌, ◌≢◌, ◌<◌, ℕ, List, [], ◌∷◌, ◌++◌, Some, None, true, false, refl, sym, ap, ◌∙◌, subst, append_assoc, arith}
 use Rattle.std.specs.Prelude.{IsTrue}
 use Rattle.sn_account.specs.Tells.{IsStored}
-use Rattle.sn_client.specs.Laws.{AreStanding}
-use Rattle.sn_client.specs.States.{HasItem}
-use Rattle.sn_client.specs.Taking.{Copies, Progress, TakesBody}
+use Rattle.sn_device.specs.Laws.{AreStanding}
+use Rattle.sn_device.specs.States.{HasItem}
+use Rattle.sn_device.specs.Taking.{Copies, Progress, TakesBody}
 use Rattle.sn_conflict.specs.Meetings.{MeetsText}
 use Rattle.sn_laws.proofs.Facts.{found_passes, one_there}
 use Rattle.sn_laws.specs.Lookups.{Bytes, draft_at, greatest, is_draft}

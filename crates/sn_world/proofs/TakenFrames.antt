@@ -3,9 +3,9 @@ use Rattle.std.proofs.Common.{◌≡◌, ◌≢◌, ℕ, List, [], ◌∷◌, �
 use mathlib.Core.Path.{fun_ext}
 use Rattle.std.proofs.lemmas.List.{append-nil}
 use Rattle.std.specs.Prelude.{IsSome}
-use Rattle.sn_client.specs.Laws.{AreStanding}
-use Rattle.sn_client.specs.States.{Columns, HasItem, HasLocal, HasSets}
-use Rattle.sn_client.specs.Taking.{Progress}
+use Rattle.sn_device.specs.Laws.{AreStanding}
+use Rattle.sn_device.specs.States.{Columns, HasItem, HasLocal, HasSets, IsInSlot, IsSoundItem}
+use Rattle.sn_device.specs.Taking.{Progress}
 use Rattle.sn_laws.specs.Lookups.{Bytes}
 use Rattle.sn_laws.specs.Runs.{LegalFrom, end_from}
 use Rattle.sn_laws.specs.declared.ideal.Account.{Account}
@@ -27,7 +27,6 @@ use Rattle.sn_shows.specs.Servers.{ShowsAccounts, account_at}
 use Rattle.sn_sync.specs.declared.item.Item.{Item}
 use Rattle.sn_world.specs.Holds.{NumbersOf, Reached}
 use Rattle.std.specs.Prelude.{find}
-use Rattle.sn_client.specs.States.{IsInSlot, IsSoundItem}
 use Rattle.sn_laws.proofs.Facts.{end_from-append}
 use Rattle.sn_laws.specs.Lookups.{is_account, is_device}
 use Rattle.sn_laws.specs.declared.ideal.Draft.{Draft}

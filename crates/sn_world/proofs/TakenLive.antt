@@ -2,8 +2,8 @@
 use Rattle.std.proofs.Common.{◌≡◌, ◌≢◌, ℕ, List, [], ◌∷◌, Option, Some, None, false, refl, sym, ap, ◌∙◌, subst, inl, inr, ⊎_elim, arith}
 use Rattle.sn_account.specs.Incoming.{Names}
 use Rattle.sn_account.specs.Tells.{IsSavedOf, IsStored}
-use Rattle.sn_client.specs.Sending.{SaysBase, first_some, message_body}
-use Rattle.sn_client.specs.States.{HasItem}
+use Rattle.sn_device.specs.Sending.{SaysBase, first_some, message_body}
+use Rattle.sn_device.specs.States.{HasItem}
 use Rattle.sn_conflict.specs.Meetings.{HasContentOf, IsKnown, PostedHasContent}
 use Rattle.sn_laws.proofs.Facts.{one_there}
 use Rattle.sn_laws.specs.Lookups.{Bytes}

@@ -2,10 +2,10 @@
 use Rattle.std.proofs.Common.{◌≡◌, ℕ, Option, Some, None, sym, ap, ◌∙◌, subst}
 use Rattle.rand_chacha.specs.ChaCha.{ChaCha}
 use Rattle.sn_account.specs.Tells.{IsStored}
-use Rattle.sn_client.specs.Laws.{StayStanding}
-use Rattle.sn_client.specs.Sending.{PutsColumns}
-use Rattle.sn_client.specs.States.{Columns, HasItem}
-use Rattle.sn_client.specs.Taking.{Progress, StandsOn}
+use Rattle.sn_device.specs.Laws.{StayStanding}
+use Rattle.sn_device.specs.Sending.{PutsColumns}
+use Rattle.sn_device.specs.States.{Columns, HasItem}
+use Rattle.sn_device.specs.Taking.{Progress, StandsOn}
 use Rattle.sn_items.specs.ItemLaws.{OneContent}
 use Rattle.sn_laws.proofs.Facts.{one_there}
 use Rattle.sn_laws.specs.Laws.{VersionsRise}

@@ -1,9 +1,9 @@
 -- What one version of an answer makes of a device's rows and of the ideal state: the cases of its meeting.
 use Rattle.std.proofs.Common.{◌≡◌, ℕ, List, [], ◌∷◌, Some, None, Bool, true, false, refl, sym, ap, subst, inl, inr}
 use Rattle.sn_account.specs.Tells.{IsSavedOf, IsStored}
-use Rattle.sn_client.specs.Laws.{AreStanding}
-use Rattle.sn_client.specs.States.{HasItem}
-use Rattle.sn_client.specs.Taking.{Copies, Progress, TakesVersion}
+use Rattle.sn_device.specs.Laws.{AreStanding}
+use Rattle.sn_device.specs.States.{HasItem}
+use Rattle.sn_device.specs.Taking.{Copies, Progress, TakesVersion}
 use Rattle.sn_conflict.specs.Meetings.{IsKnown, MeetsDeletion, MeetsOwn, MeetsText, PostedHasContent}
 use Rattle.sn_conflict.specs.declared.meeting.Meeting.TheVariants as meeting
 use Rattle.sn_laws.specs.Lookups.{Bytes}

@@ -3,10 +3,10 @@ use Rattle.std.proofs.Common.{◌≡◌, ◌≢◌, ℕ, [], ◌∷◌, Some, No
 use Rattle.std.specs.Prelude.{IsTrue}
 use Rattle.rand_chacha.specs.ChaCha.{ChaCha}
 use Rattle.sn_account.specs.Tells.{IsStored}
-use Rattle.sn_client.specs.Laws.{AreStanding}
-use Rattle.sn_client.specs.Sending.{PutsColumns}
-use Rattle.sn_client.specs.States.{Columns, HasItem}
-use Rattle.sn_client.specs.Taking.{Progress, StandsOn, TakesBody}
+use Rattle.sn_device.specs.Laws.{AreStanding}
+use Rattle.sn_device.specs.Sending.{PutsColumns}
+use Rattle.sn_device.specs.States.{Columns, HasItem}
+use Rattle.sn_device.specs.Taking.{Progress, StandsOn, TakesBody}
 use Rattle.sn_conflict.specs.Meetings.{HasContentOf, MeetsPosted}
 use Rattle.sn_laws.proofs.Facts.{one_there}
 use Rattle.sn_laws.specs.Lookups.{Bytes, draft_at, greatest, is_draft}

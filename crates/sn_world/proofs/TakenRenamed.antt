@@ -3,11 +3,11 @@ use Rattle.std.proofs.Common.{◌≡◌, ◌≢◌, ℕ, List, [], ◌∷◌, �
 use Rattle.std.specs.Prelude.{IsTrue}
 use Rattle.rand_chacha.specs.ChaCha.{ChaCha}
 use Rattle.sn_account.specs.Tells.{IsOthers}
-use Rattle.sn_client.specs.Draws.{DrawsFresh}
-use Rattle.sn_client.specs.Laws.{AreStanding}
-use Rattle.sn_client.specs.Sending.{PutsColumns}
-use Rattle.sn_client.specs.States.{HasLocal}
-use Rattle.sn_client.specs.Taking.{Progress, Renames, new_columns}
+use Rattle.sn_device.specs.Draws.{DrawsFresh}
+use Rattle.sn_device.specs.Laws.{AreStanding}
+use Rattle.sn_device.specs.Sending.{PutsColumns}
+use Rattle.sn_device.specs.States.{HasLocal}
+use Rattle.sn_device.specs.Taking.{Progress, Renames, new_columns}
 use Rattle.sn_laws.proofs.Facts.{allowed_to, last_among, one_there}
 use Rattle.sn_laws.specs.Each.{One}
 use Rattle.sn_laws.specs.Lookups.{Bytes, draft_at, greatest, is_draft}

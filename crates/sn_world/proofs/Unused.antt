@@ -2,8 +2,8 @@
 use Rattle.std.proofs.Common.{◌≡◌, ◌<◌, ℕ, List, [], ◌∷◌, map, Option, Some, Bool, true, false, refl, sym, ap, ◌∙◌, subst, inl, inr, ⊎_elim, arith}
 use Rattle.std.specs.Prelude.{IsTrue}
 use Rattle.sn_adopted.specs.Moves.{OlderStale}
-use Rattle.sn_client.specs.States.{HasItem}
-use Rattle.sn_client.specs.Steps.{AllFinished}
+use Rattle.sn_device.specs.States.{HasItem}
+use Rattle.sn_device.specs.Steps.{AllFinished}
 use Rattle.sn_laws.proofs.Facts.{allowed_to}
 use Rattle.sn_laws.specs.Each.{Each, One}
 use Rattle.sn_laws.specs.Laws.{Rises, VersionsRise}

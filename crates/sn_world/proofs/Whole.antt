@@ -2,9 +2,9 @@
 use Rattle.std.proofs.Common.{◌≡◌, ◌⊎◌, ◌≤◌, ℕ, List, [], ◌∷◌, ◌++◌, Option, Some, None, Bool, true, false, refl, sym, ap, ◌∙◌, subst, inl, inr}
 use Rattle.std.specs.Prelude.{find}
 use Rattle.sn_adopted.specs.Moves.{IsRetiring}
-use Rattle.sn_client.specs.Steps.{Retires}
-use Rattle.sn_client.specs.States.{HasOwner, OwnerColumns, token_of}
-use Rattle.sn_client.specs.Taking.{Progress, Renames, Told, is_conflict, is_retrieved, is_saved}
+use Rattle.sn_device.specs.Steps.{Retires}
+use Rattle.sn_device.specs.States.{HasOwner, OwnerColumns, token_of}
+use Rattle.sn_device.specs.Taking.{Progress, Renames, Told, is_conflict, is_retrieved, is_saved}
 use Rattle.sn_conflict.specs.declared.meeting.Meeting.{Meeting}
 use Rattle.sn_conflict.specs.declared.meeting.Meeting.TheVariants as meeting
 use Rattle.sn_laws.proofs.Facts.{end_from-append, one_there, retired}

@@ -8,13 +8,13 @@ use Rattle.sn_account.specs.Lookups.{HasStore}
 use Rattle.sn_account.specs.Rules.{IsPresent}
 use Rattle.sn_account.specs.Sessions.{IsSession}
 use Rattle.sn_account.specs.Syncs.{start as before_first}
-use Rattle.sn_client.specs.Asking.{said, session_of}
-use Rattle.sn_client.specs.Runs.{Act, AreRounds, Halt, IsDone, IsDue, Round, Run, Sends, Standing, acts_of, answered, asked, broken, commits as committed, items_of, most_exchanges, nothing, posting, refused, sync}
-use Rattle.sn_client.specs.States.{HasOwner, HasSets}
-use Rattle.sn_client.specs.Steps.{What, start}
-use Rattle.sn_client.specs.Taking.{RunsOut, told_by}
-use Rattle.sn_client.specs.declared.error.ClientError.{ClientError}
-use Rattle.sn_client.specs.declared.error.ClientError.TheVariants as refusal
+use Rattle.sn_device.specs.Asking.{said, session_of}
+use Rattle.sn_device.specs.Runs.{Act, AreRounds, Halt, IsDone, IsDue, Round, Run, Sends, Standing, acts_of, answered, asked, broken, commits as committed, items_of, most_exchanges, nothing, posting, refused, sync}
+use Rattle.sn_device.specs.States.{HasOwner, HasSets}
+use Rattle.sn_device.specs.Steps.{What, start}
+use Rattle.sn_device.specs.Taking.{RunsOut, told_by}
+use Rattle.sn_device.specs.declared.error.ClientError.{ClientError}
+use Rattle.sn_device.specs.declared.error.ClientError.TheVariants as refusal
 use Rattle.sn_conflict.specs.Checks.{Passes}
 use Rattle.sn_laws.specs.Each.{Each}
 use Rattle.sn_laws.specs.Lookups.{Bytes, empty}

@@ -5,10 +5,10 @@ use Rattle.std.specs.List.{Contains}
 use Rattle.rand_chacha.specs.ChaCha.{ChaCha}
 use Rattle.sn_account.specs.Syncs.{IsStampOf, above_of, is_first}
 use Rattle.sn_account.specs.Tells.{TellsRows}
-use Rattle.sn_client.specs.States.{HasItem, HasOwner, HasSets, IsFree, owner_columns, token_of}
+use Rattle.sn_device.specs.States.{HasItem, HasOwner, HasSets, IsFree, owner_columns, token_of}
 use Rattle.sn_adopted.specs.Moves.{IsRetiring}
-use Rattle.sn_client.specs.Steps.{PutsOwner, Retires, start, with_tokens}
-use Rattle.sn_client.specs.Taking.{Copies, MakesRow, Meets, Progress, Renames, TakesVersion, Told, is_conflict, is_retrieved, is_saved, told_by}
+use Rattle.sn_device.specs.Steps.{PutsOwner, Retires, start, with_tokens}
+use Rattle.sn_device.specs.Taking.{Copies, MakesRow, Meets, Progress, Renames, TakesVersion, Told, is_conflict, is_retrieved, is_saved, told_by}
 use Rattle.sn_conflict.specs.Meetings.{MeetsAs}
 use Rattle.sn_conflict.specs.declared.meeting.Meeting.{Meeting}
 use Rattle.sn_conflict.specs.declared.meeting.Meeting.TheVariants as meeting

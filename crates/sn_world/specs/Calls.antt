@@ -1,9 +1,9 @@
 -- A whole call of a device as steps of the world, whatever is lost on the way.
 use Rattle.std.specs.Prelude.{◌≡◌, ◌⊎◌, ℕ, List, [], ◌∷◌, ◌++◌, Bool, true, false, Option, Some, None}
 use Rattle.sn_account.specs.Rule.{Rule}
-use Rattle.sn_client.specs.Asking.{Reply, lost, said, unheard, unread}
-use Rattle.sn_client.specs.Runs.{Act, Call, Halt, Run, answered, asked, broken, commits as committed, content, delete, edit, list, passwd, put, refused, register, rows_done, sign_in, sync}
-use Rattle.sn_client.specs.States.{HasOwner, IsInSlot}
+use Rattle.sn_device.specs.Asking.{Reply, lost, said, unheard, unread}
+use Rattle.sn_device.specs.Runs.{Act, Call, Halt, Run, answered, asked, broken, commits as committed, content, delete, edit, list, passwd, put, refused, register, rows_done, sign_in, sync}
+use Rattle.sn_device.specs.States.{HasOwner, IsInSlot}
 use Rattle.sn_keys.specs.Keys.{AreKeysOf}
 use Rattle.sn_laws.specs.Lookups.{Bytes}
 use Rattle.sn_laws.specs.declared.ideal.Ideal.{Ideal}

@@ -21,10 +21,10 @@ use Rattle.sn_shows.specs.Laws.{HasAccount}
 use Rattle.sn_shows.specs.Servers.{account_at}
 use Rattle.sn_shows.specs.Sets.{set_at}
 use Rattle.sn_string.specs.declared.params.KeySet.{KeySet}
-use Rattle.sn_client.specs.Listing.{AreItems}
-use Rattle.sn_client.specs.Sending.{Numbered}
-use Rattle.sn_client.specs.States.{HasItem, HasLocal}
-use Rattle.sn_client.specs.Steps.{IsUnknown, Step, What, adopts, applies, asks, begins, deletes, edits, forgets, posts, puts, renews}
+use Rattle.sn_device.specs.Listing.{AreItems}
+use Rattle.sn_device.specs.Sending.{Numbered}
+use Rattle.sn_device.specs.States.{HasItem, HasLocal}
+use Rattle.sn_device.specs.Steps.{IsUnknown, Step, What, adopts, applies, asks, begins, deletes, edits, forgets, posts, puts, renews}
 use Rattle.sn_world.specs.Applying.{MayApply, SaysAnswer}
 use Rattle.sn_world.specs.World.{OnDevice, World}
 

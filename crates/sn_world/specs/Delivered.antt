@@ -3,8 +3,8 @@ use Rattle.std.specs.Prelude.{◌≡◌, ℕ, List, [], ◌∷◌, ◌++◌, Opt
 use Rattle.rand_chacha.specs.ChaCha.{ChaCha}
 use Rattle.sn_account.specs.Lookups.{HasStore}
 use Rattle.sn_account.specs.Rule.{Rule}
-use Rattle.sn_client.specs.Asking.{Reply, unheard}
-use Rattle.sn_client.specs.Runs.{Act, Call, Given, Halt, Run, answered, asked, commits as committed, content, delete, edit, list, passwd, put, register, rows_done, sign_in, sync}
+use Rattle.sn_device.specs.Asking.{Reply, unheard}
+use Rattle.sn_device.specs.Runs.{Act, Call, Given, Halt, Run, answered, asked, commits as committed, content, delete, edit, list, passwd, put, register, rows_done, sign_in, sync}
 use Rattle.sn_laws.specs.Each.{Each}
 use Rattle.sn_laws.specs.Lookups.{Bytes, empty}
 use Rattle.sn_laws.specs.Runs.{Legal, end, end_from}

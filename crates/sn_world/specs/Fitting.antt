@@ -2,9 +2,9 @@
 use Rattle.std.specs.Prelude.{◌≡◌, ℕ, List, [], ◌∷◌, ◌++◌}
 use Rattle.std.specs.Str.{IsUtf8}
 use Rattle.rand_chacha.specs.ChaCha.{ChaCha}
-use Rattle.sn_client.specs.Runs.{Act, Call, Halt, Run, Sends, asked, commits as committed, content, delete, edit, list, passwd, put, register, rows_done, sign_in, sync}
-use Rattle.sn_client.specs.States.{HasLocal, HasSet, IsSound}
-use Rattle.sn_client.specs.Steps.{Step, What, adopts, applies, asks, begins, deletes, edits, forgets, posts, puts, renews}
+use Rattle.sn_device.specs.Runs.{Act, Call, Halt, Run, Sends, asked, commits as committed, content, delete, edit, list, passwd, put, register, rows_done, sign_in, sync}
+use Rattle.sn_device.specs.States.{HasLocal, HasSet, IsSound}
+use Rattle.sn_device.specs.Steps.{Step, What, adopts, applies, asks, begins, deletes, edits, forgets, posts, puts, renews}
 use Rattle.sn_rows.specs.Table.{Rows, no_rows, rows_after}
 use Rattle.sn_rows.specs.declared.change.Change.{Change}
 use Rattle.sn_rows.specs.declared.device_rows.LocalItem.{LocalItem}

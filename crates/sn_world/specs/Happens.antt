@@ -10,7 +10,7 @@ use Rattle.sn_world.specs.Committing.{Commits, MayCommit, SaysCommit}
 use Rattle.sn_world.specs.First.{Starts}
 use Rattle.sn_world.specs.Making.{MakesRequest}
 use Rattle.sn_world.specs.Serving.{SaysServed, Serves}
-use Rattle.sn_client.specs.Steps.{What}
+use Rattle.sn_device.specs.Steps.{What}
 use Rattle.sn_world.specs.World.{Made, World}
 
 -- one step; a commit that a crash takes away doesn't stand

@@ -27,7 +27,7 @@ use Rattle.sn_sync.specs.declared.item.Item.{Item}
 use Rattle.sn_sync.specs.declared.request.Request.TheVariants as request
 use Rattle.sn_world.specs.Live.{KnownBelow, LiveItems}
 use Rattle.sn_world.specs.Pulled.{BasesPulled, PulledTo}
-use Rattle.sn_client.specs.States.{HasOwner, IsSound, token_of}
+use Rattle.sn_device.specs.States.{HasOwner, IsSound, token_of}
 use Rattle.sn_world.specs.World.{IsMade, Made, World}
 
 -- ---- the premise

@@ -28,13 +28,13 @@ use Rattle.sn_sync.specs.declared.request.Request.{Request}
 use Rattle.sn_sync.specs.declared.request.Request.TheVariants as request
 use Rattle.sn_sync.specs.declared.answer.Conflict.{Conflict}
 use Rattle.sn_sync.specs.declared.item.Item.{Item}
-use Rattle.sn_client.specs.Runs.{Sends, items_of}
+use Rattle.sn_device.specs.Runs.{Sends, items_of}
 use Rattle.sn_rows.specs.Table.{Rows, rows_after}
 use Rattle.sn_world.specs.Committing.{AreDifferent, Commits, MayAdopt, MayBegin, MayCommit, MayRenew, SaysCommit}
 use Rattle.sn_world.specs.Settling.{MeetsOwnLast, TakesLast}
-use Rattle.sn_client.specs.States.{HasOwner, HasSets, IsSound, token_of}
+use Rattle.sn_device.specs.States.{HasOwner, HasSets, IsSound, token_of}
 use Rattle.sn_sets.specs.declared.sets.Sets.{Sets}
-use Rattle.sn_client.specs.Steps.{What, applies}
+use Rattle.sn_device.specs.Steps.{What, applies}
 use Rattle.sn_world.specs.First.{Starts}
 use Rattle.sn_world.specs.Happens.{Does, Happens, Says, Trace}
 use Rattle.sn_world.specs.Holds.{Holds, IsSync, TokensDiffer}

@@ -17,8 +17,8 @@ use Rattle.sn_shows.specs.Servers.{account_at}
 use Rattle.sn_sync.specs.Stamps.{IsStampText}
 use Rattle.sn_sync.specs.Versions.{NamesStamp}
 use Rattle.sn_sync.specs.declared.item.Item.{Item}
-use Rattle.sn_client.specs.Sending.{SaysBase, message_body}
-use Rattle.sn_client.specs.States.{HasLocal}
+use Rattle.sn_device.specs.Sending.{SaysBase, message_body}
+use Rattle.sn_device.specs.States.{HasLocal}
 
 -- ---- where the server has this of the item's uuid, or nothing
 

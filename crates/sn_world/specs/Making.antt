@@ -19,9 +19,9 @@ use Rattle.sn_sync.specs.declared.request.Request.{Request}
 use Rattle.sn_sync.specs.declared.request.Request.TheVariants as request
 use Rattle.sn_world.specs.Holds.{Reached}
 use Rattle.sn_world.specs.Live.{KnownBelow, LiveItem}
-use Rattle.sn_client.specs.Sending.{IsSentAs}
-use Rattle.sn_client.specs.States.{HasLocal, HasOwner, HasSets, token_of}
-use Rattle.sn_client.specs.Runs.{change_to}
+use Rattle.sn_device.specs.Sending.{IsSentAs}
+use Rattle.sn_device.specs.States.{HasLocal, HasOwner, HasSets, token_of}
+use Rattle.sn_device.specs.Runs.{change_to}
 use Rattle.sn_world.specs.World.{Made, World}
 
 -- the item is sent of a row, as what was posted of it

@@ -21,8 +21,8 @@ use Rattle.sn_string.specs.declared.params.KeySet.{KeySet}
 use Rattle.sn_sync.specs.declared.answer.Answer.{Answer}
 use Rattle.sn_sync.specs.declared.request.Request.{Request}
 use Rattle.sn_sync.specs.declared.request.Request.TheVariants as request
-use Rattle.sn_client.specs.States.{HasLocal}
-use Rattle.sn_client.specs.Steps.{What, asks}
+use Rattle.sn_device.specs.States.{HasLocal}
+use Rattle.sn_device.specs.Steps.{What, asks}
 use Rattle.sn_world.specs.Happens.{Does, Happens, Says, commits, makes, serves, starts}
 use Rattle.sn_world.specs.Holds.{Holds, TokensDiffer}
 use Rattle.sn_world.specs.Serving.{SaysServed, Serves, generation_of, number_of, registers_in}

@@ -1,6 +1,6 @@
 -- How far a device has pulled: up to its sync token's stamp its rows are the account's last versions.
 use Rattle.std.specs.Prelude.{◌≡◌, ℕ, ◌≤◌, List, Option, Some, None}
-use Rattle.sn_client.specs.States.{HasItem, HasLocal, HasOwner, token_of}
+use Rattle.sn_device.specs.States.{HasItem, HasLocal, HasOwner, token_of}
 use Rattle.sn_laws.specs.Lookups.{Bytes, last_of}
 use Rattle.sn_laws.specs.Relation.{IsLive}
 use Rattle.sn_laws.specs.declared.ideal.Account.{Account}

@@ -1,8 +1,8 @@
 -- A round of a device's sync as steps of the world.
 use Rattle.std.specs.Prelude.{◌≡◌, ℕ, List, [], ◌∷◌, ◌++◌, true, None}
 use Rattle.sn_account.specs.Rule.{Rule}
-use Rattle.sn_client.specs.Runs.{IsRound, Round, Standing}
-use Rattle.sn_client.specs.Steps.{applies, posts}
+use Rattle.sn_device.specs.Runs.{IsRound, Round, Standing}
+use Rattle.sn_device.specs.Steps.{applies, posts}
 use Rattle.sn_laws.specs.Lookups.{Bytes}
 use Rattle.sn_laws.specs.declared.ideal.Ideal.{Ideal}
 use Rattle.sn_laws.specs.declared.moves.Move.{Move}

@@ -2,8 +2,8 @@
 use Rattle.std.specs.Prelude.{◌≡◌, ◌⊎◌, ℕ, List, [], ◌∷◌, ◌++◌, Bool, true, false, Option, Some, None}
 use Rattle.sn_account.specs.Rule.{Rule}
 use Rattle.sn_account.specs.Stored.{body_of}
-use Rattle.sn_client.specs.Sending.{message_body}
-use Rattle.sn_client.specs.States.{HasItem}
+use Rattle.sn_device.specs.Sending.{message_body}
+use Rattle.sn_device.specs.States.{HasItem}
 use Rattle.sn_laws.specs.Lookups.{Bytes}
 use Rattle.sn_laws.specs.declared.moves.Move.{Move}
 use Rattle.sn_laws.specs.declared.moves.Move.TheVariants.{Accept, Register, Rewrap}

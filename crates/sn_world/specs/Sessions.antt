@@ -4,8 +4,8 @@ use Rattle.std.specs.Prelude.{◌≡◌, ℕ, List, [], ◌∷◌, ◌++◌, Boo
 use Rattle.std.specs.Str.{bytes_eq}
 use Rattle.rand_chacha.specs.ChaCha.{ChaCha}
 use Rattle.sn_account.specs.Lookups.{HasStore}
-use Rattle.sn_client.specs.Asking.{unheard}
-use Rattle.sn_client.specs.Runs.{Act, Call, Halt, Run, answered, broken, content, delete, edit, list, passwd, put, refused, register, rows_done, sign_in, sync}
+use Rattle.sn_device.specs.Asking.{unheard}
+use Rattle.sn_device.specs.Runs.{Act, Call, Halt, Run, answered, broken, content, delete, edit, list, passwd, put, refused, register, rows_done, sign_in, sync}
 use Rattle.sn_laws.specs.Lookups.{Bytes, empty}
 use Rattle.sn_laws.specs.Runs.{Legal, end, end_from}
 use Rattle.sn_laws.specs.declared.ideal.Ideal.{Ideal}

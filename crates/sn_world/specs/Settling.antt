@@ -27,9 +27,9 @@ use Rattle.sn_sync.specs.declared.item.Item.{Item}
 use Rattle.sn_world.specs.Live.{LiveItem}
 use Rattle.sn_world.specs.Making.{IsSentBy}
 use Rattle.sn_world.specs.Pulled.{PulledAt}
-use Rattle.sn_client.specs.Sending.{PutsColumns}
-use Rattle.sn_client.specs.States.{Columns, HasItem, HasLocal, HasSets}
-use Rattle.sn_client.specs.Taking.{StandsOn}
+use Rattle.sn_device.specs.Sending.{PutsColumns}
+use Rattle.sn_device.specs.States.{Columns, HasItem, HasLocal, HasSets}
+use Rattle.sn_device.specs.Taking.{StandsOn}
 
 -- strings open under one of an account's sets at most
 abbrev pub OneSet : List KeySet → Type 0

@@ -1,7 +1,7 @@
 -- A sync that is answered: its device has just the items of its account.
 use Rattle.std.specs.Prelude.{◌≡◌, ℕ, List, None}
 use Rattle.rand_chacha.specs.ChaCha.{ChaCha}
-use Rattle.sn_client.specs.Runs.{Act, Given, Run, answered, rows_done, sync}
+use Rattle.sn_device.specs.Runs.{Act, Given, Run, answered, rows_done, sync}
 use Rattle.sn_laws.specs.Lookups.{Bytes, draft_at}
 use Rattle.sn_laws.specs.Runs.{end_from}
 use Rattle.sn_laws.specs.declared.ideal.Account.{Account}

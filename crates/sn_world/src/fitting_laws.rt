@@ -6,7 +6,7 @@ ghost use Rattle.sn_world.specs.Fitting.{FreshFits, RequestsFit, RunsStayFitting
 
 use crate::laws::{calls_go, keeps, registers_go, sign_ins_go, syncs_end, syncs_go};
 use crate::plain_laws::{keeps_plain, lines_go, plain_first};
-use sn_client::{fresh_is_sound, runs_by_steps, steps_stay_sound};
+use sn_device::{fresh_is_sound, runs_by_steps, steps_stay_sound};
 
 /// A fresh device's rows are such that its requests are within their bounds.
 pub fn fresh_fits()

@@ -16,7 +16,7 @@ use sn_changed::leaving_laws::{
     change_lasts, change_leaves, change_on_last, item_owner, rewrap_leaves, version_lasts,
     version_on_last,
 };
-use sn_client::{fresh_is_sound, stay_standing, steps_stay_sound};
+use sn_device::{fresh_is_sound, stay_standing, steps_stay_sound};
 use sn_items::one_content;
 use sn_laws::laws::versions_rise;
 use sn_laws::state_laws::{deletions_stay, numbers_held};

@@ -1,7 +1,7 @@
 use Rattle.std.proofs.Common.{[], refl}
 use Rattle.rand_chacha.specs.ChaCha.{ChaCha}
 use Rattle.sn_client.specs.Calls.{device_rows}
-use Rattle.sn_client.specs.Runs.{a_text, a_uuid, content, delete, edit, lines, list, nothing, put}
+use Rattle.sn_device.specs.Runs.{a_text, a_uuid, content, delete, edit, lines, list, nothing, put}
 use Rattle.std.specs.Prelude.{string_bytes}
 use Rattle.sn_calls.specs.declared.device_call.DeviceCall.TheVariants as asked
 use Rattle.sn_calls.specs.declared.ends.Answered.TheVariants as answer

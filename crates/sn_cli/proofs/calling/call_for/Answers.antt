@@ -7,7 +7,7 @@ use Rattle.sn_cli.specs.DeviceCalls.{IsPassword, TakesPassword, call_for, first_
 use Rattle.sn_command.specs.DeviceLines.{HasTaskBounds, Task}
 use Rattle.sn_command.specs.declared.device_line.DeviceCommand.{DeviceCommand}
 use Rattle.sn_command.specs.declared.device_line.DeviceCommand.TheVariants as device
-use Rattle.sn_client.specs.Runs as call
+use Rattle.sn_device.specs.Runs as call
 use Rattle.sn_cli.proofs.calling.call_for.Goals as goal
 
 -- the call is that of the task and of the text of which the content was kept

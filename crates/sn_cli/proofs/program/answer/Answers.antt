@@ -5,7 +5,7 @@ use Rattle.sn_command.specs.Commands.{IsCommand, device_line, gen_line, open_lin
 use Rattle.sn_cli.specs.Runs.{AreLeft}
 use Rattle.sn_command.specs.Words.{texts}
 use Rattle.sn_status.specs.declared.status.Status.{Status}
-use Rattle.sn_client.specs.Runs.{Call}
+use Rattle.sn_device.specs.Runs.{Call}
 use Rattle.sn_cli.proofs.DeviceRuns.{has_bounds}
 use Rattle.sn_cli.proofs.MeetsLemmas.{IsLeft, answered, called_so, generated, opened, replayed, sealed, served_so, shown, wanted}
 use Rattle.sn_command.proofs.Facts.{other_command}

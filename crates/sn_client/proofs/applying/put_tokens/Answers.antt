@@ -1,6 +1,6 @@
 use Rattle.std.proofs.Common.{◌∙◌}
-use Rattle.sn_client.specs.States.{owner_columns}
-use Rattle.sn_client.specs.Steps.{with_tokens}
+use Rattle.sn_device.specs.States.{owner_columns}
+use Rattle.sn_device.specs.Steps.{with_tokens}
 use Rattle.sn_client.proofs.ChangeLemmas.{puts_owner}
 use Rattle.sn_client.proofs.applying.put_tokens.Goals as goal
 

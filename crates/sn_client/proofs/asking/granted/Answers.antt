@@ -1,7 +1,7 @@
 use Rattle.std.proofs.Common.{refl, subst, sym}
 use Rattle.sn_sync.specs.declared.answer.Answer.{Answer}
-use Rattle.sn_client.specs.Asking.{Fails, said}
-use Rattle.sn_client.specs.declared.error.ClientError.TheVariants as refusal
+use Rattle.sn_device.specs.Asking.{Fails, said}
+use Rattle.sn_device.specs.declared.error.ClientError.TheVariants as refusal
 use Rattle.sn_client.proofs.AskLemmas.{granted_else}
 use Rattle.sn_client.proofs.asking.granted.Goals as goal
 

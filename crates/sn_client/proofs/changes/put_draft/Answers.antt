@@ -1,6 +1,6 @@
 use Rattle.std.specs.Prelude.{Some}
-use Rattle.sn_client.specs.States.{columns}
-use Rattle.sn_client.specs.Steps.{drafted}
+use Rattle.sn_device.specs.States.{columns}
+use Rattle.sn_device.specs.Steps.{drafted}
 use Rattle.sn_client.proofs.ChangeLemmas.{puts_columns}
 use Rattle.sn_client.proofs.changes.put_draft.Goals as goal
 

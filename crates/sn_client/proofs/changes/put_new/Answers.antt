@@ -1,5 +1,5 @@
 use Rattle.std.proofs.Common.{◌∙◌}
-use Rattle.sn_client.specs.Taking.{new_columns}
+use Rattle.sn_device.specs.Taking.{new_columns}
 use Rattle.sn_client.proofs.ChangeLemmas.{puts_columns}
 use Rattle.sn_client.proofs.changes.put_new.Goals as goal
 

@@ -1,7 +1,7 @@
 use Rattle.std.proofs.Common.{ap}
 use Rattle.sn_rows.specs.declared.device_rows.OwnerRow.{OwnerRow}
-use Rattle.sn_client.specs.States.{owner_columns}
-use Rattle.sn_client.specs.Steps.{with_next}
+use Rattle.sn_device.specs.States.{owner_columns}
+use Rattle.sn_device.specs.Steps.{with_next}
 use Rattle.sn_client.proofs.ChangeLemmas.{puts_owner}
 use Rattle.sn_client.proofs.changes.put_next.Goals as goal
 

@@ -3,7 +3,7 @@ use Rattle.sn_rekey.specs.Carrying.{IsOfOther}
 use Rattle.sn_row_map.specs.RowMaps.{row_in}
 use Rattle.sn_row_map.specs.Steps.{lent}
 use Rattle.sn_rows.specs.declared.device_rows.LocalItem.{LocalItem}
-use Rattle.sn_client.specs.Changing.{IsFirstItem}
+use Rattle.sn_device.specs.Changing.{IsFirstItem}
 use Rattle.sn_client.proofs.FirstItems.{found_first, found_local, none_at_all, none_first, none_next}
 use Rattle.sn_client.proofs.IndexLemmas.{walk_shorter}
 use Rattle.sn_client.proofs.changing.first_of_other.Goals as goal

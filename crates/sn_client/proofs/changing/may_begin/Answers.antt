@@ -1,7 +1,7 @@
 use Rattle.std.proofs.Common.{inl, inr, refl}
 use Rattle.sn_row_map.specs.RowMaps.{row_in}
 use Rattle.sn_rekey.specs.declared.error.Running.TheVariants as running
-use Rattle.sn_client.specs.Changing.{NoneRuns}
+use Rattle.sn_device.specs.Changing.{NoneRuns}
 use Rattle.sn_client.proofs.SettledLemmas.{is_nothing}
 use Rattle.sn_client.proofs.changing.may_begin.Goals as goal
 

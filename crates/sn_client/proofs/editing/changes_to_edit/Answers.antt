@@ -2,9 +2,9 @@ use Rattle.std.specs.Prelude.{◌≡◌, string_bytes}
 use Rattle.sn_row_map.specs.RowMaps.{row_in}
 use Rattle.sn_table.specs.Tables.{table_rows}
 use Rattle.sn_client.specs.Calls.{MayRefuse, none_more}
-use Rattle.sn_client.specs.Runs.{IsGone, RunsEdit, WithContent}
-use Rattle.sn_client.specs.declared.error.ClientError.{ClientError}
-use Rattle.sn_client.specs.declared.error.ClientError.TheVariants as refusal
+use Rattle.sn_device.specs.Runs.{IsGone, RunsEdit, WithContent}
+use Rattle.sn_device.specs.declared.error.ClientError.{ClientError}
+use Rattle.sn_device.specs.declared.error.ClientError.TheVariants as refusal
 use Rattle.sn_client.proofs.EditLemmas.{edit_closed, edit_content, edit_gone, edit_made, edit_runs}
 use Rattle.sn_client.proofs.LookLemmas.{RefusesShown, exits}
 use Rattle.sn_client.proofs.editing.changes_to_edit.Goals as goal

@@ -3,7 +3,7 @@ use Rattle.sn_row_map.specs.RowMaps.{row_in}
 use Rattle.sn_table.specs.Tables.{table_rows}
 use Rattle.sn_sets.proofs.Facts.{later_again}
 use Rattle.sn_client.specs.Calls.{MayRefuse, none_more}
-use Rattle.sn_client.specs.Runs.{RunsPut, WithContent}
+use Rattle.sn_device.specs.Runs.{RunsPut, WithContent}
 use Rattle.sn_client.proofs.EditLemmas.{put_content, put_drawn, put_full, put_made, sets_with}
 use Rattle.sn_client.proofs.LookLemmas.{exits}
 use Rattle.sn_client.proofs.editing.changes_to_put.Goals as goal

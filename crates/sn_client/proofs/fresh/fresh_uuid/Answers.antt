@@ -1,9 +1,9 @@
 use Rattle.std.proofs.Common.{IfErr, IfOk, subst, sym}
 use Rattle.sn_row_map.specs.RowMaps.{row_in}
 use Rattle.sn_row_map.specs.declared.row_map.RowMap.{RowMap}
-use Rattle.sn_client.specs.Draws.{DrawsFresh, DrawsNoFresh}
+use Rattle.sn_device.specs.Draws.{DrawsFresh, DrawsNoFresh}
 use Rattle.sn_client.specs.Index.{Indexes}
-use Rattle.sn_client.specs.Taken.{AreApart}
+use Rattle.sn_device.specs.States.{AreApart}
 use Rattle.sn_client.proofs.fresh.fresh_uuid.Goals as goal
 
 pub draw_fresh-requires : goal.draw_fresh-requires

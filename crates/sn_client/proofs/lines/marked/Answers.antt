@@ -1,6 +1,6 @@
 use Rattle.std.proofs.Common.{IfOk, Option, subst, sym}
 use Rattle.sn_rows.specs.declared.body.RowBody.{RowBody}
-use Rattle.sn_client.specs.Listing.{IsMarked}
+use Rattle.sn_device.specs.Listing.{IsMarked}
 use Rattle.sn_client.proofs.lines.marked.Goals as goal
 
 pub returns-in-Some : goal.returns-in-Some

@@ -1,6 +1,6 @@
 use Rattle.std.proofs.Common.{subst}
 use Rattle.sn_rows.specs.declared.device_rows.LocalItem.{LocalItem}
-use Rattle.sn_client.specs.Listing.{IsListed}
+use Rattle.sn_device.specs.Listing.{IsListed}
 use Rattle.sn_client.proofs.ListLemmas.{adds_line}
 use Rattle.sn_client.proofs.lines.push_line.Goals as goal
 

@@ -2,7 +2,7 @@ use Rattle.std.specs.Prelude.{Err}
 use Rattle.std.proofs.Common.{subst}
 use Rattle.sn_string.proofs.Facts.{read_back}
 use Rattle.sn_string.specs.Refusals.{IsRefusal}
-use Rattle.sn_client.specs.States.{Bytes}
+use Rattle.sn_device.specs.States.{Bytes}
 use Rattle.sn_client.proofs.LookLemmas.{says_nonce}
 use Rattle.sn_client.proofs.looking.nonce_of.Goals as goal
 

@@ -1,5 +1,5 @@
 use Rattle.std.proofs.Common.{List, ℕ, ap, inl, inr}
-use Rattle.sn_client.specs.declared.error.ClientError.TheVariants as refusal
+use Rattle.sn_device.specs.declared.error.ClientError.TheVariants as refusal
 use Rattle.sn_client.proofs.registering.refusal.Goals as goal
 
 pub returns-in-Ok-clause-some : goal.returns-in-Ok-clause-some

@@ -5,7 +5,7 @@ use Rattle.sn_row_map.specs.RowMaps.{row_in}
 use Rattle.sn_sets.proofs.Facts.{opened_is_short}
 use Rattle.sn_client.specs.Taken.{HasText}
 use Rattle.sn_client.proofs.RenamedLemmas.{copied, copy_short}
-use Rattle.sn_client.proofs.StateLemmas.{lengths}
+use Rattle.sn_device.proofs.Facts.{lengths}
 use Rattle.sn_client.proofs.renaming.copy_draft.Goals as goal
 
 pub put_anew-requires-clause-kind : goal.put_anew-requires-clause-kind

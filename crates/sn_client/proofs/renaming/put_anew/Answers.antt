@@ -1,7 +1,7 @@
 use Rattle.std.proofs.Common.{List, ℕ, subst}
 use Rattle.sn_sets.proofs.Facts.{later_again}
-use Rattle.sn_client.specs.Sending.{PutsColumns}
-use Rattle.sn_client.specs.Taking.{new_columns}
+use Rattle.sn_device.specs.Sending.{PutsColumns}
+use Rattle.sn_device.specs.Taking.{new_columns}
 use Rattle.sn_client.proofs.renaming.put_anew.Goals as goal
 
 pub returns-in_err-strings-clause-words : goal.returns-in_err-strings-clause-words

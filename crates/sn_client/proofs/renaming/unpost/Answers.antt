@@ -1,6 +1,6 @@
 use Rattle.std.specs.Prelude.{None}
-use Rattle.sn_client.specs.States.{columns}
-use Rattle.sn_client.specs.Taking.{unposted}
+use Rattle.sn_device.specs.States.{columns}
+use Rattle.sn_device.specs.Taking.{unposted}
 use Rattle.sn_client.proofs.ChangeLemmas.{puts_columns}
 use Rattle.sn_client.proofs.renaming.unpost.Goals as goal
 

@@ -6,7 +6,7 @@ use Rattle.sn_rows.specs.Table.{rows_after}
 use Rattle.sn_rows.specs.declared.key.Key.{Key}
 use Rattle.sn_rows.specs.declared.kind.RowKind.TheVariants as kind
 use Rattle.sn_rows.specs.declared.value.Value.{Value}
-use Rattle.sn_client.specs.Steps.{IsFinishedAt}
+use Rattle.sn_device.specs.Steps.{IsFinishedAt}
 use Rattle.sn_client.proofs.IndexLemmas.{walk_begins, walk_ends, walk_goes_on, walk_shorter}
 use Rattle.sn_client.proofs.retiring.are_kept_finished.Goals as goal
 

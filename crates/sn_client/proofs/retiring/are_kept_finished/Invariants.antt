@@ -4,7 +4,7 @@ use Rattle.sn_row_map.specs.RowMaps.{row_in}
 use Rattle.sn_row_map.specs.Steps.{lent}
 use Rattle.sn_rows.specs.Table.{rows_after}
 use Rattle.sn_rows.specs.declared.kind.RowKind.TheVariants as kind
-use Rattle.sn_client.specs.Steps.{IsFinishedAt}
+use Rattle.sn_device.specs.Steps.{IsFinishedAt}
 use Rattle.sn_client.proofs.IndexLemmas.{PassedOrAhead, ahead}
 use Rattle.sn_client.proofs.retiring.are_kept_finished.Given as goal
 

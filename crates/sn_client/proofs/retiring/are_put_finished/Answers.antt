@@ -5,7 +5,7 @@ use Rattle.std.proofs.lemmas.List.Elements.{at_read}
 use Rattle.sn_row_map.specs.RowMaps.{row_in}
 use Rattle.sn_rows.specs.Table.{key_of, rows_after}
 use Rattle.sn_rows.specs.declared.change.Change.{Change}
-use Rattle.sn_client.specs.Steps.{IsFinishedAt}
+use Rattle.sn_device.specs.Steps.{IsFinishedAt}
 use Rattle.sn_client.proofs.RetireLemmas.{one_fails}
 use Rattle.sn_client.proofs.SoundnessLemmas.{never}
 use Rattle.sn_client.proofs.retiring.are_put_finished.Goals as goal

@@ -3,7 +3,7 @@ use Rattle.std.specs.List.{HoldsAt}
 use Rattle.sn_row_map.specs.RowMaps.{row_in}
 use Rattle.sn_rows.specs.Table.{key_of, rows_after}
 use Rattle.sn_rows.specs.declared.change.Change.{Change}
-use Rattle.sn_client.specs.Steps.{IsFinishedAt}
+use Rattle.sn_device.specs.Steps.{IsFinishedAt}
 use Rattle.sn_client.proofs.retiring.are_put_finished.Given as goal
 
 -- The items of the keys so far have nothing of the set.

@@ -1,7 +1,7 @@
 use Rattle.std.proofs.Common.{◌≡◌, rules, ap, subst, Option, Some, None}
 use Rattle.sn_row_map.specs.RowMaps.{row_in}
 use Rattle.sn_table.specs.Tables.{table_rows}
-use Rattle.sn_client.specs.Sending.{Numbered}
+use Rattle.sn_device.specs.Sending.{Numbered}
 use Rattle.sn_client.proofs.SendLemmas.{HasRoom, IsAt, at_first, at_next, ends_all, ends_full, is_sendable, lent_item, takes_less}
 use Rattle.sn_client.proofs.sending.choose.Goals as goal
 

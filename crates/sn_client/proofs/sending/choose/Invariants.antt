@@ -2,7 +2,7 @@
 use Rattle.std.specs.Prelude.{◌-◌, length}
 use Rattle.sn_row_map.specs.RowMaps.{row_in}
 use Rattle.sn_table.specs.Tables.{table_rows}
-use Rattle.sn_client.specs.Sending.{most_sent}
+use Rattle.sn_device.specs.Sending.{most_sent}
 use Rattle.sn_client.proofs.SendLemmas.{IsAt, lent_item}
 use Rattle.sn_client.proofs.sending.choose.Given as goal
 

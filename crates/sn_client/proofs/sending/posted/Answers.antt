@@ -1,5 +1,5 @@
-use Rattle.sn_client.specs.Sending.{as_posted}
-use Rattle.sn_client.specs.States.{columns}
+use Rattle.sn_device.specs.Sending.{as_posted}
+use Rattle.sn_device.specs.States.{columns}
 use Rattle.sn_client.proofs.ChangeLemmas.{puts_columns}
 use Rattle.sn_client.proofs.sending.posted.Goals as goal
 

@@ -3,7 +3,7 @@ use Rattle.sn_row_map.specs.RowMaps.{row_in}
 use Rattle.sn_rows.specs.declared.device_rows.OwnerRow.{OwnerRow}
 use Rattle.sn_sets.specs.declared.sets.Sets.{Sets}
 use Rattle.sn_table.specs.Tables.{table_rows}
-use Rattle.sn_client.specs.States.{HasNoAccount, HasSets}
+use Rattle.sn_device.specs.States.{HasNoAccount, HasSets}
 use Rattle.sn_client.proofs.SignLemmas.{joins_held, refuses_held}
 use Rattle.sn_client.proofs.signing.joins_by.Goals as goal
 

@@ -1,7 +1,7 @@
 use Rattle.std.proofs.Common.{List, ℕ, ap, inr, sym, ◌∙◌}
 use Rattle.std.proofs.lemmas.Bool.{false≢true}
 use Rattle.std.specs.Cmp.Lexicographic.{bytes_decides}
-use Rattle.sn_client.specs.declared.error.ClientError.TheVariants as refusal
+use Rattle.sn_device.specs.declared.error.ClientError.TheVariants as refusal
 use Rattle.sn_client.proofs.signing.other_account.Goals as goal
 
 pub returns-in-Ok-clause-some : goal.returns-in-Ok-clause-some

@@ -1,5 +1,5 @@
 use Rattle.std.proofs.lemmas.Bool.{iff_false}
-use Rattle.sn_client.specs.States.{columns}
+use Rattle.sn_device.specs.States.{columns}
 use Rattle.sn_client.proofs.SoundnessLemmas.{item_of, never, parts_of, strings_of, tests_same}
 use Rattle.sn_client.proofs.soundness.is_sound_item.Goals as goal
 

@@ -1,6 +1,6 @@
 use Rattle.std.proofs.Common.{◌↔◌, IfOk, IsTrue, Some, subst, sym}
 use Rattle.sn_rows.specs.declared.body.RowBody.{RowBody}
-use Rattle.sn_client.specs.States.{NamesVersion}
+use Rattle.sn_device.specs.States.{NamesVersion}
 use Rattle.sn_client.proofs.soundness.names_body.Goals as goal
 
 pub returns-in-Sealed : goal.returns-in-Sealed

@@ -1,6 +1,6 @@
 use Rattle.std.proofs.Common.{◌↔◌, IfOk, IsTrue, Option, subst, sym}
 use Rattle.sn_rows.specs.declared.body.RowBody.{RowBody}
-use Rattle.sn_client.specs.States.{NamesVersion}
+use Rattle.sn_device.specs.States.{NamesVersion}
 use Rattle.sn_client.proofs.soundness.names_version.Goals as goal
 
 pub returns-in-Some : goal.returns-in-Some

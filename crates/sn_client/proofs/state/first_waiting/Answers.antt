@@ -2,7 +2,7 @@ use Rattle.std.proofs.Common.{IfNone, subst, sym}
 use Rattle.sn_row_map.specs.RowMaps.{row_in}
 use Rattle.sn_row_map.specs.declared.row_map.RowMap.{RowMap}
 use Rattle.sn_client.specs.Index.{Indexes}
-use Rattle.sn_client.specs.Sending.{NoneWaits}
+use Rattle.sn_device.specs.Sending.{NoneWaits}
 use Rattle.sn_client.proofs.state.first_waiting.Goals as goal
 
 pub first_waiting_in-requires : goal.first_waiting_in-requires

@@ -1,5 +1,5 @@
 use Rattle.std.proofs.Common.{arith}
-use Rattle.sn_client.proofs.StateLemmas.{lengths}
+use Rattle.sn_device.proofs.Facts.{lengths}
 use Rattle.sn_client.proofs.state.key_set.Goals as goal
 
 pub unreachable-requires : goal.unreachable-requires

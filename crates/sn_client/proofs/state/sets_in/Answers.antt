@@ -1,7 +1,7 @@
 use Rattle.std.proofs.Common.{subst}
 use Rattle.sn_row_map.specs.RowMaps.{row_in}
 use Rattle.sn_rows.specs.declared.key.Slot.TheVariants.{Present}
-use Rattle.sn_client.specs.States.{IsInSlot}
+use Rattle.sn_device.specs.States.{IsInSlot}
 use Rattle.sn_client.proofs.state.sets_in.Goals as goal
 
 pub returns-clause-some : goal.returns-clause-some

@@ -2,7 +2,7 @@ use Rattle.std.proofs.Common.{IfOk, IfSome, subst}
 use Rattle.sn_row_map.specs.RowMaps.{row_in}
 use Rattle.sn_row_map.specs.declared.row_map.RowMap.{RowMap}
 use Rattle.sn_rows.specs.declared.device_rows.OwnerRow.{OwnerRow}
-use Rattle.sn_client.specs.States.{HasSets}
+use Rattle.sn_device.specs.States.{HasSets}
 use Rattle.sn_client.proofs.state.sets_of.Goals as goal
 
 pub returns-clause-some : goal.returns-clause-some

@@ -2,7 +2,7 @@ use Rattle.std.proofs.Common.{◌++◌, [], map, subst}
 use Rattle.sn_row_map.specs.RowMaps.{row_in}
 use Rattle.sn_sets.proofs.Facts.{later_again}
 use Rattle.sn_client.specs.Taken.{StopsBy, so_far}
-use Rattle.sn_client.specs.Taking.{Progress, RunsOut, TakesAll, is_conflict, is_retrieved, is_saved}
+use Rattle.sn_device.specs.Taking.{Progress, RunsOut, TakesAll, is_conflict, is_retrieved, is_saved}
 use Rattle.sn_client.proofs.TakingLemmas.{err_as, out_before, out_behind, stops_more, takes_both}
 use Rattle.sn_client.proofs.taking.take_answer.Goals as goal
 

@@ -4,7 +4,7 @@ use Rattle.sn_row_map.specs.RowMaps.{row_in}
 use Rattle.sn_sync.specs.declared.answer.Conflict.{Conflict}
 use Rattle.sn_sync.specs.declared.answer.Conflict.TheVariants as conflict
 use Rattle.sn_client.specs.Taken.{StopsBy, StopsServer, after, so_far}
-use Rattle.sn_client.specs.Taking.{RunsOutAt, Takes, is_conflict}
+use Rattle.sn_device.specs.Taking.{RunsOutAt, Takes, is_conflict}
 use Rattle.sn_client.proofs.TakingLemmas.{server_stops, stops_more}
 use Rattle.sn_client.proofs.taking.take_conflict.Goals as goal
 

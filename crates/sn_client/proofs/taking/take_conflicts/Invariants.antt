@@ -2,7 +2,7 @@ use Rattle.std.proofs.Common.{map, take}
 use Rattle.sn_row_map.specs.RowMaps.{row_in}
 use Rattle.sn_sets.specs.Seals.{IsLater}
 use Rattle.sn_client.specs.Taken.{so_far}
-use Rattle.sn_client.specs.Taking.{TakesAll, is_conflict}
+use Rattle.sn_device.specs.Taking.{TakesAll, is_conflict}
 use Rattle.sn_client.proofs.taking.take_conflicts.Given as goal
 
 -- What is told so far is taken.

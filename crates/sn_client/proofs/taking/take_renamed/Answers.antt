@@ -3,7 +3,7 @@ use Rattle.std.proofs.lemmas.Result.{IfErr-weaker, IfOk-weaker}
 use Rattle.sn_row_map.specs.RowMaps.{row_in}
 use Rattle.sn_sync.specs.declared.answer.Conflict.TheVariants as conflict
 use Rattle.sn_client.specs.Taken.{FindsNoFresh, IsReadable, so_far}
-use Rattle.sn_client.specs.Taking.{RunsOutAt, is_conflict}
+use Rattle.sn_device.specs.Taking.{RunsOutAt, is_conflict}
 use Rattle.sn_client.proofs.TakingLemmas.{rename_stops, stands_at, stops_more}
 use Rattle.sn_client.proofs.taking.take_renamed.Goals as goal
 

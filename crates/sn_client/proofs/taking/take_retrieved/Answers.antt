@@ -2,7 +2,7 @@ use Rattle.std.proofs.Common.{map, arith, subst, sym}
 use Rattle.sn_row_map.specs.RowMaps.{row_in}
 use Rattle.sn_sets.proofs.Facts.{later_again}
 use Rattle.sn_client.specs.Taken.{StopsBy, so_far}
-use Rattle.sn_client.specs.Taking.{Progress, RunsOut, RunsOutAt, Takes, is_retrieved}
+use Rattle.sn_device.specs.Taking.{Progress, RunsOut, RunsOutAt, Takes, is_retrieved}
 use Rattle.sn_client.proofs.TakingLemmas.{err_as, runs_out, stops_more, takes_more}
 use Rattle.sn_client.proofs.taking.take_retrieved.Goals as goal
 

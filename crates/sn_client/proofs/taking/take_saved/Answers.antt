@@ -2,7 +2,7 @@ use Rattle.std.proofs.Common.{map, refl, arith, subst, sym, true}
 use Rattle.sn_row_map.specs.RowMaps.{row_in}
 use Rattle.sn_sets.proofs.Facts.{later_again}
 use Rattle.sn_client.specs.Taken.{StopsBy, StopsServer, so_far}
-use Rattle.sn_client.specs.Taking.{Progress, RunsOut, Takes, is_saved}
+use Rattle.sn_device.specs.Taking.{Progress, RunsOut, Takes, is_saved}
 use Rattle.sn_client.proofs.TakingLemmas.{err_as, runs_out, server_stops, stops_more, takes_more}
 use Rattle.sn_client.proofs.taking.take_saved.Goals as goal
 

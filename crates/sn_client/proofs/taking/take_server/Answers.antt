@@ -6,7 +6,7 @@ use Rattle.sn_conflict.specs.declared.meeting.Meeting.TheVariants as meeting
 use Rattle.sn_row_map.specs.RowMaps.{row_in}
 use Rattle.sn_sets.proofs.Facts.{later_again}
 use Rattle.sn_client.specs.Taken.{StopsBy, StopsServer, so_far}
-use Rattle.sn_client.specs.Taking.{changed, made, with_words}
+use Rattle.sn_device.specs.Taking.{changed, made, with_words}
 use Rattle.sn_client.proofs.TakingLemmas.{err_as, fork_stops, free_at, meets_left, new_stops, stands_at}
 use Rattle.sn_client.proofs.taking.take_server.Goals as goal
 

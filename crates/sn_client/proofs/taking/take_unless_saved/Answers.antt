@@ -4,7 +4,7 @@ use Rattle.sn_conflict.proofs.Facts.{not_holds}
 use Rattle.sn_row_map.specs.RowMaps.{row_in}
 use Rattle.std.proofs.Common.{false}
 use Rattle.sn_client.specs.Taken.{StopsServer, so_far}
-use Rattle.sn_client.specs.Taking.{RunsOutAt, is_retrieved}
+use Rattle.sn_device.specs.Taking.{RunsOutAt, is_retrieved}
 use Rattle.sn_client.proofs.TakingLemmas.{server_stops, stops_more}
 use Rattle.sn_client.proofs.taking.take_unless_saved.Goals as goal
 

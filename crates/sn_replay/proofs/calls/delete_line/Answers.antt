@@ -1,5 +1,5 @@
 use Rattle.std.proofs.Common.{◌≡◌, Some, refl, ap, sym, ◌∙◌}
-use Rattle.sn_client.specs.Runs.{Call, delete, nothing}
+use Rattle.sn_device.specs.Runs.{Call, delete, nothing}
 use Rattle.sn_course.specs.Lines.{labelled_item}
 use Rattle.sn_course.specs.Settings.{words_of}
 use Rattle.sn_laws.specs.Lookups.{Bytes}

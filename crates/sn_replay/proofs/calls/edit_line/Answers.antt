@@ -1,5 +1,5 @@
 use Rattle.std.proofs.Common.{◌≡◌, Some, refl, ap, sym, subst, ◌∙◌, IfOk}
-use Rattle.sn_client.specs.Runs.{Call, edit, nothing}
+use Rattle.sn_device.specs.Runs.{Call, edit, nothing}
 use Rattle.sn_course.specs.Lines.{labelled_item}
 use Rattle.sn_laws.specs.Lookups.{Bytes}
 use Rattle.sn_laws.specs.Runs.{end}

@@ -1,5 +1,5 @@
 use Rattle.std.proofs.Common.{◌≡◌, ap, sym, subst, IfOk}
-use Rattle.sn_client.specs.Runs.{Call, a_uuid, put}
+use Rattle.sn_device.specs.Runs.{Call, a_uuid, put}
 use Rattle.sn_course.specs.Lines.{note_kind}
 use Rattle.sn_laws.specs.Lookups.{Bytes}
 use Rattle.sn_laws.specs.Runs.{end}

@@ -1,5 +1,5 @@
 use Rattle.std.proofs.Common.{◌≡◌, ap, sym, subst, ◌∙◌, IfOk}
-use Rattle.sn_client.specs.Runs.{Call, nothing, register}
+use Rattle.sn_device.specs.Runs.{Call, nothing, register}
 use Rattle.sn_laws.specs.Lookups.{Bytes}
 use Rattle.sn_telling.specs.declared.calling.Calling.{Calling}
 use Rattle.sn_laws.specs.Runs.{end}

@@ -1,6 +1,6 @@
 use Rattle.std.proofs.Common.{◌≡◌, ap, sym, subst, ◌∙◌, IfOk}
 use Rattle.std.specs.Str.{IsUtf8}
-use Rattle.sn_client.specs.Runs.{Call, nothing, sign_in}
+use Rattle.sn_device.specs.Runs.{Call, nothing, sign_in}
 use Rattle.sn_laws.specs.Lookups.{Bytes}
 use Rattle.sn_string.specs.Bounds.{IsIdentifier}
 use Rattle.sn_world.specs.Calls.{IsOnlyOf}

@@ -1,4 +1,4 @@
-use Rattle.sn_client.specs.Runs.{nothing, sync}
+use Rattle.sn_device.specs.Runs.{nothing, sync}
 use Rattle.sn_laws.specs.Runs.{end}
 use Rattle.sn_script.specs.declared.script.Line.TheVariants as line
 use Rattle.sn_replay.proofs.Asking.{sync_of}

@@ -1,6 +1,6 @@
 use Rattle.std.proofs.Common.{◌≡◌, Option, Some, None, false, refl, ap, sym, subst, ◌∙◌}
 use Rattle.std.specs.Option.{option_copied}
-use Rattle.sn_client.specs.Asking.{IsRequestBytes}
+use Rattle.sn_device.specs.Asking.{IsRequestBytes}
 use Rattle.sn_events.specs.Calling.{host}
 use Rattle.sn_laws.specs.Lookups.{Bytes}
 use Rattle.sn_laws.specs.Runs.{end}

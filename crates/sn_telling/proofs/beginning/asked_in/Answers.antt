@@ -1,5 +1,5 @@
 use Rattle.std.proofs.Common.{Some, ap, sym, ◌∙◌}
-use Rattle.sn_client.specs.States.{HasOwner, HasSet}
+use Rattle.sn_device.specs.States.{HasOwner, HasSet}
 use Rattle.sn_row_map.specs.RowMaps.{row_in}
 use Rattle.sn_rows.specs.declared.device_rows.OwnerRow.{OwnerRow}
 use Rattle.sn_rows.specs.declared.device_rows.SetRow.{SetRow}

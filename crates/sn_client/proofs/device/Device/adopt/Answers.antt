@@ -1,16 +1,16 @@
 use Rattle.std.proofs.Common.{refl, subst, sym}
 use Rattle.sn_rows.specs.Table.{Rows}
 use Rattle.sn_client.specs.Calls.{device_rows}
-use Rattle.sn_client.specs.Runs.{CommitsStep}
-use Rattle.sn_client.specs.States.{IsSound}
-use Rattle.sn_client.specs.Steps.{Adopts, adopts}
-use Rattle.sn_client.specs.Syncing.{HasNoneAsked, IsOpenSince, MayHaveSince, WentBy, none_asked}
+use Rattle.sn_device.specs.Runs.{CommitsStep}
+use Rattle.sn_device.specs.States.{IsSound, HasNoneAsked}
+use Rattle.sn_device.specs.Steps.{Adopts, adopts}
+use Rattle.sn_client.specs.Syncing.{IsOpenSince, MayHaveSince, WentBy, none_asked}
 use Rattle.sn_client.specs.declared.called.Called.TheVariants as called
-use Rattle.sn_client.specs.declared.error.ClientError.{ClientError}
+use Rattle.sn_device.specs.declared.error.ClientError.{ClientError}
 use Rattle.sn_client.specs.declared.piece_end.PieceEnd.TheVariants.{Over}
 use Rattle.sn_client.proofs.Moments.{committed_broken, committed_open, still_open}
 use Rattle.sn_client.proofs.SettledLemmas.{HoldsOwner, adopts_owned, adopts_settled}
-use Rattle.sn_client.proofs.SoundSteps.{steps_stay_sound}
+use Rattle.sn_device.proofs.Facts.{steps_stay_sound}
 use Rattle.sn_client.proofs.PieceLemmas.{commit_broken, commit_made, commit_refused, commits_none}
 use Rattle.sn_client.proofs.device.Device.adopt.Goals as goal
 

@@ -6,11 +6,11 @@ use Rattle.sn_rows.specs.Table.{Rows}
 use Rattle.sn_rows.specs.declared.change.Change.{Change}
 use Rattle.sn_table.specs.Batches.{IsAllOrNothing}
 use Rattle.sn_client.specs.Calls.{IsOpen, MayHave, StandsOrHas, called_disk, device_disk, device_rows}
-use Rattle.sn_client.specs.Runs.{nothing}
-use Rattle.sn_client.specs.Steps.{Adopts, adopts}
-use Rattle.sn_client.specs.declared.error.ClientError.TheVariants as refusal
+use Rattle.sn_device.specs.Runs.{nothing}
+use Rattle.sn_device.specs.Steps.{Adopts, adopts}
+use Rattle.sn_device.specs.declared.error.ClientError.TheVariants as refusal
 use Rattle.sn_client.proofs.AccountLemmas.{gets_none, keeps_with, no_link_fault, stands_or_has, still_stands, wants_behind}
-use Rattle.sn_client.proofs.AdoptSound.{adopts_sound}
+use Rattle.sn_device.proofs.Facts.{adopts_sound}
 use Rattle.sn_client.proofs.device.Device.adopt_account.Goals as goal
 
 pub answer-requires-clause-stays : goal.answer-requires-clause-stays

@@ -3,9 +3,9 @@ use Rattle.sn_row_map.specs.RowMaps.{row_in}
 use Rattle.sn_row_map.specs.declared.row_map.RowMap.{RowMap}
 use Rattle.sn_rows.specs.declared.device_rows.OwnerRow.{OwnerRow}
 use Rattle.sn_client.specs.Calls.{device_rows}
-use Rattle.sn_client.specs.States.{HasSets}
+use Rattle.sn_device.specs.States.{HasSets}
 use Rattle.sn_client.proofs.AnswerLemmas.{held_by}
-use Rattle.sn_client.proofs.Frames.{one_owner}
+use Rattle.sn_device.proofs.Facts.{one_owner}
 use Rattle.sn_client.proofs.device.Device.adoption.Goals as goal
 
 pub adopting-requires-clause-holds : goal.adopting-requires-clause-holds

@@ -1,7 +1,7 @@
 use Rattle.std.proofs.Common.{sym, subst}
 use Rattle.sn_client.specs.Calls.{IsOpen, MayHave}
 use Rattle.sn_client.specs.declared.called.Called.TheVariants as called
-use Rattle.sn_client.specs.declared.error.ClientError.{ClientError}
+use Rattle.sn_device.specs.declared.error.ClientError.{ClientError}
 use Rattle.sn_client.proofs.CallLemmas.{Answers, answers_broken, answers_done, answers_refused}
 use Rattle.sn_client.proofs.device.Device.answer.Goals as goal
 

@@ -1,18 +1,18 @@
 use Rattle.std.proofs.Common.{◌≡◌, ◌⊎◌, ◌↔◌, ◌∙◌, IsTrue, ap, refl, subst, sym}
 use Rattle.sn_rows.specs.Table.{Rows, rows_after}
 use Rattle.sn_client.specs.Calls.{device_rows}
-use Rattle.sn_client.specs.Runs.{IsLeft, IsUnapplied, items_of}
-use Rattle.sn_client.specs.States.{IsSound}
-use Rattle.sn_client.specs.Steps.{AppliesTo, applies}
-use Rattle.sn_client.specs.Syncing.{HasNoneAsked, IsApplied, IsOpenSince, MayHaveSince}
+use Rattle.sn_device.specs.Runs.{IsLeft, IsUnapplied, items_of}
+use Rattle.sn_device.specs.States.{IsSound, HasNoneAsked}
+use Rattle.sn_device.specs.Steps.{AppliesTo, applies}
+use Rattle.sn_client.specs.Syncing.{IsApplied, IsOpenSince, MayHaveSince}
 use Rattle.sn_client.specs.declared.called.Called.TheVariants as called
-use Rattle.sn_client.specs.declared.error.ClientError.{ClientError}
-use Rattle.sn_client.specs.declared.error.ClientError.TheVariants as refusal
+use Rattle.sn_device.specs.declared.error.ClientError.{ClientError}
+use Rattle.sn_device.specs.declared.error.ClientError.TheVariants as refusal
 use Rattle.sn_client.specs.declared.syncing.Exchanged.TheVariants as exchanged
 use Rattle.sn_client.proofs.AnswerLemmas.{more_by_cursor, more_by_item}
 use Rattle.sn_client.proofs.Moments.{committed_broken, committed_open, still_open}
 use Rattle.sn_client.proofs.SettledLemmas.{HoldsOwner, owned_applied, settled_applied}
-use Rattle.sn_client.proofs.SoundSteps.{steps_stay_sound}
+use Rattle.sn_device.proofs.Facts.{steps_stay_sound}
 use Rattle.sn_client.proofs.SyncLemmas.{broken_off, not_applied, not_committed}
 use Rattle.sn_client.proofs.device.Device.apply.Goals as goal
 use Rattle.sn_client.proofs.device.Device.apply.Goals.{then-has_cursor, else-has_cursor}

@@ -6,13 +6,13 @@ use Rattle.sn_rows.specs.declared.device_rows.LocalItem.{LocalItem}
 use Rattle.sn_string.specs.Bounds.{IsIdentifier}
 use Rattle.sn_sets.proofs.Facts.{later_again}
 use Rattle.sn_client.specs.Calls.{device_rows}
-use Rattle.sn_client.specs.Changing.{MayAsk, NoneRuns}
+use Rattle.sn_device.specs.Changing.{MayAsk, NoneRuns}
 use Rattle.sn_client.specs.Going.{IsSetWith}
-use Rattle.sn_client.specs.Runs.{AnswersChange, AsksFor, AsksHost, CommitsStep, IsNewSet, RefusesChange, Then, change_to, most_exchanges}
-use Rattle.sn_client.specs.States.{Bytes, HasLocal, HasSets}
-use Rattle.sn_client.specs.Steps.{asks}
+use Rattle.sn_device.specs.Runs.{AnswersChange, AsksFor, AsksHost, CommitsStep, IsNewSet, RefusesChange, Then, change_to, most_exchanges}
+use Rattle.sn_device.specs.States.{Bytes, HasLocal, HasSets}
+use Rattle.sn_device.specs.Steps.{asks}
 use Rattle.sn_client.specs.Syncing.{IsOpenSince, MayHaveSince}
-use Rattle.sn_client.specs.declared.error.ClientError.TheVariants as refusal
+use Rattle.sn_device.specs.declared.error.ClientError.TheVariants as refusal
 use Rattle.sn_client.proofs.ChangingLemmas.{asks_new, asks_refused, asks_used, asks_wanting, may_ask, no_link_change, only_memory}
 use Rattle.sn_client.proofs.Moments.{still_open}
 use Rattle.sn_client.proofs.RegisterLemmas.{is_new, later_nonce}

@@ -3,20 +3,20 @@ use Rattle.sn_rows.specs.Table.{Rows, rows_after}
 use Rattle.sn_string.specs.declared.params.KeySet.{KeySet}
 use Rattle.sn_table.specs.Kept.{Kept, with_batch}
 use Rattle.sn_client.specs.Calls.{device_rows}
-use Rattle.sn_client.specs.Changing.{HoldsAsked}
-use Rattle.sn_client.specs.Runs.{AnswersChange, AsksHost, CommitsStep, change_to}
-use Rattle.sn_client.specs.States.{HasSets, IsSound}
-use Rattle.sn_client.specs.Steps.{Asks, asks}
+use Rattle.sn_device.specs.Changing.{HoldsAsked}
+use Rattle.sn_device.specs.Runs.{AnswersChange, AsksHost, CommitsStep, change_to}
+use Rattle.sn_device.specs.States.{HasSets, IsSound}
+use Rattle.sn_device.specs.Steps.{Asks, asks}
 use Rattle.sn_client.specs.Syncing.{IsOpenSince, MayHaveSince, WentBy, called_past}
 use Rattle.sn_client.specs.declared.called.Called.TheVariants as called
-use Rattle.sn_client.specs.declared.error.ClientError.{ClientError}
-use Rattle.sn_client.specs.declared.error.ClientError.TheVariants as refusal
+use Rattle.sn_device.specs.declared.error.ClientError.{ClientError}
+use Rattle.sn_device.specs.declared.error.ClientError.TheVariants as refusal
 use Rattle.sn_client.specs.declared.piece_end.PieceEnd.TheVariants.{Over}
 use Rattle.sn_client.proofs.AnswerLemmas.{held_by}
 use Rattle.sn_client.proofs.KeepLemmas.{keeps_on}
 use Rattle.sn_client.proofs.Moments.{committed_broken, committed_open, still_open}
 use Rattle.sn_client.proofs.SettledLemmas.{asks_holds}
-use Rattle.sn_client.proofs.SoundSteps.{steps_stay_sound}
+use Rattle.sn_device.proofs.Facts.{steps_stay_sound}
 use Rattle.sn_client.proofs.PieceLemmas.{commit_behind, commit_broken, commit_refused, commits_none, then_over}
 use Rattle.sn_client.proofs.device.Device.ask_for_set.Goals as goal
 

@@ -5,11 +5,11 @@ use Rattle.sn_journal.specs.declared.owner.Owner.TheVariants.{Device as DeviceOw
 use Rattle.sn_table.specs.Batches.{IsAllOrNothing}
 use Rattle.sn_io.specs.Causes.{Rose}
 use Rattle.sn_client.specs.Calls.{IsOpen, MayHave, StandsOrHas, called_disk, device_disk, device_rows}
-use Rattle.sn_client.specs.Runs.{nothing}
-use Rattle.sn_client.specs.States.{IsFresh}
-use Rattle.sn_client.specs.Steps.{BeginsDevice, begins}
+use Rattle.sn_device.specs.Runs.{nothing}
+use Rattle.sn_device.specs.States.{IsFresh}
+use Rattle.sn_device.specs.Steps.{BeginsDevice, begins}
 use Rattle.sn_client.proofs.AccountLemmas.{gets_none, is_fresh, keeps_it, no_link_fault, stands_or_has, still_stands}
-use Rattle.sn_client.proofs.SoundSteps.{steps_stay_sound}
+use Rattle.sn_device.proofs.Facts.{steps_stay_sound}
 use Rattle.sn_client.proofs.device.Device.begin.Goals as goal
 
 pub answer-requires-clause-stays : goal.answer-requires-clause-stays

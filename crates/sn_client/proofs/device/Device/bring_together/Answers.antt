@@ -1,7 +1,7 @@
 use Rattle.std.proofs.Common.{inl, inr}
 use Rattle.sn_sets.proofs.Facts.{later_again}
 use Rattle.sn_client.specs.Calls.{device_rows, kept_done}
-use Rattle.sn_client.specs.Runs.{Exchanges, Resolves, SyncsUnder, Then}
+use Rattle.sn_device.specs.Runs.{Exchanges, Resolves, SyncsUnder, Then}
 use Rattle.sn_client.specs.Syncing.{IsOpenSince, MayHaveSince, WentBy, called_past}
 use Rattle.sn_client.specs.declared.piece_end.PieceEnd.TheVariants.{On, Over}
 use Rattle.sn_client.proofs.KeepLemmas.{keeps_on, link_rises}

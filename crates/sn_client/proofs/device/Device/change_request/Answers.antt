@@ -2,9 +2,9 @@ use Rattle.std.proofs.Common.{◌≡◌, ap, ◌∙◌}
 use Rattle.std.proofs.lemmas.Result.{IfOk-weaker}
 use Rattle.sn_rows.specs.declared.device_rows.OwnerRow.{OwnerRow}
 use Rattle.sn_client.specs.Calls.{device_rows}
-use Rattle.sn_client.specs.Runs.{change_to}
-use Rattle.sn_client.specs.States.{HasOwner}
-use Rattle.sn_client.proofs.Frames.{one_owner}
+use Rattle.sn_device.specs.Runs.{change_to}
+use Rattle.sn_device.specs.States.{HasOwner}
+use Rattle.sn_device.proofs.Facts.{one_owner}
 use Rattle.sn_client.proofs.device.Device.change_request.Goals as goal
 
 pub returns : goal.returns

@@ -1,6 +1,6 @@
 use Rattle.sn_sets.proofs.Facts.{later_again}
 use Rattle.sn_client.specs.Calls.{kept_done}
-use Rattle.sn_client.specs.Runs.{AsksFor, Exchanges, SyncsUnder, Then}
+use Rattle.sn_device.specs.Runs.{AsksFor, Exchanges, SyncsUnder, Then}
 use Rattle.sn_client.specs.Syncing.{IsOpenSince, MayHaveSince, WentBy, called_past}
 use Rattle.sn_client.specs.declared.piece_end.PieceEnd.TheVariants.{On}
 use Rattle.sn_client.proofs.KeepLemmas.{keeps_on, link_rises}

@@ -1,7 +1,7 @@
 use Rattle.std.specs.Prelude.{string_bytes}
 use Rattle.std.proofs.Common.{inr}
 use Rattle.sn_client.specs.Calls.{device_rows}
-use Rattle.sn_client.specs.Runs.{a_text, content}
+use Rattle.sn_device.specs.Runs.{a_text, content}
 use Rattle.sn_client.proofs.TellLemmas.{content_closed, content_gone, content_told, content_unowned, tells_exit}
 use Rattle.sn_client.proofs.device.Device.content.Goals as goal
 

@@ -3,11 +3,11 @@ use Rattle.std.proofs.Common.{refl, subst}
 use Rattle.rand_chacha.specs.ChaCha.{ChaCha}
 use Rattle.sn_rows.specs.Table.{Rows}
 use Rattle.sn_client.specs.Calls.{IsOpen, MayHave, called_disk, device_disk, device_rows}
-use Rattle.sn_client.specs.Runs.{delete, nothing}
-use Rattle.sn_client.specs.Steps.{Deletes, deletes}
+use Rattle.sn_device.specs.Runs.{delete, nothing}
+use Rattle.sn_device.specs.Steps.{Deletes, deletes}
 use Rattle.sn_client.proofs.CallLemmas.{rests, steps}
 use Rattle.sn_client.proofs.EditLemmas.{answered_call, deletes_owned, refused_call}
-use Rattle.sn_client.proofs.SoundSteps.{steps_stay_sound}
+use Rattle.sn_device.proofs.Facts.{steps_stay_sound}
 use Rattle.sn_client.proofs.device.Device.delete.Goals as goal
 
 pub answer-requires-clause-owned : goal.answer-requires-clause-owned

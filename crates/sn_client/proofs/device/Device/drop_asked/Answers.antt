@@ -4,16 +4,16 @@ use Rattle.std.proofs.Common.{[]}
 use Rattle.sn_rows.specs.Table.{Rows}
 use Rattle.sn_rows.specs.declared.key.Slot.TheVariants.{Asked}
 use Rattle.sn_client.specs.Calls.{device_rows}
-use Rattle.sn_client.specs.Runs.{CommitsStep, EndsBy}
-use Rattle.sn_client.specs.States.{HasSet, IsSound}
-use Rattle.sn_client.specs.Steps.{forgets}
+use Rattle.sn_device.specs.Runs.{CommitsStep, EndsBy}
+use Rattle.sn_device.specs.States.{HasSet, IsSound}
+use Rattle.sn_device.specs.Steps.{forgets}
 use Rattle.sn_client.specs.Syncing.{IsOpenSince, MayHaveSince, WentBy, none_asked}
 use Rattle.sn_client.specs.declared.called.Called.TheVariants as called
-use Rattle.sn_client.specs.declared.error.ClientError.{ClientError}
-use Rattle.sn_client.specs.declared.error.ClientError.TheVariants as refusal
+use Rattle.sn_device.specs.declared.error.ClientError.{ClientError}
+use Rattle.sn_device.specs.declared.error.ClientError.TheVariants as refusal
 use Rattle.sn_client.specs.declared.piece_end.PieceEnd.TheVariants.{Over}
 use Rattle.sn_client.proofs.Moments.{committed_broken, committed_open, still_open}
-use Rattle.sn_client.proofs.SoundSteps.{steps_stay_sound}
+use Rattle.sn_device.proofs.Facts.{steps_stay_sound}
 use Rattle.sn_client.proofs.PieceLemmas.{commit_and_refused, commit_broken, commit_refused, commits_none, then_over}
 use Rattle.sn_client.proofs.device.Device.drop_asked.Goals as goal
 

@@ -1,7 +1,7 @@
 use Rattle.std.proofs.Common.{inl, inr, refl}
-use Rattle.sn_client.specs.Runs.{Drops, DropsOrKeeps}
+use Rattle.sn_device.specs.Runs.{Drops, DropsOrKeeps}
 use Rattle.sn_client.specs.Syncing.{IsOpenSince, MayHaveSince, none_asked}
-use Rattle.sn_client.specs.declared.error.ClientError.TheVariants as refusal
+use Rattle.sn_device.specs.declared.error.ClientError.TheVariants as refusal
 use Rattle.sn_client.proofs.Moments.{still_open}
 use Rattle.sn_client.proofs.PieceLemmas.{ends_at_once, went_within}
 use Rattle.sn_client.proofs.device.Device.drop_or_keep.Goals as goal

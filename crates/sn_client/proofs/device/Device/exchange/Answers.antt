@@ -3,18 +3,18 @@ use Rattle.sn_rows.specs.Table.{Rows, rows_after}
 use Rattle.sn_rows.specs.declared.change.Change.{Change}
 use Rattle.sn_table.specs.Kept.{Kept, with_batch}
 use Rattle.sn_client.specs.Calls.{device_rows}
-use Rattle.sn_client.specs.Runs.{Act, Sends, commits}
-use Rattle.sn_client.specs.States.{IsSound}
-use Rattle.sn_client.specs.Steps.{posts}
-use Rattle.sn_client.specs.Syncing.{HasNoneAsked, IsAskedAndApplied, IsExchanged, IsOpenSince, IsSyncFrom, MayHaveSince, called_of}
+use Rattle.sn_device.specs.Runs.{Act, Sends, commits}
+use Rattle.sn_device.specs.States.{IsSound, HasNoneAsked}
+use Rattle.sn_device.specs.Steps.{posts}
+use Rattle.sn_client.specs.Syncing.{IsAskedAndApplied, IsExchanged, IsOpenSince, IsSyncFrom, MayHaveSince, called_of}
 use Rattle.sn_client.specs.declared.called.Called.TheVariants as called
-use Rattle.sn_client.specs.declared.error.ClientError.{ClientError}
+use Rattle.sn_device.specs.declared.error.ClientError.{ClientError}
 use Rattle.sn_client.specs.declared.syncing.Exchanged.TheVariants as exchanged
 use Rattle.sn_client.proofs.KeepLemmas.{keeps_on}
 use Rattle.sn_client.proofs.Moments.{asked_as, committed_broken, committed_open, may_on, open_on, still_open}
 use Rattle.sn_client.proofs.PostLemmas.{is_none, is_some, none_fits, none_posted, sync_from}
 use Rattle.sn_client.proofs.SettledLemmas.{HoldsOwner, owned_posted, settled_posted}
-use Rattle.sn_client.proofs.SoundSteps.{steps_stay_sound}
+use Rattle.sn_device.proofs.Facts.{steps_stay_sound}
 use Rattle.sn_client.proofs.SyncLemmas.{asks_posted, not_posted, posted_first, posted_none, posting_broken, sends_none, stood}
 use Rattle.sn_client.proofs.device.Device.exchange.Goals as goal
 

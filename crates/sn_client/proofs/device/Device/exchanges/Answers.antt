@@ -4,11 +4,11 @@ use Rattle.std.proofs.lemmas.Bool.{false≢true}
 use Rattle.sn_table.specs.Kept.{Kept}
 use Rattle.sn_sets.proofs.Facts.{later_again, later_at_once}
 use Rattle.sn_client.specs.Calls.{device_disk}
-use Rattle.sn_client.specs.Runs.{acts_of}
-use Rattle.sn_client.specs.States.{Bytes}
+use Rattle.sn_device.specs.Runs.{acts_of}
+use Rattle.sn_device.specs.States.{Bytes}
 use Rattle.sn_client.specs.Syncing.{AppliesOne, EndsOne, IsOpenSince, MayHaveSince}
 use Rattle.sn_client.specs.declared.called.Called.TheVariants as called
-use Rattle.sn_client.specs.declared.error.ClientError.TheVariants as refusal
+use Rattle.sn_device.specs.declared.error.ClientError.TheVariants as refusal
 use Rattle.sn_client.proofs.KeepLemmas.{keeps_on}
 use Rattle.sn_client.proofs.Moments.{applies_as, ends_one_as, may_on, open_on, still_open}
 use Rattle.sn_client.proofs.SyncLemmas.{done_more, due_more, ends_by, ends_done, ends_used, kept_now, made_more, sets_out, stood}

@@ -5,9 +5,9 @@ use Rattle.sn_sets.specs.Seals.{IsLater}
 use Rattle.sn_sync.specs.declared.answer.Answer.{Answer}
 use Rattle.sn_table.specs.Kept.{Kept}
 use Rattle.sn_client.specs.Calls.{IsOpen, device_disk, device_rows}
-use Rattle.sn_client.specs.Runs.{IsDue, most_exchanges}
-use Rattle.sn_client.specs.States.{HasOwner, IsSound}
-use Rattle.sn_client.specs.Syncing.{HasNoneAsked, IsOpenSince}
+use Rattle.sn_device.specs.Runs.{IsDue, most_exchanges}
+use Rattle.sn_device.specs.States.{HasOwner, IsSound, HasNoneAsked}
+use Rattle.sn_client.specs.Syncing.{IsOpenSince}
 use Rattle.sn_client.proofs.SyncLemmas.{HasMade, kept_now}
 use Rattle.sn_client.proofs.device.Device.exchanges.Given as goal
 

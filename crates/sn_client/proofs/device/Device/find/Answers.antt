@@ -5,9 +5,9 @@ use Rattle.sn_sets.proofs.Facts.{later_at_once}
 use Rattle.sn_sync.specs.declared.answer.Answer.{Answer}
 use Rattle.sn_sync.specs.declared.answer.Answer.TheVariants as answer
 use Rattle.sn_client.specs.Calls.{device_rows}
-use Rattle.sn_client.specs.Runs.{DropsOrKeeps, Finds, FindsParams}
-use Rattle.sn_client.specs.States.{HasOwner}
-use Rattle.sn_client.specs.Syncing.{HasNoneAsked, IsOpenSince, MayHaveSince, WentBy, called_past}
+use Rattle.sn_device.specs.Runs.{DropsOrKeeps, Finds, FindsParams}
+use Rattle.sn_device.specs.States.{HasOwner, HasNoneAsked}
+use Rattle.sn_client.specs.Syncing.{IsOpenSince, MayHaveSince, WentBy, called_past}
 use Rattle.sn_client.proofs.KeepLemmas.{never_made, never_on, no_link_rises}
 use Rattle.sn_client.proofs.PieceLemmas.{went_within, went_quietly}
 use Rattle.sn_client.proofs.device.Device.find.Goals as goal

@@ -4,10 +4,10 @@ use Rattle.sn_rows.specs.declared.device_rows.OwnerRow.{OwnerRow}
 use Rattle.sn_sets.proofs.Facts.{later_at_once}
 use Rattle.sn_sync.specs.declared.request.Request.TheVariants as request
 use Rattle.sn_client.specs.Calls.{device_rows}
-use Rattle.sn_client.specs.Runs.{AdoptsOrDrops, AdoptsOrKeeps, AsksHost, Drops, FindsParams, change_to}
-use Rattle.sn_client.specs.States.{HasOwner}
-use Rattle.sn_client.specs.Syncing.{HasNoneAsked, IsOpenSince, MayHaveSince, called_past}
-use Rattle.sn_client.specs.declared.error.ClientError.{ClientError}
+use Rattle.sn_device.specs.Runs.{AdoptsOrDrops, AdoptsOrKeeps, AsksHost, Drops, FindsParams, change_to}
+use Rattle.sn_device.specs.States.{HasOwner, HasNoneAsked}
+use Rattle.sn_client.specs.Syncing.{IsOpenSince, MayHaveSince, called_past}
+use Rattle.sn_device.specs.declared.error.ClientError.{ClientError}
 use Rattle.sn_client.proofs.KeepLemmas.{never_made, never_on, no_link_rises}
 use Rattle.sn_client.proofs.PieceLemmas.{went_within, went_quietly}
 use Rattle.sn_client.proofs.device.Device.find_params.Goals as goal

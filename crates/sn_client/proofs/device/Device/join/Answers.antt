@@ -6,10 +6,10 @@ use Rattle.sn_sync.specs.declared.request.Request.{Request}
 use Rattle.sn_sync.specs.declared.request.Request.TheVariants as request
 use Rattle.sn_client.specs.Asked.{IsHeardBehind}
 use Rattle.sn_client.specs.Calls.{device_rows}
-use Rattle.sn_client.specs.Runs.{AdoptsOrKeeps, CommitsStep, DropsOrKeeps}
-use Rattle.sn_client.specs.States.{Bytes, HasOwner}
-use Rattle.sn_client.specs.Steps.{adopts}
-use Rattle.sn_client.specs.Syncing.{HasNoneAsked, IsOpenSince, MayHaveSince, called_past, none_asked}
+use Rattle.sn_device.specs.Runs.{AdoptsOrKeeps, CommitsStep, DropsOrKeeps}
+use Rattle.sn_device.specs.States.{Bytes, HasOwner, HasNoneAsked}
+use Rattle.sn_device.specs.Steps.{adopts}
+use Rattle.sn_client.specs.Syncing.{IsOpenSince, MayHaveSince, called_past, none_asked}
 use Rattle.sn_client.proofs.Moments.{still_open}
 use Rattle.sn_sets.proofs.Facts.{later_at_once}
 use Rattle.sn_io.specs.Causes.{Rose}

@@ -2,8 +2,8 @@ use Rattle.std.proofs.Common.{inr, subst}
 use Rattle.sn_row_map.specs.RowMaps.{row_in}
 use Rattle.sn_row_map.specs.declared.row_map.RowMap.{RowMap}
 use Rattle.sn_client.specs.Calls.{device_rows}
-use Rattle.sn_client.specs.Listing.{AreListed}
-use Rattle.sn_client.specs.Runs.{lines, list}
+use Rattle.sn_device.specs.Listing.{AreListed}
+use Rattle.sn_device.specs.Runs.{lines, list}
 use Rattle.sn_client.proofs.ListLemmas.{list_told, list_unowned}
 use Rattle.sn_client.proofs.TellLemmas.{tells_exit}
 use Rattle.sn_client.proofs.device.Device.list.Goals as goal

@@ -6,7 +6,7 @@ use Rattle.sn_row_map.specs.declared.row_map.RowMap.{RowMap}
 use Rattle.sn_rows.specs.declared.kind.RowKind.{RowKind}
 use Rattle.sn_table.specs.Logs.{HasOwned}
 use Rattle.sn_client.specs.Index.{Indexes}
-use Rattle.sn_client.specs.States.{IsFirstUnsound}
+use Rattle.sn_device.specs.States.{IsFirstUnsound}
 use Rattle.sn_client.proofs.device.Device.opened.Goals as goal
 
 pub first_unsound-requires : goal.first_unsound-requires

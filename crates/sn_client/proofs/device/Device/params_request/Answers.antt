@@ -2,8 +2,8 @@ use Rattle.std.proofs.Common.{ap, ◌∙◌}
 use Rattle.sn_rows.specs.declared.device_rows.OwnerRow.{OwnerRow}
 use Rattle.sn_sync.specs.declared.request.Request.TheVariants as request
 use Rattle.sn_client.specs.Calls.{device_rows}
-use Rattle.sn_client.specs.States.{Bytes}
-use Rattle.sn_client.proofs.Frames.{one_owner}
+use Rattle.sn_device.specs.States.{Bytes}
+use Rattle.sn_device.proofs.Facts.{one_owner}
 use Rattle.sn_client.proofs.device.Device.params_request.Goals as goal
 
 pub returns : goal.returns

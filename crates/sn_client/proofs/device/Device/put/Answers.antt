@@ -3,12 +3,12 @@ use Rattle.std.proofs.Common.{subst}
 use Rattle.sn_rows.specs.Table.{Rows}
 use Rattle.sn_rows.specs.declared.change.Change.{Change}
 use Rattle.sn_client.specs.Calls.{IsOpen, MayHave, called_disk, device_disk, device_rows}
-use Rattle.sn_client.specs.Runs.{a_uuid, put}
-use Rattle.sn_client.specs.States.{Bytes}
-use Rattle.sn_client.specs.Steps.{PutsNew, puts}
+use Rattle.sn_device.specs.Runs.{a_uuid, put}
+use Rattle.sn_device.specs.States.{Bytes}
+use Rattle.sn_device.specs.Steps.{PutsNew, puts}
 use Rattle.sn_client.proofs.CallLemmas.{rests, steps}
 use Rattle.sn_client.proofs.EditLemmas.{answered_call, put_runs, puts_owned, refused_call}
-use Rattle.sn_client.proofs.SoundSteps.{steps_stay_sound}
+use Rattle.sn_device.proofs.Facts.{steps_stay_sound}
 use Rattle.sn_client.proofs.device.Device.put.Goals as goal
 
 pub answer-requires-clause-owned : goal.answer-requires-clause-owned

@@ -3,9 +3,9 @@ use Rattle.sn_disk.specs.Moments.{weaker}
 use Rattle.sn_rows.specs.declared.change.Change.{Change}
 use Rattle.sn_string.specs.declared.params.KeySet.{KeySet}
 use Rattle.sn_client.specs.Calls.{IsOpen, MayHave, StandsOrHas, called_disk, device_disk, device_rows}
-use Rattle.sn_client.specs.Runs.{IsNewSet, nothing, register}
-use Rattle.sn_client.specs.Steps.{BeginsDevice}
-use Rattle.sn_client.specs.declared.error.ClientError.TheVariants as refusal
+use Rattle.sn_device.specs.Runs.{IsNewSet, nothing, register}
+use Rattle.sn_device.specs.Steps.{BeginsDevice}
+use Rattle.sn_device.specs.declared.error.ClientError.TheVariants as refusal
 use Rattle.sn_client.proofs.AccountLemmas.{stands_weaker, still_stands}
 use Rattle.sn_client.proofs.RegisterLemmas.{goes_register, is_new, later_nonce, refused_call, refused_register}
 use Rattle.sn_client.proofs.device.Device.register.Goals as goal

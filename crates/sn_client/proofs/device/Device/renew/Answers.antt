@@ -7,10 +7,10 @@ use Rattle.sn_rows.specs.Table.{Rows}
 use Rattle.sn_rows.specs.declared.change.Change.{Change}
 use Rattle.sn_table.specs.Batches.{IsAllOrNothing}
 use Rattle.sn_client.specs.Calls.{IsOpen, MayHave, StandsOrHas, called_disk, device_disk, device_rows}
-use Rattle.sn_client.specs.Runs.{nothing}
-use Rattle.sn_client.specs.Steps.{Renews, renews}
+use Rattle.sn_device.specs.Runs.{nothing}
+use Rattle.sn_device.specs.Steps.{Renews, renews}
 use Rattle.sn_client.proofs.AccountLemmas.{gets_none, keeps_it, no_link_fault, stands_or_has, still_stands}
-use Rattle.sn_client.proofs.SoundSteps.{steps_stay_sound}
+use Rattle.sn_device.proofs.Facts.{steps_stay_sound}
 use Rattle.sn_client.proofs.device.Device.renew.Goals as goal
 
 pub answer-requires-clause-stays : goal.answer-requires-clause-stays

@@ -4,9 +4,9 @@ use Rattle.sn_rows.specs.Table.{Rows}
 use Rattle.sn_rows.specs.declared.change.Change.{Change}
 use Rattle.sn_client.specs.Calls.{IsOpen, MayHave, StandsOrHas, called_disk, device_disk, device_rows}
 use Rattle.sn_client.specs.Going.{MayWant}
-use Rattle.sn_client.specs.Runs.{IsOrMayBe, Run, SignsInWith, nothing, refused, sign_in}
+use Rattle.sn_device.specs.Runs.{IsOrMayBe, Run, SignsInWith, nothing, refused, sign_in}
 use Rattle.sn_client.specs.Signing.{MadeBySignIn}
-use Rattle.sn_client.specs.Steps.{Adopts, BeginsDevice, Renews}
+use Rattle.sn_device.specs.Steps.{Adopts, BeginsDevice, Renews}
 use Rattle.sn_client.proofs.AccountLemmas.{stands_weaker, still_stands}
 use Rattle.sn_client.proofs.RegisterLemmas.{refused_call}
 use Rattle.sn_client.proofs.SignLemmas.{goes_at, goes_sign_in, keys_may_be, keys_refused, made_by, other_refused}

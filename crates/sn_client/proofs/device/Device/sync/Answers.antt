@@ -1,11 +1,11 @@
 use Rattle.std.proofs.Common.{refl, subst}
 use Rattle.sn_rows.specs.Table.{Rows}
 use Rattle.sn_client.specs.Calls.{IsOpen, MayHave}
-use Rattle.sn_client.specs.Runs.{sync}
-use Rattle.sn_client.specs.States.{HasNoAccount, HasSets}
+use Rattle.sn_device.specs.Runs.{sync}
+use Rattle.sn_device.specs.States.{HasNoAccount, HasSets}
 use Rattle.sn_client.specs.Syncing.{IsOpenSince, MayHaveSince, gives_nothing}
 use Rattle.sn_client.specs.declared.called.Called.TheVariants as called
-use Rattle.sn_client.specs.declared.error.ClientError.TheVariants as refusal
+use Rattle.sn_device.specs.declared.error.ClientError.TheVariants as refusal
 use Rattle.sn_client.specs.declared.piece_end.PieceEnd.TheVariants.{On, Over}
 use Rattle.sn_client.proofs.Moments.{calls_over, moments_over, still_open}
 use Rattle.sn_client.proofs.RegisterLemmas.{refused_call}

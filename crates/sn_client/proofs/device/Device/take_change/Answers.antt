@@ -5,8 +5,8 @@ use Rattle.sn_sync.specs.declared.answer.Answer.{Answer}
 use Rattle.sn_sync.specs.declared.answer.Answer.TheVariants as answer
 use Rattle.sn_sync.specs.declared.request.Route.TheVariants as route
 use Rattle.sn_client.specs.Asked.{IsGranted}
-use Rattle.sn_client.specs.Runs.{AnswersChange, CommitsStep}
-use Rattle.sn_client.specs.Steps.{adopts}
+use Rattle.sn_device.specs.Runs.{AnswersChange, CommitsStep}
+use Rattle.sn_device.specs.Steps.{adopts}
 use Rattle.sn_client.specs.Syncing.{IsOpenSince, MayHaveSince, WentBy, called_past}
 use Rattle.sn_client.proofs.KeepLemmas.{no_link_rises}
 use Rattle.sn_client.proofs.PieceLemmas.{went_within, went_quietly}

@@ -1,8 +1,8 @@
 use Rattle.std.proofs.Common.{refl}
 use Rattle.sn_row_map.specs.RowMaps.{row_in}
 use Rattle.sn_rows.specs.declared.device_rows.LocalItem.{LocalItem}
-use Rattle.sn_client.specs.Sending.{IsWaiting}
-use Rattle.sn_client.specs.States.{HasLocal}
+use Rattle.sn_device.specs.Sending.{IsWaiting}
+use Rattle.sn_device.specs.States.{HasLocal}
 use Rattle.sn_client.proofs.IndexLemmas.{none_holds, settled}
 use Rattle.sn_client.proofs.index.Index.settle_one.Goals as goal
 

@@ -1,7 +1,7 @@
 use Rattle.std.proofs.Common.{◌∙◌, ap, refl, sym}
 use Rattle.std.proofs.lemmas.Result.{on_ok_weaker}
 use Rattle.sn_client.specs.Taken.{after, so_far}
-use Rattle.sn_client.specs.Taking.{Progress, changed, with_words}
+use Rattle.sn_device.specs.Taking.{Progress, changed, with_words}
 use Rattle.sn_client.specs.declared.taken.Effect.{Effect}
 use Rattle.sn_client.proofs.TakenLemmas.{so_far-more}
 use Rattle.sn_client.proofs.taken.Taken.add.Goals as goal

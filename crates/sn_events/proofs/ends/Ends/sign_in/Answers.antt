@@ -1,6 +1,6 @@
 use Rattle.std.proofs.Common.{refl}
 use Rattle.sn_client.specs.Calls.{IsOpen, device_disk}
-use Rattle.sn_client.specs.Runs.{sign_in, nothing}
+use Rattle.sn_device.specs.Runs.{sign_in, nothing}
 use Rattle.sn_table.specs.Kept.{kept_of}
 use Rattle.sn_events.specs.declared.steady.Holding.TheVariants as held
 use Rattle.sn_events.proofs.Came.{has_rows, ok_on, over_came}

@@ -1,5 +1,0 @@
-use Rattle.sn_client.proofs.AdoptDrafts.{draft_adopted}
-use Rattle.sn_client.proofs.laws.draft_adopted.Goals as goal
-
-pub returns : goal.returns
-returns c = draft_adopted

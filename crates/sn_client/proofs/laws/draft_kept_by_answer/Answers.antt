@@ -1,5 +1,0 @@
-use Rattle.sn_client.proofs.Followed.{draft_kept_by_answer}
-use Rattle.sn_client.proofs.laws.draft_kept_by_answer.Goals as goal
-
-pub returns : goal.returns
-returns c = draft_kept_by_answer

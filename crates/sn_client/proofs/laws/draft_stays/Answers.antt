@@ -1,5 +1,0 @@
-use Rattle.sn_client.proofs.Drafts.{draft_stays}
-use Rattle.sn_client.proofs.laws.draft_stays.Goals as goal
-
-pub returns : goal.returns
-returns c = draft_stays

@@ -1,5 +1,0 @@
-use Rattle.sn_client.proofs.SoundKinds.{fresh_is_sound}
-use Rattle.sn_client.proofs.laws.fresh_is_sound.Goals as goal
-
-pub returns : goal.returns
-returns c = fresh_is_sound

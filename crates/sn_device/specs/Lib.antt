@@ -1,0 +1,10 @@
+pub mod Asking
+pub mod Changing
+pub mod Draws
+pub mod Laws
+pub mod Listing
+pub mod Runs
+pub mod Sending
+pub mod States
+pub mod Steps
+pub mod Taking
