@@ -1,4 +1,5 @@
 pub mod AnswersBack
+pub mod Appending
 pub mod Cases
 pub mod Causes
 pub mod Chains
@@ -18,6 +19,7 @@ pub mod OneRefusal
 pub mod OneRequest
 pub mod OneStamp
 pub mod OneValue
+pub mod Outlines
 pub mod Padded
 pub mod QueryBack
 pub mod ReadAgain

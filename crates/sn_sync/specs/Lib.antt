@@ -10,6 +10,7 @@ pub mod Query
 pub mod Requests
 pub mod Answers
 pub mod Written
+pub mod Appended
 pub mod Fits
 pub mod Versions
 pub mod Routes

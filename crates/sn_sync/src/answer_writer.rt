@@ -1,53 +1,55 @@
 //! Writing answers.
 
-ghost use Rattle.std.specs.Prelude.{◌≡◌, All, IfOk, codes, string_bytes};
-ghost use Rattle.serde_json.specs.Data.{Data, member, no_members, object, string};
-ghost use Rattle.serde_json.specs.View.{items_view, view};
-ghost use Rattle.sn_sync.specs.Written.{AreConflictsData, IsAnswerData, IsConflictData, IsItemData, WritesAnswer, error_data};
+ghost use Rattle.std.specs.Prelude.{◌≡◌, All, IfOk, OnOk, codes, string_bytes};
+ghost use Rattle.serde_json.specs.Data.{Data, Items, array, member, no_members, object, string};
+ghost use Rattle.serde_json.specs.View.{view};
+ghost use Rattle.sn_sync.specs.Appended.{AppendsValue};
+ghost use Rattle.sn_sync.specs.Written.{AreConflictsData, AreItemsData, IsAnswerData, IsConflictData, IsItemData, WritesAnswer, error_data, synced_data};
 
 use crate::answer::{Answer, Conflict, More};
 use crate::item::Item;
-use crate::item_values::{item_value, item_values, optional_value};
-use crate::json_texts::json_text;
+use crate::item_writer::{item_room, items_room, write_item, write_items};
+use crate::json_texts::{json_text, written_text};
+use crate::member_writer::{optional_member, text_member};
+use json::Writer;
 use serde_json::{Value, json};
 use sn_string::{Text, params_value, uuid_text};
 use std::alloc::{AllocError, Global};
 use uuid::Uuid;
 
+// What stands around an answer's lists takes some 150 bytes.
+const ROOM_OF_ANSWER: usize = 200;
+
 /// The body of an answer.
 pub fn write_answer(alloc: Global, answer: &Answer) -> Result<String, AllocError>
     ensures { IfOk result (λ text. WritesAnswer answer.now (string_bytes text)) }
 {
-    let value = answer_value(alloc, answer)?;
-    json_text(alloc, &value)
-}
-
-fn answer_value(alloc: Global, answer: &Answer) -> Result<Value, AllocError>
-    ensures { IfOk result (λ value. IsAnswerData answer.now (view value)) }
-{
-    match answer {
-        Answer::Account {
-            token,
-            identifier,
-            uuid,
-        } => account_value(alloc, token, identifier, *uuid),
-        Answer::Params(params) => params_value(alloc, params),
+    let value = match answer {
         Answer::Sync {
             conflicts,
             cursor_token,
             retrieved,
             saved,
             sync_token,
-        } => synced_value(
-            alloc,
-            conflicts.as_slice(),
-            cursor_token,
-            retrieved.as_slice(),
-            saved.as_slice(),
-            sync_token,
-        ),
-        Answer::Refused { tag, more, .. } => refused_value(alloc, tag, more),
-    }
+        } => {
+            return synced_text(
+                alloc,
+                conflicts.as_slice(),
+                cursor_token,
+                retrieved.as_slice(),
+                saved.as_slice(),
+                sync_token,
+            );
+        }
+        Answer::Account {
+            token,
+            identifier,
+            uuid,
+        } => account_value(alloc, token, identifier, *uuid)?,
+        Answer::Params(params) => params_value(alloc, params)?,
+        Answer::Refused { tag, more, .. } => refused_value(alloc, tag, more)?,
+    };
+    json_text(alloc, &value)
 }
 
 fn account_value(
@@ -66,71 +68,117 @@ fn account_value(
     })
 }
 
-fn synced_value(
+fn synced_text(
     alloc: Global,
     conflicts: &[Conflict],
     cursor_token: &Option<Text>,
     retrieved: &[Item],
     saved: &[Item],
     sync_token: &Text,
-) -> Result<Value, AllocError>
-    ensures { IfOk result (λ value. IsAnswerData
+) -> Result<String, AllocError>
+    ensures { IfOk result (λ text. WritesAnswer
         (Answer.Sync conflicts.now cursor_token.now retrieved.now saved.now sync_token.now)
-        (view value)) }
+        (string_bytes text)) }
 {
-    let conflicts = conflict_values(alloc, conflicts)?;
-    let cursor_token = optional_value(alloc, cursor_token)?;
-    let retrieved = item_values(alloc, retrieved)?;
-    let saved = item_values(alloc, saved)?;
-    json!(in alloc; {
-        "conflicts": Value::Array(conflicts),
-        "cursor_token": cursor_token,
-        "retrieved_items": Value::Array(retrieved),
-        "saved_items": Value::Array(saved),
-        "sync_token": sync_token.as_str()
-    })
+    let room = conflicts_room(conflicts)
+        .saturating_add(items_room(retrieved))
+        .saturating_add(items_room(saved))
+        .saturating_add(ROOM_OF_ANSWER);
+    let mut out = Writer::new(Vec::with_capacity(alloc, room)?);
+    write_synced(
+        &mut out,
+        conflicts,
+        cursor_token,
+        retrieved,
+        saved,
+        sync_token,
+    )?;
+    Ok(written_text(out))
 }
 
-fn conflict_values(alloc: Global, conflicts: &[Conflict]) -> Result<Vec<Value>, AllocError>
-    ensures { IfOk result (λ values. AreConflictsData conflicts.now (items_view values.items)) }
-{
-    let mut values = Vec::new(alloc);
+fn conflicts_room(conflicts: &[Conflict]) -> usize {
+    let mut room = 0usize;
     for conflict in conflicts {
-        values.push(conflict_value(alloc, conflict)?)?;
+        let item = match conflict {
+            Conflict::Sync { server } => server,
+            Conflict::Uuid { unsaved } | Conflict::Content { unsaved } => unsaved,
+        };
+        room = room.saturating_add(item_room(item));
     }
-    Ok(values)
+    room
 }
 
-fn conflict_value(alloc: Global, conflict: &Conflict) -> Result<Value, AllocError>
-    ensures { IfOk result (λ value. IsConflictData conflict.now (view value)) }
+fn write_synced(
+    out: &mut Writer,
+    conflicts: &[Conflict],
+    cursor_token: &Option<Text>,
+    retrieved: &[Item],
+    saved: &[Item],
+    sync_token: &Text,
+) -> Result<(), AllocError>
+    ensures { OnOk result ((cs gs ss : Items) × AreConflictsData conflicts.now cs
+        × AreItemsData retrieved.now gs × AreItemsData saved.now ss
+        × AppendsValue out.old out.new
+        (synced_data cs cursor_token.now gs ss sync_token.now)) }
+{
+    out.begin_object()?;
+    out.key("conflicts")?;
+    write_conflicts(out, conflicts)?;
+    optional_member(out, "cursor_token", cursor_token)?;
+    out.key("retrieved_items")?;
+    write_items(out, retrieved)?;
+    out.key("saved_items")?;
+    write_items(out, saved)?;
+    text_member(out, "sync_token", sync_token)?;
+    out.end_object()
+}
+
+fn write_conflicts(out: &mut Writer, conflicts: &[Conflict]) -> Result<(), AllocError>
+    ensures { OnOk result ((ds : Items) × AreConflictsData conflicts.now ds
+        × AppendsValue out.old out.new (array ds)) }
+{
+    out.begin_array()?;
+    for conflict in conflicts {
+        write_conflict(out, conflict)?;
+    }
+    out.end_array()
+}
+
+fn write_conflict(out: &mut Writer, conflict: &Conflict) -> Result<(), AllocError>
+    ensures { OnOk result ((d : Data) × IsConflictData conflict.now d
+        × AppendsValue out.old out.new d) }
 {
     match conflict {
-        Conflict::Sync { server } => sync_conflict_value(alloc, server),
-        Conflict::Uuid { unsaved } => unsaved_value(alloc, unsaved, "uuid_conflict"),
-        Conflict::Content { unsaved } => unsaved_value(alloc, unsaved, "content_error"),
+        Conflict::Sync { server } => write_sync_conflict(out, server),
+        Conflict::Uuid { unsaved } => write_unsaved(out, unsaved, "uuid_conflict"),
+        Conflict::Content { unsaved } => write_unsaved(out, unsaved, "content_error"),
     }
 }
 
-fn sync_conflict_value(alloc: Global, server: &Item) -> Result<Value, AllocError>
-    ensures { IfOk result (λ value. IsConflictData (Conflict.Sync server.now) (view value)) }
+fn write_sync_conflict(out: &mut Writer, server: &Item) -> Result<(), AllocError>
+    ensures { OnOk result ((inner : Data) × IsItemData server.now inner
+        × AppendsValue out.old out.new (object (member (codes "server_item") inner
+        (member (codes "type") (string (codes "sync_conflict")) no_members)))) }
 {
-    let server = item_value(alloc, server)?;
-    json!(in alloc; {
-        "server_item": server,
-        "type": "sync_conflict"
-    })
+    out.begin_object()?;
+    out.key("server_item")?;
+    write_item(out, server)?;
+    out.key("type")?;
+    out.string("sync_conflict")?;
+    out.end_object()
 }
 
-fn unsaved_value(alloc: Global, unsaved: &Item, conflict: &str) -> Result<Value, AllocError>
-    ensures { IfOk result (λ value. (inner : Data) × IsItemData unsaved.now inner
-        × (view value ≡ object (member (codes "type") (string conflict.now)
+fn write_unsaved(out: &mut Writer, unsaved: &Item, conflict: &str) -> Result<(), AllocError>
+    ensures { OnOk result ((inner : Data) × IsItemData unsaved.now inner
+        × AppendsValue out.old out.new (object (member (codes "type") (string conflict.now)
         (member (codes "unsaved_item") inner no_members)))) }
 {
-    let unsaved = item_value(alloc, unsaved)?;
-    json!(in alloc; {
-        "type": conflict,
-        "unsaved_item": unsaved
-    })
+    out.begin_object()?;
+    out.key("type")?;
+    out.string(conflict)?;
+    out.key("unsaved_item")?;
+    write_item(out, unsaved)?;
+    out.end_object()
 }
 
 fn refused_value(alloc: Global, tag: &Text, more: &More) -> Result<Value, AllocError>

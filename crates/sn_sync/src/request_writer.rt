@@ -1,19 +1,26 @@
 //! Writing requests.
 
-ghost use Rattle.std.specs.Prelude.{◌≡◌, ℕ, All, IfOk, List, string_bytes};
+ghost use Rattle.std.specs.Prelude.{◌≡◌, ℕ, All, IfOk, List, OnOk, string_bytes};
+ghost use Rattle.serde_json.specs.Data.{Items};
 ghost use Rattle.serde_json.specs.View.{view};
+ghost use Rattle.sn_sync.specs.Appended.{AppendsValue};
 ghost use Rattle.sn_sync.specs.Query.{query_text};
 ghost use Rattle.sn_sync.specs.Requests.{route_of};
-ghost use Rattle.sn_sync.specs.Written.{IsRequestData, WritesRequest};
+ghost use Rattle.sn_sync.specs.Written.{AreItemsData, IsJsonOf, IsRequestData, WritesRequest, sync_data};
 
 use crate::item::Item;
-use crate::item_values::{item_values, optional_value};
-use crate::json_texts::json_text;
+use crate::item_writer::{items_room, write_items};
+use crate::json_texts::{json_text, written_text};
+use crate::member_writer::optional_member;
 use crate::request::{Request, Route};
 use form_urlencoded::Serializer;
+use json::Writer;
 use serde_json::{Value, json};
 use sn_string::{Params, Text, hex_text};
 use std::alloc::{AllocError, Global};
+
+// What stands around a sync's items takes some 150 bytes.
+const ROOM_OF_SYNC: usize = 200;
 
 /// The text of a request, and where it goes: the body, for parameters the query.
 pub fn write_request(alloc: Global, request: &Request) -> Result<(Route, String), AllocError>
@@ -41,6 +48,13 @@ fn request_text(alloc: Global, request: &Request) -> Result<String, AllocError>
 {
     let value = match request {
         Request::Params { identifier } => return query_text(alloc, identifier),
+        Request::Sync {
+            items,
+            limit,
+            sync_token,
+            cursor_token,
+            ..
+        } => return sync_text(alloc, items.as_slice(), *limit, sync_token, cursor_token),
         Request::Register { params, pw } => registration_value(alloc, params, pw)?,
         Request::SignIn { identifier, pw } => sign_in_value(alloc, identifier, pw)?,
         Request::ChangePw {
@@ -50,13 +64,6 @@ fn request_text(alloc: Global, request: &Request) -> Result<String, AllocError>
             nonce,
             ..
         } => change_value(alloc, current, pw, *cost, nonce)?,
-        Request::Sync {
-            items,
-            limit,
-            sync_token,
-            cursor_token,
-            ..
-        } => sync_value(alloc, items.as_slice(), *limit, sync_token, cursor_token)?,
     };
     json_text(alloc, &value)
 }
@@ -113,24 +120,41 @@ fn change_value(
     })
 }
 
-fn sync_value(
+fn sync_text(
     alloc: Global,
     items: &[Item],
     limit: u32,
     sync_token: &Option<Text>,
     cursor_token: &Option<Text>,
-) -> Result<Value, AllocError>
-    ensures { IfOk result (λ value. (token : List ℕ)
-        → IsRequestData (Request.Sync token items.now limit sync_token.now cursor_token.now) (view value)) }
+) -> Result<String, AllocError>
+    ensures { IfOk result (λ text. (ds : Items) × AreItemsData items.now ds
+        × IsJsonOf (sync_data ds limit sync_token.now cursor_token.now) (string_bytes text)) }
 {
-    let items = item_values(alloc, items)?;
-    let sync_token = optional_value(alloc, sync_token)?;
-    let cursor_token = optional_value(alloc, cursor_token)?;
-    json!(in alloc; {
-        "api": "20190520",
-        "cursor_token": cursor_token,
-        "items": Value::Array(items),
-        "limit": limit,
-        "sync_token": sync_token
-    })
+    let room = items_room(items).saturating_add(ROOM_OF_SYNC);
+    let mut out = Writer::new(Vec::with_capacity(alloc, room)?);
+    write_sync(&mut out, items, limit, sync_token, cursor_token)?;
+    Ok(written_text(out))
+}
+
+fn write_sync(
+    out: &mut Writer,
+    items: &[Item],
+    limit: u32,
+    sync_token: &Option<Text>,
+    cursor_token: &Option<Text>,
+) -> Result<(), AllocError>
+    ensures { OnOk result ((ds : Items) × AreItemsData items.now ds
+        × AppendsValue out.old out.new
+        (sync_data ds limit sync_token.now cursor_token.now)) }
+{
+    out.begin_object()?;
+    out.key("api")?;
+    out.string("20190520")?;
+    optional_member(out, "cursor_token", cursor_token)?;
+    out.key("items")?;
+    write_items(out, items)?;
+    out.key("limit")?;
+    out.u64(u64::from(limit))?;
+    optional_member(out, "sync_token", sync_token)?;
+    out.end_object()
 }

@@ -27,10 +27,18 @@ impl Stamp {
         ensures { IfOk result (λ text. IsStampText (string_bytes text) stamp) }
     {
         let bytes = Stamp::bytes(stamp);
-        let Ok(text) = str::from_utf8(&bytes) else {
+        Stamp::spelled(&bytes).to_string(alloc)
+    }
+
+    /// The bytes of a stamp's text, as a text.
+    pub(crate) fn spelled(bytes: &[u8; 27]) -> &str
+        requires { (stamp : ℕ) × IsStampText bytes.now stamp }
+        ensures { result.now ≡ bytes.now }
+    {
+        let Ok(text) = str::from_utf8(bytes) else {
             unreachable!();
         };
-        text.to_string(alloc)
+        text
     }
 
     /// The bytes of a stamp's text. Takes no memory.

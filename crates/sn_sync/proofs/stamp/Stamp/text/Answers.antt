@@ -1,5 +1,4 @@
-use Rattle.sn_sync.proofs.StampAscii.{IsUtf8-stamp}
 use Rattle.sn_sync.proofs.stamp.Stamp.text.Goals as goal
 
-pub unreachable-requires : goal.unreachable-requires
-unreachable-requires c = c.in_default.ensures.cases.0 (IsUtf8-stamp _ c.args.stamp c.bytes-bytes.ensures)
+pub spelled-requires : goal.spelled-requires
+spelled-requires c = (c.args.stamp, c.bytes-bytes.ensures)
