@@ -4,10 +4,13 @@ pub mod Colons
 pub mod Cuts
 pub mod Facts
 pub mod HexFacts
+pub mod NamingFacts
 pub mod ParamsFacts
+pub mod PartFacts
 pub mod Written
 pub mod Pieces
 pub mod Places
 pub mod PlainFacts
+pub mod PlainPieces
 pub mod Unique
 pub mod UuidFacts

@@ -161,12 +161,15 @@ other_option found n h is =
     let same : option_eq eqb found (Some n) ≡ true = rw is (eq-eqb n n refl) in
     cc
 
+-- what the decoder wrote is what the text stands for
+pub IsBase64-decoded : (text new : List ℕ) (n : ℕ) → IsBytes text → IsBytes new → decode_of standard text ≡ Ok (take n new) → IsBase64 text (take n new)
+IsBase64-decoded text new n bytes fit ok =
+    let front : IsBytes (take n new) = front_bytes (take n new) (drop n new) (subst IsBytes (sym (take-append-drop n new)) fit) in
+    record { fit = front; spelled = decode_of_strict standard text (take n new) (refl, refl) bytes ok }
+
 -- of a piece of known bytes the decoder says how many
 pub decoded : (text new : List ℕ) (n : ℕ) → IsBytes text → IsBytes new → n ≤ length new → decode_of standard text ≡ Ok (take n new) → Counts text n
-decoded text new n bytes fit within ok =
-    let spelled = decode_of_strict standard text (take n new) (refl, refl) bytes ok in
-    let front : IsBytes (take n new) = front_bytes (take n new) (drop n new) (subst IsBytes (sym (take-append-drop n new)) fit) in
-    (take n new, record { fit = front; spelled = spelled }, length-take-le n new within)
+decoded text new n bytes fit within ok = (take n new, IsBase64-decoded text new n bytes fit ok, length-take-le n new within)
 
 pub refused : (text : List ℕ) (e : DecodeError) → decode_of standard text ≡ Err e → IsNoBase64 text
 refused text e err bytes encoded =

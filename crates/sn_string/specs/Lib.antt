@@ -3,6 +3,7 @@ pub mod Bounds
 pub mod Grammar
 pub mod Hex
 pub mod Laws
+pub mod Lent
 pub mod Parameters
 pub mod Parts
 pub mod Refusals

@@ -26,13 +26,7 @@ impl Params {
         ensures parts { IfSome result (λ p. (p.identifier ≡ identifier)
             × (p.pw_cost ≡ pw_cost) × (p.pw_nonce ≡ pw_nonce)) }
     {
-        if identifier.is_empty() || identifier.len() > 254 {
-            return None;
-        }
-        if pw_cost == 0 {
-            return None;
-        }
-        if pw_nonce.is_empty() || pw_nonce.len() > 256 {
+        if !are_within_bounds(identifier.as_str(), pw_cost, pw_nonce.as_str()) {
             return None;
         }
         Some(Params {
@@ -50,6 +44,20 @@ impl Params {
             && self.identifier.same(&other.identifier)
             && self.pw_nonce.same(&other.pw_nonce)
     }
+}
+
+// Whether an identifier, a cost and a nonce are within their bounds.
+pub(crate) fn are_within_bounds(identifier: &str, pw_cost: u32, pw_nonce: &str) -> bool
+    ensures { IsTrue result
+        ↔ (IsIdentifier identifier.now × IsCost pw_cost × IsNonce pw_nonce.now) }
+{
+    if identifier.is_empty() || identifier.len() > 254 {
+        return false;
+    }
+    if pw_nonce.is_empty() || pw_nonce.len() > 256 {
+        return false;
+    }
+    pw_cost > 0
 }
 
 impl TryClone for Params {

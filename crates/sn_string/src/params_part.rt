@@ -1,6 +1,6 @@
 //! The params part of a 003 string: base64 of a JSON object with the parameters and the version.
 
-ghost use Rattle.std.specs.Prelude.{◌≡◌, ◌≤◌, ℕ, List, length, string_bytes, ◌<◌, ◌^◌, ◌≢◌, IfOk, IfSome, IfNone};
+ghost use Rattle.std.specs.Prelude.{◌≡◌, ◌≤◌, ℕ, List, length, string_bytes, ◌<◌, ◌^◌, ◌≢◌, ◌↔◌, IfOk, IfSome, IfNone, IsTrue};
 ghost use Rattle.serde_json.specs.Data.{number, string, unsigned};
 ghost use Rattle.serde_json.specs.Find.{get};
 ghost use Rattle.serde_json.specs.View.{view};
@@ -9,7 +9,7 @@ ghost use Rattle.sn_string.specs.declared.params.Params.{Params};
 
 use crate::base64_texts::{base64_bytes, base64_text};
 use crate::params::Params;
-use crate::plain_params::plain_params;
+use crate::plain_params::{ROOM, plain_params};
 use crate::text::Text;
 use serde_json::{Value, json};
 use std::alloc::{AllocError, Global};
@@ -52,6 +52,47 @@ pub fn params_of_part(alloc: Global, part: &str) -> Result<Option<Params>, Alloc
     ensures some { IfOk result (λ found. IfSome found (λ p. IsParamsPart part.now p)) }
     ensures none { IfOk result (λ found. IfNone found ((p : Params) → ¬ (IsParamsPart part.now p))) }
 {
+    let mut room = [0u8; ROOM];
+    match plain_params(part, &mut room) {
+        Some(lent) => {
+            let params = lent.owned(alloc)?;
+            Ok(Some(params))
+        }
+        None => params_read(alloc, part),
+    }
+}
+
+/// Whether the part stands for parameters.
+pub(crate) fn is_params_part(alloc: Global, part: &str) -> Result<bool, AllocError>
+    ensures { IfOk result (λ is. IsTrue is ↔ ((p : Params) × IsParamsPart part.now p)) }
+{
+    let mut room = [0u8; ROOM];
+    if plain_params(part, &mut room).is_some() {
+        return Ok(true);
+    }
+    let found = params_read(alloc, part)?;
+    Ok(found.is_some())
+}
+
+/// Whether the part stands for these parameters.
+pub(crate) fn is_part_of(alloc: Global, part: &str, params: &Params) -> Result<bool, AllocError>
+    ensures { IfOk result (λ is. IsTrue is ↔ IsParamsPart part.now params.now) }
+{
+    let mut room = [0u8; ROOM];
+    if let Some(lent) = plain_params(part, &mut room) {
+        return Ok(lent.are(params));
+    }
+    match params_read(alloc, part)? {
+        Some(found) => Ok(found.same(params)),
+        None => Ok(false),
+    }
+}
+
+// The parameters that a params part stands for, by the JSON reader.
+fn params_read(alloc: Global, part: &str) -> Result<Option<Params>, AllocError>
+    ensures some { IfOk result (λ found. IfSome found (λ p. IsParamsPart part.now p)) }
+    ensures none { IfOk result (λ found. IfNone found ((p : Params) → ¬ (IsParamsPart part.now p))) }
+{
     if part.len() > LONGEST {
         return Ok(None);
     }
@@ -65,9 +106,6 @@ fn params_of_json(alloc: Global, json: &[u8]) -> Result<Option<Params>, AllocErr
     ensures some { IfOk result (λ found. IfSome found (λ p. IsParamsJson json.now p)) }
     ensures none { IfOk result (λ found. IfNone found ((p : Params) → ¬ (IsParamsJson json.now p))) }
 {
-    if let Some(params) = plain_params(alloc, json)? {
-        return Ok(Some(params));
-    }
     match Value::from_slice(alloc, json) {
         Ok(value) => params_of(alloc, &value),
         Err(error) => {

@@ -1,63 +1,136 @@
 //! Parameters whose JSON is exactly what is written for them, with nothing escaped. Nearly all are
-//! such, and they do without the JSON reader, which takes longer than the rest of a string.
+//! such. They are read in place, and do without memory and without the JSON reader, which takes
+//! longer than the rest of a string.
 
-ghost use Rattle.std.specs.Prelude.{◌≡◌, IsTrue, IfOk, IfSome, string_bytes};
+ghost use Rattle.std.specs.Prelude.{◌≡◌, ◌≤◌, ◌<◌, ◌∷◌, ◌++◌, length, take, decimal, IfSome};
 ghost use Rattle.std.specs.List.{list_all};
-ghost use Rattle.sn_string.specs.Parameters.{IsParamsJson, is_plain, plain_json};
+ghost use Rattle.sn_string.specs.Base64.{IsBase64};
+ghost use Rattle.sn_string.specs.Lent.{lent_params};
+ghost use Rattle.sn_string.specs.Parameters.{IsParamsJson, IsParamsPart, is_plain, plain_json};
+ghost use Rattle.sn_string.specs.declared.params.Params.{Params};
 
-use crate::params::Params;
-use crate::text::Text;
+use crate::lent::LentParams;
+use crate::params::are_within_bounds;
+use base64::engine::general_purpose::STANDARD;
+use itoa::Buffer;
 use simdutf8::compat::from_utf8;
-use std::alloc::{AllocError, Global};
 
-// The most bytes that plain JSON has beside its two texts: ten are of the cost.
-const FRAME: usize = 68;
+/// The bytes of the room in which a part is decoded. The parts of all but very long identifiers and
+/// nonces find room in it.
+pub(crate) const ROOM: usize = 384;
 
-/// The parameters, where the text is what is written for them, with nothing escaped.
-pub(crate) fn plain_params(alloc: Global, json: &[u8]) -> Result<Option<Params>, AllocError>
-    ensures { IfOk result (λ found. IfSome found (λ p. IsParamsJson json.now p)) }
+// The most characters that stand for so many bytes.
+const MOST_CHARACTERS: usize = 512;
+
+/// The parameters of a part, where it is short and is what is written for them, with nothing
+/// escaped.
+pub(crate) fn plain_params<'r>(part: &str, room: &'r mut [u8]) -> Option<LentParams<'r>>
+    requires { length room.old ≡ ROOM }
+    ensures { IfSome result (λ lent. IsParamsPart part.now (lent_params lent)) }
 {
-    let Some(candidate) = candidate_of(alloc, json)? else {
-        return Ok(None);
-    };
-    if !is_plain(&candidate.identifier) || !is_plain(&candidate.pw_nonce) {
-        return Ok(None);
-    }
-    let written = plain_json(alloc, &candidate)?;
-    if written.as_bytes() == json {
-        return Ok(Some(candidate));
-    }
-    Ok(None)
+    let count = decode_short(part, room)?;
+    plain_json(&room[..count])
 }
 
-// The only parameters that the text may be written for. Whether it is, the caller finds out.
-fn candidate_of(alloc: Global, json: &[u8]) -> Result<Option<Params>, AllocError> {
-    let Some((identifier, pw_cost, pw_nonce)) = pieces_of(json) else {
-        return Ok(None);
+// Decodes a short base64 text into the room, and gives the number of its bytes.
+fn decode_short(text: &str, room: &mut [u8]) -> Option<usize>
+    requires { length room.old ≡ ROOM }
+    ensures short { IfSome result (λ count. length text.now ≤ MOST_CHARACTERS) }
+    ensures within { IfSome result (λ count. count ≤ length room.new) }
+    ensures encoded { IfSome result (λ count. IsBase64 text.now (take count room.new)) }
+{
+    if text.len() > MOST_CHARACTERS {
+        return None;
+    }
+    match STANDARD.decode_slice_unchecked(text.as_bytes(), room) {
+        Ok(count) => Some(count),
+        Err(_) => None,
+    }
+}
+
+// The parameters, where the JSON is what is written for them, with nothing escaped.
+fn plain_json(json: &[u8]) -> Option<LentParams<'_>>
+    ensures { IfSome result (λ lent. IsParamsJson json.now (lent_params lent)) }
+{
+    let Ok(text) = from_utf8(json) else {
+        return None;
     };
-    let identifier = Text::of(alloc, identifier)?;
-    let pw_nonce = Text::of(alloc, pw_nonce)?;
-    Ok(Params::new(identifier, pw_cost, pw_nonce))
+    let (identifier, pw_cost, pw_nonce) = pieces_of(text)?;
+    if !is_plain(identifier) || !is_plain(pw_nonce) {
+        return None;
+    }
+    if !are_within_bounds(identifier, pw_cost, pw_nonce) {
+        return None;
+    }
+    Some(LentParams {
+        identifier,
+        pw_cost,
+        pw_nonce,
+    })
 }
 
 // The identifier, the cost and the nonce, where they stand between what is always written.
-fn pieces_of(json: &[u8]) -> Option<(&str, u32, &str)> {
-    let text = from_utf8(json).ok()?;
-    let text = text.strip_prefix("{\"identifier\":\"")?;
-    let (identifier, text) = text.split_once('"')?;
-    let text = text.strip_prefix(",\"pw_cost\":")?;
-    let (pw_cost, text) = text.split_once(',')?;
-    let text = text.strip_prefix("\"pw_nonce\":\"")?;
-    let pw_nonce = text.strip_suffix("\",\"version\":\"003\"}")?;
-    let pw_cost = pw_cost.parse().ok()?;
+fn pieces_of(json: &str) -> Option<(&str, u32, &str)>
+    ensures { IfSome result (λ pieces. (params : Params) → pieces.0.now ≡ params.identifier
+        → pieces.1 ≡ params.pw_cost → pieces.2.now ≡ params.pw_nonce → json.now ≡ plain_json params) }
+{
+    let (identifier, later) = piece(json, "{\"identifier\":\"", '"')?;
+    let (digits, last) = piece(later, ",\"pw_cost\":", ',')?;
+    let end = after(last, "\"pw_nonce\":\"")?;
+    let pw_nonce = before(end, "\",\"version\":\"003\"}")?;
+    let pw_cost = cost_of(digits)?;
     Some((identifier, pw_cost, pw_nonce))
 }
 
+// What stands between this front and the first mark after it, and what follows that.
+fn piece<'t>(text: &'t str, front: &str, mark: char) -> Option<(&'t str, &'t str)>
+    requires { mark < 128 }
+    ensures { IfSome result (λ both. text.now ≡ front.now ++ (both.0.now ++ mark ∷ both.1.now)) }
+{
+    let rest = after(text, front)?;
+    around(rest, mark)
+}
+
+// What follows this front.
+fn after<'t>(text: &'t str, front: &str) -> Option<&'t str>
+    ensures { IfSome result (λ rest. text.now ≡ front.now ++ rest.now) }
+{
+    text.strip_prefix(front)
+}
+
+// What stands before this end.
+fn before<'t>(text: &'t str, end: &str) -> Option<&'t str>
+    ensures { IfSome result (λ rest. text.now ≡ rest.now ++ end.now) }
+{
+    text.strip_suffix(end)
+}
+
+// What stands before the first mark, and what follows it.
+fn around(text: &str, mark: char) -> Option<(&str, &str)>
+    requires { mark < 128 }
+    ensures { IfSome result (λ both. text.now ≡ both.0.now ++ mark ∷ both.1.now) }
+{
+    text.split_once(mark)
+}
+
+// The cost that is written with these digits.
+fn cost_of(digits: &str) -> Option<u32>
+    ensures { IfSome result (λ cost. digits.now ≡ decimal cost) }
+{
+    let cost: u32 = digits.parse().ok()?;
+    let mut buffer = Buffer::new();
+    // `parse` takes a sign and leading zeros too, so what it read is written again and compared.
+    if buffer.format(cost).as_bytes() == digits.as_bytes() {
+        Some(cost)
+    } else {
+        None
+    }
+}
+
 // Whether the text stands in JSON as it is.
-fn is_plain(text: &Text) -> bool
+fn is_plain(text: &str) -> bool
     ensures { result ≡ list_all is_plain text.now }
 {
-    let text = text.as_str();
     are_plain(text.as_bytes())
 }
 
@@ -71,20 +144,4 @@ fn is_plain_byte(byte: u8) -> bool
     ensures { result ≡ is_plain byte }
 {
     byte >= 32 && byte != b'"' && byte != b'\\'
-}
-
-// The JSON of parameters whose texts are plain. It takes its room once.
-fn plain_json(alloc: Global, params: &Params) -> Result<String, AllocError>
-    ensures { IfOk result (λ json. string_bytes json ≡ plain_json params.now) }
-{
-    let identifier = params.identifier.as_str();
-    let pw_nonce = params.pw_nonce.as_str();
-    let room = identifier.len() + pw_nonce.len() + FRAME;
-    let mut json = String::with_capacity(alloc, room)?;
-    write!(
-        json,
-        "{{\"identifier\":\"{identifier}\",\"pw_cost\":{},\"pw_nonce\":\"{pw_nonce}\",\"version\":\"003\"}}",
-        params.pw_cost
-    )?;
-    Ok(json)
 }

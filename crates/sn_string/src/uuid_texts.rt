@@ -1,6 +1,6 @@
 //! Uuids in lower case with hyphens, so that each has one spelling.
 
-ghost use Rattle.std.specs.Prelude.{◌≤◌, ℕ, List, length, string_bytes, IfOk, IfSome, IfNone};
+ghost use Rattle.std.specs.Prelude.{◌≤◌, ◌↔◌, ℕ, List, length, string_bytes, IfOk, IfSome, IfNone, IsTrue};
 ghost use Rattle.sn_string.specs.Uuids.{IsUuidText};
 
 use std::alloc::{AllocError, Global};
@@ -30,6 +30,15 @@ pub fn uuid_of(text: &str) -> Option<Uuid>
     } else {
         None
     }
+}
+
+/// Whether the text is the spelling of this uuid.
+pub(crate) fn is_text_of(text: &str, uuid: Uuid) -> bool
+    ensures { IsTrue result ↔ IsUuidText text.now uuid }
+{
+    let mut buffer = Uuid::encode_buffer();
+    let written = spelled(uuid.as_bytes(), &mut buffer);
+    written.as_bytes() == text.as_bytes()
 }
 
 fn spelled<'b>(bytes: &[u8; 16], buffer: &'b mut [u8]) -> &'b str

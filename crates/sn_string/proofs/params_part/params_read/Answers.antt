@@ -3,7 +3,7 @@ use Rattle.std.proofs.lemmas.Result.{IfOk-weaker}
 use Rattle.sn_string.specs.Base64.{IsBase64}
 use Rattle.sn_string.proofs.Base64Facts.{IsParamsJson-part}
 use Rattle.sn_string.proofs.Cases.{IfNone-weaker}
-use Rattle.sn_string.proofs.params_part.params_of_part.Goals as goal
+use Rattle.sn_string.proofs.params_part.params_read.Goals as goal
 
 pub returns-clause-none : goal.returns-clause-none
 returns-clause-none c =
