@@ -1,13 +1,11 @@
 //! Strings of an item in an answer.
 
-ghost use Rattle.std.specs.Prelude.{◌≡◌, ◌≢◌, ◌↔◌, false, IfOk, IsTrue};
+ghost use Rattle.std.specs.Prelude.{◌↔◌, IfOk, IsTrue};
 ghost use Rattle.sn_conflict.specs.Checks.{HasItsStrings, IsStringOf};
 ghost use Rattle.sn_items.specs.Opens.{NamesItem};
 ghost use Rattle.sn_string.specs.Grammar.{Reading};
-ghost use Rattle.sn_string.specs.Uuids.{IsUuidText};
-ghost use Rattle.sn_string.specs.declared.reader.StringError.TheVariants.{Memory};
 
-use sn_string::{MOST_STRING, StringError, read, uuid_of};
+use sn_string::{MOST_STRING, names_uuid};
 use sn_sync::{Body, Item};
 use std::alloc::{AllocError, Global};
 use uuid::Uuid;
@@ -38,28 +36,5 @@ fn is_string_of(alloc: Global, uuid: Uuid, text: &str) -> Result<bool, AllocErro
 pub fn names_item(alloc: Global, uuid: Uuid, text: &str) -> Result<bool, AllocError>
     ensures { IfOk result (λ named. IsTrue named ↔ ((reading : Reading) × NamesItem text.now reading uuid)) }
 {
-    match read(alloc, text) {
-        Ok(parts) => Ok(is_text_of(parts.uuid, uuid)),
-        Err(error) => is_none(error),
-    }
-}
-
-// Whether a part of a 003 string is the text of this uuid.
-fn is_text_of(part: &str, uuid: Uuid) -> bool
-    ensures { IsTrue result ↔ IsUuidText part.now uuid }
-{
-    match uuid_of(part) {
-        Some(named) => named == uuid,
-        None => false,
-    }
-}
-
-// A text that isn't read is no string.
-fn is_none(error: StringError) -> Result<bool, AllocError>
-    ensures { IfOk result (λ is. (is ≡ false) × (error ≢ Memory)) }
-{
-    match error {
-        StringError::Memory => Err(AllocError),
-        _ => Ok(false),
-    }
+    names_uuid(alloc, text, uuid)
 }
