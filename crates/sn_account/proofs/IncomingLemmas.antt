@@ -9,14 +9,8 @@ use Rattle.sn_rows.specs.declared.key.Key.TheVariants as key
 use Rattle.sn_rows.specs.declared.server_rows.ItemRow.{ItemRow}
 use Rattle.sn_rows.specs.declared.value.Value.TheVariants as value
 use Rattle.sn_string.specs.Grammar.{Is003, Reading}
-use Rattle.sn_string.specs.Parts.{reading_of}
-use Rattle.sn_string.specs.Refusals.{IsRefusal}
 use Rattle.sn_string.specs.Uuids.{IsUuidText, uuid_text}
 use Rattle.sn_string.specs.declared.params.Params.{Params}
-use Rattle.sn_string.specs.declared.reader.Parts.{Parts}
-use Rattle.sn_string.specs.declared.reader.StringError.{StringError}
-use Rattle.sn_string.specs.declared.reader.StringError.TheVariants as error
-use Rattle.sn_string.proofs.Facts.{one_reading, read_back}
 use Rattle.sn_sync.specs.Laws.{AreBytes, FitsKind}
 use Rattle.sn_sync.specs.Stamps.{last_stamp}
 use Rattle.sn_sync.specs.declared.answer.Conflict.TheVariants as conflict
@@ -33,70 +27,32 @@ use Rattle.sn_account.specs.Taking.{IsAcceptance, IsAcceptedRow, IsEffect, IsFir
 use Rattle.sn_account.specs.declared.taken.Effect.{Effect}
 use Rattle.sn_account.specs.declared.taken.Effect.TheVariants as effect
 use Rattle.sn_account.specs.declared.taken.Taken.{Taken}
-use Rattle.sn_account.proofs.SessionTokens.{same_uuid}
 use Rattle.sn_account.proofs.TakenLemmas.{rows_after-more}
 
 -- ---- strings
 
 -- the text of a uuid is one that spells it
-pub spells : (part uuid : Bytes) → AreBytes 16 uuid → part ≡ uuid_text uuid → IsUuidText part uuid
+spells : (part uuid : Bytes) → AreBytes 16 uuid → part ≡ uuid_text uuid → IsUuidText part uuid
 spells part uuid are is = record { count = are.0; fit = are.1; spelled = is }
 
--- a part is this uuid's text where the uuid that it spells is this one
-pub same_text : (part named uuid : Bytes) (b : Bool) → IsUuidText part named → AreBytes 16 uuid → (IsTrue b ↔ (named ≡ uuid))
-    → (IsTrue b ↔ (part ≡ uuid_text uuid))
-same_text part named uuid b spelled are test = (
-  λ holds. spelled.spelled ∙ ap uuid_text (test.0 holds),
-  λ is. test.1 (same_uuid part named uuid spelled (spells part uuid are is)),
+-- a string that names the uuid under the parameters is its own
+pub own_string : {E : Type 0} (text uuid : Bytes) (present : Params) (own : Result Bool E) → AreBytes 16 uuid
+    → IfOk own (λ b. IsTrue b ↔ ((r : Reading) × Is003 text r × IsUuidText r.uuid uuid × (r.params ≡ present)))
+    → IfOk own (λ b. IsTrue b ↔ IsOwnString uuid present text)
+own_string text uuid present (Ok b) are test = (
+  λ holds. let own = test.0 holds in (own.0, own.1, own.2.spelled, own.3),
+  λ is. test.1 (is.0, is.1, spells is.0.uuid uuid are is.2, is.3),
 )
+own_string text uuid present (Err e) are test = tt
 
--- a text that is read is of the uuid where its part is, and carries what it is read with
-pub own_read : (text uuid : Bytes) (parts : Parts) (present : Params) (named same : Bool) → Is003 text (reading_of parts)
-    → (IsTrue named ↔ (parts.uuid.now ≡ uuid_text uuid)) → named ≡ true → (IsTrue same ↔ (parts.params ≡ present))
-    → (IsTrue same ↔ IsOwnString uuid present text)
-own_read text uuid parts present named same reads names is test = (
-  λ holds. (reading_of parts, reads, names.0 is, test.0 holds),
-  λ own. test.1 (ap (λ (r : Reading). r.params) (one_reading text (reading_of parts) own.0 reads own.1) ∙ own.3),
+-- and one that names it is of its item
+pub item_string : {E : Type 0} (text uuid : Bytes) (named : Result Bool E) → AreBytes 16 uuid
+    → IfOk named (λ b. IsTrue b ↔ ((r : Reading) × Is003 text r × IsUuidText r.uuid uuid)) → IfOk named (λ b. IsTrue b ↔ NamesItem text uuid)
+item_string text uuid (Ok b) are test = (
+  λ holds. let own = test.0 holds in (own.0, own.1, own.2.spelled),
+  λ is. test.1 (is.0, is.1, spells is.0.uuid uuid are is.2),
 )
-
-pub other_read : (text uuid : Bytes) (parts : Parts) (present : Params) (named : Bool) → Is003 text (reading_of parts)
-    → (IsTrue named ↔ (parts.uuid.now ≡ uuid_text uuid)) → named ≡ false → (IsTrue false ↔ IsOwnString uuid present text)
-other_read text uuid parts present named reads names is = (
-  λ holds. absurd cc,
-  λ own. sym is ∙ names.1 (ap (λ (r : Reading). r.uuid) (one_reading text (reading_of parts) own.0 reads own.1) ∙ own.2),
-)
-
-own_refused : (text uuid : Bytes) (e : StringError) (present : Params) (b : Bool) → IsRefusal text e → (b ≡ false) × (e ≢ error.Memory)
-    → (IsTrue b ↔ IsOwnString uuid present text)
-own_refused text uuid e present b refusal not = (
-  λ holds. absurd (let e = sym not.0 ∙ holds in cc),
-  λ own. absurd (not.1 (read_back text own.0 own.1 (Err e) refusal)),
-)
-
--- a text that is refused is no such string
-pub own_none : {E : Type 0} (text uuid : Bytes) (e : StringError) (present : Params) (outcome : Result Bool E) → IsRefusal text e
-    → IfOk outcome (λ b. (b ≡ false) × (e ≢ error.Memory)) → IfOk outcome (λ b. IsTrue b ↔ IsOwnString uuid present text)
-own_none text uuid e present (Ok b) refusal not = own_refused text uuid e present b refusal not
-own_none text uuid e present (Err f) refusal not = tt
-
--- the same of a text that names a uuid
-pub named_read : (text uuid : Bytes) (parts : Parts) (named : Bool) → Is003 text (reading_of parts) → (IsTrue named ↔ (parts.uuid.now ≡ uuid_text uuid))
-    → (IsTrue named ↔ NamesItem text uuid)
-named_read text uuid parts named reads names = (
-  λ holds. (reading_of parts, reads, names.0 holds),
-  λ own. names.1 (ap (λ (r : Reading). r.uuid) (one_reading text (reading_of parts) own.0 reads own.1) ∙ own.2),
-)
-
-named_refused : (text uuid : Bytes) (e : StringError) (b : Bool) → IsRefusal text e → (b ≡ false) × (e ≢ error.Memory) → (IsTrue b ↔ NamesItem text uuid)
-named_refused text uuid e b refusal not = (
-  λ holds. absurd (let e = sym not.0 ∙ holds in cc),
-  λ own. absurd (not.1 (read_back text own.0 own.1 (Err e) refusal)),
-)
-
-pub named_none : {E : Type 0} (text uuid : Bytes) (e : StringError) (outcome : Result Bool E) → IsRefusal text e
-    → IfOk outcome (λ b. (b ≡ false) × (e ≢ error.Memory)) → IfOk outcome (λ b. IsTrue b ↔ NamesItem text uuid)
-named_none text uuid e (Ok b) refusal not = named_refused text uuid e b refusal not
-named_none text uuid e (Err f) refusal not = tt
+item_string text uuid (Err e) are test = tt
 
 -- where the first string isn't its own, the body isn't
 pub own_not_first : (uuid : Bytes) (present : Params) (b : Body) (content enc : Bytes) (first : Bool) → b ≡ body.Strings content enc

@@ -9,18 +9,16 @@ ghost use Rattle.sn_account.specs.Syncs.{AreShort, NoneLong, start, strings_in};
 ghost use Rattle.sn_account.specs.Taking.{IsAcceptance, IsAcceptedRow, IsBounded, IsEffect, IsFirstStamp, content_in, enc_in, is_deleted, progress};
 ghost use Rattle.sn_rows.specs.Table.{Rows};
 ghost use Rattle.sn_rows.specs.declared.server_rows.StoreRow.{StoreRow};
-ghost use Rattle.sn_string.specs.Uuids.{uuid_text};
 ghost use Rattle.sn_sync.specs.Laws.{AreBytes, FitsSent};
 ghost use Rattle.sn_sync.specs.Stamps.{IsStampOrNone, last_stamp};
 
 use crate::changes::put_item;
-use crate::passwords::carries_none;
 use crate::state::State;
 use crate::stored::{copy_of, given, is_same, names, weight};
 use crate::taken::{Effect, Taken};
 use crate::taking::{add, none_taken, stored};
 use sn_rows::ItemRow;
-use sn_string::{LAST_STAMP, MOST_BYTES, Params, StringError, read, uuid_of};
+use sn_string::{LAST_STAMP, MOST_BYTES, Params, names_uuid_under};
 use sn_sync::{Body, Conflict, Item};
 use std::alloc::{AllocError, Global};
 use uuid::Uuid;
@@ -235,24 +233,5 @@ fn is_own_string(
     requires { AreBytes 16 uuid }
     ensures { IfOk result (λ own. IsTrue own ↔ IsOwnString uuid present.now text.now) }
 {
-    match read(alloc, text) {
-        Ok(parts) => {
-            if !is_text_of(parts.uuid, uuid) {
-                return Ok(false);
-            }
-            Ok(parts.params.same(present))
-        }
-        Err(error) => carries_none(error),
-    }
-}
-
-// Whether a part of a 003 string is the text of this uuid.
-pub(crate) fn is_text_of(part: &str, uuid: Uuid) -> bool
-    requires { AreBytes 16 uuid }
-    ensures { IsTrue result ↔ (part.now ≡ uuid_text uuid) }
-{
-    match uuid_of(part) {
-        Some(named) => named == uuid,
-        None => false,
-    }
+    names_uuid_under(alloc, text, uuid, present)
 }

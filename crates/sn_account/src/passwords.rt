@@ -218,8 +218,8 @@ fn carries_text(alloc: Global, text: &str, params: &Params) -> Result<bool, Allo
     }
 }
 
-/// A refused text carries no parameters, unless memory was wanting.
-pub(crate) fn carries_none(error: StringError) -> Result<bool, AllocError>
+// A refused text carries no parameters, unless memory was wanting.
+fn carries_none(error: StringError) -> Result<bool, AllocError>
     ensures { IfOk result (λ carried. (carried ≡ false) × (error ≢ Memory)) }
 {
     match error {

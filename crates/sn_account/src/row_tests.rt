@@ -8,11 +8,9 @@ ghost use Rattle.sn_sync.specs.Laws.{AreBytes};
 ghost use Rattle.sn_account.specs.Walks.{HasReached, HasSoundStamps, HasSoundStrings, IsNumbered, IsOwned, IsReached, IsSoundRow};
 
 use crate::all_rows::RowTest;
-use crate::incoming::is_text_of;
-use crate::passwords::carries_none;
 use crate::state::State;
 use sn_rows::{ItemRow, Key, Value};
-use sn_string::read;
+use sn_string::names_uuid;
 use std::alloc::{AllocError, Global};
 use uuid::Uuid;
 
@@ -192,8 +190,5 @@ fn names_item(alloc: Global, text: &str, uuid: &Uuid) -> Result<bool, AllocError
     requires { AreBytes 16 uuid.now }
     ensures { IfOk result (λ named. IsTrue named ↔ NamesItem text.now uuid.now) }
 {
-    match read(alloc, text) {
-        Ok(parts) => Ok(is_text_of(parts.uuid, *uuid)),
-        Err(error) => carries_none(error),
-    }
+    names_uuid(alloc, text, *uuid)
 }
