@@ -1,5 +1,6 @@
 pub mod AnswersBack
 pub mod Appending
+pub mod Bodies
 pub mod Cases
 pub mod Causes
 pub mod Chains

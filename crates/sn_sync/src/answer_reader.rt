@@ -3,7 +3,7 @@
 ghost use Rattle.std.specs.Prelude.{◌≡◌, ℕ, List, IfErr, IfNone, IfOk, IfSome, codes};
 ghost use Rattle.serde_json.specs.Data.{Data};
 ghost use Rattle.serde_json.specs.Find.{get};
-ghost use Rattle.serde_json.specs.View.{items_view, view};
+ghost use Rattle.sn_json.specs.Views.{items_view, view};
 ghost use Rattle.sn_sync.specs.Answers.{AreConflicts, HasNoNumber, HasNoUuid, IsAnswer, IsConflict, IsUser, RefusesAnswer, RefusesConflict, RefusesConflictList, RefusesConflicts, RefusesMember, RefusesOn, RefusesRefused, RefusesUser, RefusesUserOf, SaysConflicts, SaysItem, SaysMore, SaysOn, SaysRefused, SaysUser};
 ghost use Rattle.sn_sync.specs.Fits.{FitsAnswer};
 ghost use Rattle.sn_sync.specs.Items.{sent, stored};
@@ -21,7 +21,7 @@ use crate::members::{
 };
 use crate::request::Route;
 use crate::request_reader::body_of;
-use serde_json::Value;
+use sn_json::{Node, Nodes, Scratch};
 use sn_string::{OwnedList, Params, Text, uuid_of};
 use std::alloc::{AllocError, Global};
 use uuid::Uuid;
@@ -37,17 +37,18 @@ pub fn read_answer(
     ensures fits { IfOk result (FitsAnswer route status) }
     ensures err { IfErr result (Caused (RefusesAnswer route status text.now)) }
 {
-    let body = body_of(alloc, text)?;
+    let mut scratch = Scratch::new(alloc);
+    let document = body_of(alloc, text, &mut scratch)?;
     if status == 200 {
-        accepted(alloc, route, &body)
+        accepted(alloc, route, document.root())
     } else {
-        refused(alloc, status, &body)
+        refused(alloc, status, document.root())
     }
 }
 
-fn accepted(alloc: Global, route: Route, body: &Value) -> Result<Answer, SyncError>
-    ensures ok { IfOk result (SaysOn route (view body.now)) }
-    ensures err { IfErr result (Caused (RefusesOn route (view body.now))) }
+fn accepted(alloc: Global, route: Route, body: Node<'_, '_>) -> Result<Answer, SyncError>
+    ensures ok { IfOk result (SaysOn route (view body.entry)) }
+    ensures err { IfErr result (Caused (RefusesOn route (view body.entry))) }
 {
     match route {
         Route::Params => params(alloc, body),
@@ -65,9 +66,9 @@ struct User {
     uuid: Uuid,
 }
 
-fn account(alloc: Global, body: &Value) -> Result<Answer, SyncError>
-    ensures ok { IfOk result (SaysOn route.Register (view body.now)) }
-    ensures err { IfErr result (Caused (RefusesOn route.Register (view body.now))) }
+fn account(alloc: Global, body: Node<'_, '_>) -> Result<Answer, SyncError>
+    ensures ok { IfOk result (SaysOn route.Register (view body.entry)) }
+    ensures err { IfErr result (Caused (RefusesOn route.Register (view body.entry))) }
 {
     let token = session_token_in(alloc, body, "token")?;
     let user = user_in(alloc, body)?;
@@ -78,9 +79,9 @@ fn account(alloc: Global, body: &Value) -> Result<Answer, SyncError>
     })
 }
 
-fn user_in(alloc: Global, body: &Value) -> Result<User, SyncError>
-    ensures ok { IfOk result (λ user. SaysUser (get (codes "user") (view body.now)) user.identifier user.uuid) }
-    ensures err { IfErr result (Caused (RefusesUser (get (codes "user") (view body.now)))) }
+fn user_in(alloc: Global, body: Node<'_, '_>) -> Result<User, SyncError>
+    ensures ok { IfOk result (λ user. SaysUser (get (codes "user") (view body.entry)) user.identifier user.uuid) }
+    ensures err { IfErr result (Caused (RefusesUser (get (codes "user") (view body.entry)))) }
 {
     match object_in(body, "user") {
         Some(value) => user_of(alloc, value),
@@ -88,19 +89,19 @@ fn user_in(alloc: Global, body: &Value) -> Result<User, SyncError>
     }
 }
 
-fn user_of(alloc: Global, value: &Value) -> Result<User, SyncError>
-    requires { IsObject (view value.now) }
-    ensures ok { IfOk result (λ user. IsUser (view value.now) user.identifier user.uuid) }
-    ensures err { IfErr result (Caused (RefusesUserOf (view value.now))) }
+fn user_of(alloc: Global, value: Node<'_, '_>) -> Result<User, SyncError>
+    requires { IsObject (view value) }
+    ensures ok { IfOk result (λ user. IsUser (view value.entry) user.identifier user.uuid) }
+    ensures err { IfErr result (Caused (RefusesUserOf (view value.entry))) }
 {
     let identifier = identifier_in(alloc, value, "email")?;
     let uuid = uuid_in(value, "uuid")?;
     Ok(User { identifier, uuid })
 }
 
-fn object_in<'v>(body: &'v Value, name: &str) -> Option<&'v Value>
-    ensures some { IfSome result (λ value. (get name.now (view body.now) ≡ Some (view value.now)) × IsObject (view value.now)) }
-    ensures none { IfNone result ((d : Data) → get name.now (view body.now) ≡ Some d → ¬ (IsObject d)) }
+fn object_in<'v, 'a>(body: Node<'v, 'a>, name: &str) -> Option<Node<'v, 'a>>
+    ensures some { IfSome result (λ value. (get name.now (view body.entry) ≡ Some (view value)) × IsObject (view value)) }
+    ensures none { IfNone result ((d : Data) → get name.now (view body.entry) ≡ Some d → ¬ (IsObject d)) }
 {
     match body.get(name) {
         Some(value) if value.is_object() => Some(value),
@@ -110,9 +111,9 @@ fn object_in<'v>(body: &'v Value, name: &str) -> Option<&'v Value>
 
 // ---- parameters
 
-fn params(alloc: Global, body: &Value) -> Result<Answer, SyncError>
-    ensures ok { IfOk result (SaysOn route.Params (view body.now)) }
-    ensures err { IfErr result (Caused (RefusesOn route.Params (view body.now))) }
+fn params(alloc: Global, body: Node<'_, '_>) -> Result<Answer, SyncError>
+    ensures ok { IfOk result (SaysOn route.Params (view body.entry)) }
+    ensures err { IfErr result (Caused (RefusesOn route.Params (view body.entry))) }
 {
     let identifier = identifier_in(alloc, body, "identifier")?;
     let pw_cost = cost_in(body, "pw_cost")?;
@@ -127,9 +128,9 @@ fn params(alloc: Global, body: &Value) -> Result<Answer, SyncError>
 
 // ---- a sync
 
-fn synced(alloc: Global, body: &Value) -> Result<Answer, SyncError>
-    ensures ok { IfOk result (SaysOn route.Sync (view body.now)) }
-    ensures err { IfErr result (Caused (RefusesOn route.Sync (view body.now))) }
+fn synced(alloc: Global, body: Node<'_, '_>) -> Result<Answer, SyncError>
+    ensures ok { IfOk result (SaysOn route.Sync (view body.entry)) }
+    ensures err { IfErr result (Caused (RefusesOn route.Sync (view body.entry))) }
 {
     let conflicts = conflicts(alloc, body)?;
     let cursor_token = nullable_in(alloc, body, "cursor_token")?;
@@ -145,9 +146,9 @@ fn synced(alloc: Global, body: &Value) -> Result<Answer, SyncError>
     })
 }
 
-fn conflicts(alloc: Global, body: &Value) -> Result<OwnedList<Conflict>, SyncError>
-    ensures ok { IfOk result (SaysConflicts (get (codes "conflicts") (view body.now))) }
-    ensures err { IfErr result (Caused (RefusesConflictList (get (codes "conflicts") (view body.now)))) }
+fn conflicts(alloc: Global, body: Node<'_, '_>) -> Result<OwnedList<Conflict>, SyncError>
+    ensures ok { IfOk result (SaysConflicts (get (codes "conflicts") (view body.entry))) }
+    ensures err { IfErr result (Caused (RefusesConflictList (get (codes "conflicts") (view body.entry)))) }
 {
     match values_in(body, "conflicts") {
         Some(values) => conflicts_of(alloc, values),
@@ -155,20 +156,22 @@ fn conflicts(alloc: Global, body: &Value) -> Result<OwnedList<Conflict>, SyncErr
     }
 }
 
-fn conflicts_of(alloc: Global, values: &[Value]) -> Result<OwnedList<Conflict>, SyncError>
-    ensures ok { IfOk result (AreConflicts (items_view values.now)) }
-    ensures err { IfErr result (Caused (RefusesConflicts (items_view values.now))) }
+fn conflicts_of(alloc: Global, values: Nodes<'_, '_>) -> Result<OwnedList<Conflict>, SyncError>
+    ensures ok { IfOk result (AreConflicts (items_view values.entry)) }
+    ensures err { IfErr result (Caused (RefusesConflicts (items_view values.entry))) }
 {
     let mut conflicts = OwnedList::new(alloc);
-    for value in values {
+    let mut left = values;
+    'values: while let Some((value, rest)) = left.split_first() {
         conflicts.push(conflict(alloc, value)?)?;
+        left = rest;
     }
     Ok(conflicts)
 }
 
-fn conflict(alloc: Global, value: &Value) -> Result<Conflict, SyncError>
-    ensures ok { IfOk result (IsConflict (view value.now)) }
-    ensures err { IfErr result (Caused (RefusesConflict (view value.now))) }
+fn conflict(alloc: Global, value: Node<'_, '_>) -> Result<Conflict, SyncError>
+    ensures ok { IfOk result (IsConflict (view value.entry)) }
+    ensures err { IfErr result (Caused (RefusesConflict (view value.entry))) }
 {
     if !value.is_object() {
         return Err(lacks("conflicts"));
@@ -187,9 +190,9 @@ fn conflict(alloc: Global, value: &Value) -> Result<Conflict, SyncError>
     }
 }
 
-fn server_item(alloc: Global, value: &Value) -> Result<Item, SyncError>
-    ensures ok { IfOk result (SaysItem stored (get (codes "server_item") (view value.now))) }
-    ensures err { IfErr result (Caused (RefusesMember stored (codes "server_item") (get (codes "server_item") (view value.now)))) }
+fn server_item(alloc: Global, value: Node<'_, '_>) -> Result<Item, SyncError>
+    ensures ok { IfOk result (SaysItem stored (get (codes "server_item") (view value.entry))) }
+    ensures err { IfErr result (Caused (RefusesMember stored (codes "server_item") (get (codes "server_item") (view value.entry)))) }
 {
     match value.get("server_item") {
         Some(item) => stored_item(alloc, "server_item", item),
@@ -197,9 +200,9 @@ fn server_item(alloc: Global, value: &Value) -> Result<Item, SyncError>
     }
 }
 
-fn unsaved_item(alloc: Global, value: &Value) -> Result<Item, SyncError>
-    ensures ok { IfOk result (SaysItem sent (get (codes "unsaved_item") (view value.now))) }
-    ensures err { IfErr result (Caused (RefusesMember sent (codes "unsaved_item") (get (codes "unsaved_item") (view value.now)))) }
+fn unsaved_item(alloc: Global, value: Node<'_, '_>) -> Result<Item, SyncError>
+    ensures ok { IfOk result (SaysItem sent (get (codes "unsaved_item") (view value.entry))) }
+    ensures err { IfErr result (Caused (RefusesMember sent (codes "unsaved_item") (get (codes "unsaved_item") (view value.entry)))) }
 {
     match value.get("unsaved_item") {
         Some(item) => sent_item(alloc, "unsaved_item", item),
@@ -209,9 +212,9 @@ fn unsaved_item(alloc: Global, value: &Value) -> Result<Item, SyncError>
 
 // ---- a refusal
 
-fn refused(alloc: Global, status: u16, body: &Value) -> Result<Answer, SyncError>
-    ensures ok { IfOk result (SaysRefused status (view body.now)) }
-    ensures err { IfErr result (Caused (RefusesRefused (view body.now))) }
+fn refused(alloc: Global, status: u16, body: Node<'_, '_>) -> Result<Answer, SyncError>
+    ensures ok { IfOk result (SaysRefused status (view body.entry)) }
+    ensures err { IfErr result (Caused (RefusesRefused (view body.entry))) }
 {
     let Some(error) = body.get("error") else {
         return Err(lacks("error"));
@@ -225,8 +228,8 @@ fn refused(alloc: Global, status: u16, body: &Value) -> Result<Answer, SyncError
 }
 
 // The members beside the tag that have their kind.
-fn more_of(alloc: Global, error: &Value) -> Result<More, AllocError>
-    ensures { IfOk result (SaysMore (view error.now)) }
+fn more_of(alloc: Global, error: Node<'_, '_>) -> Result<More, AllocError>
+    ensures { IfOk result (SaysMore (view error.entry)) }
 {
     match (number_of(error, "number"), named_uuid(error, "uuid")) {
         (Some(number), Some(uuid)) => Ok(More::Both(number, uuid)),

@@ -3,7 +3,7 @@
 ghost use Rattle.std.specs.Prelude.{◌≡◌, ◌↔◌, ◌≢◌, IfErr, IfOk, IfNone, IfSome, IsTrue, codes};
 ghost use Rattle.serde_json.specs.Data.{Items, array};
 ghost use Rattle.serde_json.specs.Find.{get};
-ghost use Rattle.serde_json.specs.View.{items_view, view};
+ghost use Rattle.sn_json.specs.Views.{items_view, view};
 ghost use Rattle.sn_sync.specs.Items.{AreItems, IsDeleted, IsItem, RefusesDeleted, RefusesItem, RefusesItems, RefusesKept, RefusesList, SaysCreated, SaysItems, SaysUpdated, sent, stored};
 ghost use Rattle.sn_sync.specs.Members.{IsObject};
 ghost use Rattle.sn_sync.specs.Refusals.{Caused, Lacks};
@@ -15,7 +15,7 @@ use crate::item::{Body, Item};
 use crate::members::{
     flag_in, kind_in, lacks, optional_in, stamp_in, stamp_text_in, text_or_empty_in, uuid_in,
 };
-use serde_json::Value;
+use sn_json::{Node, Nodes};
 use sn_string::{OwnedList, Text};
 use std::alloc::Global;
 
@@ -30,10 +30,10 @@ enum Standing {
 pub(crate) fn sent_item(
     alloc: Global,
     outer: &'static str,
-    value: &Value,
+    value: Node<'_, '_>,
 ) -> Result<Item, SyncError>
-    ensures ok { IfOk result (IsItem sent (view value.now)) }
-    ensures err { IfErr result (Caused (RefusesItem sent outer.now (view value.now))) }
+    ensures ok { IfOk result (IsItem sent (view value.entry)) }
+    ensures err { IfErr result (Caused (RefusesItem sent outer.now (view value.entry))) }
 {
     item(alloc, Standing::Sent, outer, value)
 }
@@ -42,10 +42,10 @@ pub(crate) fn sent_item(
 pub(crate) fn stored_item(
     alloc: Global,
     outer: &'static str,
-    value: &Value,
+    value: Node<'_, '_>,
 ) -> Result<Item, SyncError>
-    ensures ok { IfOk result (IsItem stored (view value.now)) }
-    ensures err { IfErr result (Caused (RefusesItem stored outer.now (view value.now))) }
+    ensures ok { IfOk result (IsItem stored (view value.entry)) }
+    ensures err { IfErr result (Caused (RefusesItem stored outer.now (view value.entry))) }
 {
     item(alloc, Standing::Stored, outer, value)
 }
@@ -53,11 +53,11 @@ pub(crate) fn stored_item(
 /// The items in the member of this name.
 pub(crate) fn sent_items(
     alloc: Global,
-    body: &Value,
+    body: Node<'_, '_>,
     name: &'static str,
 ) -> Result<OwnedList<Item>, SyncError>
-    ensures ok { IfOk result (SaysItems sent (get name.now (view body.now))) }
-    ensures err { IfErr result (Caused (RefusesList sent name.now (get name.now (view body.now)))) }
+    ensures ok { IfOk result (SaysItems sent (get name.now (view body.entry))) }
+    ensures err { IfErr result (Caused (RefusesList sent name.now (get name.now (view body.entry)))) }
 {
     list(alloc, Standing::Sent, body, name)
 }
@@ -65,11 +65,11 @@ pub(crate) fn sent_items(
 /// The account's items in the member of this name.
 pub(crate) fn stored_items(
     alloc: Global,
-    body: &Value,
+    body: Node<'_, '_>,
     name: &'static str,
 ) -> Result<OwnedList<Item>, SyncError>
-    ensures ok { IfOk result (SaysItems stored (get name.now (view body.now))) }
-    ensures err { IfErr result (Caused (RefusesList stored name.now (get name.now (view body.now)))) }
+    ensures ok { IfOk result (SaysItems stored (get name.now (view body.entry))) }
+    ensures err { IfErr result (Caused (RefusesList stored name.now (get name.now (view body.entry)))) }
 {
     list(alloc, Standing::Stored, body, name)
 }
@@ -77,11 +77,11 @@ pub(crate) fn stored_items(
 fn list(
     alloc: Global,
     standing: Standing,
-    body: &Value,
+    body: Node<'_, '_>,
     name: &'static str,
 ) -> Result<OwnedList<Item>, SyncError>
-    ensures ok { IfOk result (SaysItems (standing_of standing) (get name.now (view body.now))) }
-    ensures err { IfErr result (Caused (RefusesList (standing_of standing) name.now (get name.now (view body.now)))) }
+    ensures ok { IfOk result (SaysItems (standing_of standing) (get name.now (view body.entry))) }
+    ensures err { IfErr result (Caused (RefusesList (standing_of standing) name.now (get name.now (view body.entry)))) }
 {
     match values_in(body, name) {
         Some(values) => items(alloc, standing, name, values),
@@ -93,14 +93,16 @@ fn items(
     alloc: Global,
     standing: Standing,
     outer: &'static str,
-    values: &[Value],
+    values: Nodes<'_, '_>,
 ) -> Result<OwnedList<Item>, SyncError>
-    ensures ok { IfOk result (AreItems (standing_of standing) (items_view values.now)) }
-    ensures err { IfErr result (Caused (RefusesItems (standing_of standing) outer.now (items_view values.now))) }
+    ensures ok { IfOk result (AreItems (standing_of standing) (items_view values.entry)) }
+    ensures err { IfErr result (Caused (RefusesItems (standing_of standing) outer.now (items_view values.entry))) }
 {
     let mut items = OwnedList::new(alloc);
-    for value in values {
+    let mut left = values;
+    'values: while let Some((value, rest)) = left.split_first() {
         items.push(item(alloc, standing, outer, value)?)?;
+        left = rest;
     }
     Ok(items)
 }
@@ -109,10 +111,10 @@ fn item(
     alloc: Global,
     standing: Standing,
     outer: &'static str,
-    value: &Value,
+    value: Node<'_, '_>,
 ) -> Result<Item, SyncError>
-    ensures ok { IfOk result (IsItem (standing_of standing) (view value.now)) }
-    ensures err { IfErr result (Caused (RefusesItem (standing_of standing) outer.now (view value.now))) }
+    ensures ok { IfOk result (IsItem (standing_of standing) (view value.entry)) }
+    ensures err { IfErr result (Caused (RefusesItem (standing_of standing) outer.now (view value.entry))) }
 {
     if !value.is_object() {
         return Err(lacks(outer));
@@ -124,11 +126,11 @@ fn item(
     }
 }
 
-fn deleted_item(alloc: Global, standing: Standing, value: &Value) -> Result<Item, SyncError>
-    requires object { IsObject (view value.now) }
-    requires deleted { IsDeleted (view value.now) }
-    ensures ok { IfOk result (IsItem (standing_of standing) (view value.now)) }
-    ensures err { IfErr result (Caused (RefusesDeleted (standing_of standing) (view value.now))) }
+fn deleted_item(alloc: Global, standing: Standing, value: Node<'_, '_>) -> Result<Item, SyncError>
+    requires object { IsObject (view value) }
+    requires deleted { IsDeleted (view value) }
+    ensures ok { IfOk result (IsItem (standing_of standing) (view value.entry)) }
+    ensures err { IfErr result (Caused (RefusesDeleted (standing_of standing) (view value.entry))) }
 {
     let kind = kind_in(alloc, value, 0)?;
     let created = created_in(alloc, standing, value)?;
@@ -143,11 +145,11 @@ fn deleted_item(alloc: Global, standing: Standing, value: &Value) -> Result<Item
     })
 }
 
-fn kept_item(alloc: Global, standing: Standing, value: &Value) -> Result<Item, SyncError>
-    requires object { IsObject (view value.now) }
-    requires kept { ¬ (IsDeleted (view value.now)) }
-    ensures ok { IfOk result (IsItem (standing_of standing) (view value.now)) }
-    ensures err { IfErr result (Caused (RefusesKept (standing_of standing) (view value.now))) }
+fn kept_item(alloc: Global, standing: Standing, value: Node<'_, '_>) -> Result<Item, SyncError>
+    requires object { IsObject (view value) }
+    requires kept { ¬ (IsDeleted (view value)) }
+    ensures ok { IfOk result (IsItem (standing_of standing) (view value.entry)) }
+    ensures err { IfErr result (Caused (RefusesKept (standing_of standing) (view value.entry))) }
 {
     let content = text_or_empty_in(alloc, value, "content")?;
     let kind = kind_in(alloc, value, 1)?;
@@ -167,11 +169,15 @@ fn kept_item(alloc: Global, standing: Standing, value: &Value) -> Result<Item, S
 }
 
 // Only the account's items have a first acceptance.
-fn created_in(alloc: Global, standing: Standing, value: &Value) -> Result<Option<u64>, SyncError>
-    ensures ok { IfOk result (SaysCreated (standing_of standing) (get (codes "created_at") (view value.now))) }
+fn created_in(
+    alloc: Global,
+    standing: Standing,
+    value: Node<'_, '_>,
+) -> Result<Option<u64>, SyncError>
+    ensures ok { IfOk result (SaysCreated (standing_of standing) (get (codes "created_at") (view value.entry))) }
     ensures bound { IfOk result IsStampOrNone }
     ensures err { IfErr result (Caused (Lacks
-        (SaysCreated (standing_of standing) (get (codes "created_at") (view value.now))) (codes "created_at"))) }
+        (SaysCreated (standing_of standing) (get (codes "created_at") (view value.entry))) (codes "created_at"))) }
 {
     match standing {
         Standing::Sent => Ok(None),
@@ -179,10 +185,14 @@ fn created_in(alloc: Global, standing: Standing, value: &Value) -> Result<Option
     }
 }
 
-fn updated_in(alloc: Global, standing: Standing, value: &Value) -> Result<Option<Text>, SyncError>
-    ensures ok { IfOk result (SaysUpdated (standing_of standing) (get (codes "updated_at") (view value.now))) }
+fn updated_in(
+    alloc: Global,
+    standing: Standing,
+    value: Node<'_, '_>,
+) -> Result<Option<Text>, SyncError>
+    ensures ok { IfOk result (SaysUpdated (standing_of standing) (get (codes "updated_at") (view value.entry))) }
     ensures err { IfErr result (Caused (Lacks
-        (SaysUpdated (standing_of standing) (get (codes "updated_at") (view value.now))) (codes "updated_at"))) }
+        (SaysUpdated (standing_of standing) (get (codes "updated_at") (view value.entry))) (codes "updated_at"))) }
 {
     match standing {
         Standing::Sent => optional_in(alloc, value, "updated_at"),
@@ -190,22 +200,19 @@ fn updated_in(alloc: Global, standing: Standing, value: &Value) -> Result<Option
     }
 }
 
-fn is_deleted(value: &Value) -> bool
-    ensures { IsTrue result ↔ IsDeleted (view value.now) }
+fn is_deleted(value: Node<'_, '_>) -> bool
+    ensures { IsTrue result ↔ IsDeleted (view value.entry) }
 {
     value
         .get("deleted")
-        .and_then(Value::as_bool)
+        .and_then(Node::as_bool)
         .unwrap_or(false)
 }
 
 /// The values of a list in the member of this name.
-pub(crate) fn values_in<'v>(body: &'v Value, name: &str) -> Option<&'v [Value]>
-    ensures some { IfSome result (λ values. get name.now (view body.now) ≡ Some (array (items_view values.now))) }
-    ensures none { IfNone result ((ds : Items) → get name.now (view body.now) ≢ Some (array ds)) }
+pub(crate) fn values_in<'v, 'a>(body: Node<'v, 'a>, name: &str) -> Option<Nodes<'v, 'a>>
+    ensures some { IfSome result (λ values. get name.now (view body.entry) ≡ Some (array (items_view values))) }
+    ensures none { IfNone result ((ds : Items) → get name.now (view body.entry) ≢ Some (array ds)) }
 {
-    match body.get(name).and_then(Value::as_array) {
-        Some(values) => Some(values.as_slice()),
-        None => None,
-    }
+    body.get(name).and_then(Node::as_array)
 }

@@ -3,7 +3,7 @@
 ghost use Rattle.std.specs.Prelude.{◌≡◌, ◌⊎◌, ◌↔◌, ◌≤◌, ℕ, length, Bool, Some, IsTrue, IfErr, IfNone, IfOk, IfSome, codes};
 ghost use Rattle.serde_json.specs.Data.{null, boolean};
 ghost use Rattle.serde_json.specs.Find.{get};
-ghost use Rattle.serde_json.specs.View.{view};
+ghost use Rattle.sn_json.specs.Views.{view};
 ghost use Rattle.sn_sync.specs.Items.{SaysKind};
 ghost use Rattle.sn_sync.specs.Members.{Bytes, IsLeftOut, IsSessionToken, SaysCost, SaysFlag, SaysHash, SaysIdentifier, SaysNonce, SaysNullable, SaysNumber, SaysOptional, SaysSessionToken, SaysStamp, SaysStampText, SaysText, SaysTextOrEmpty, SaysUuid, SaysWord};
 ghost use Rattle.sn_sync.specs.Refusals.{Caused, Lacks};
@@ -12,15 +12,19 @@ ghost use Rattle.sn_sync.specs.declared.error.SyncError.TheVariants as error;
 
 use crate::error::SyncError;
 use crate::stamp::Stamp;
-use serde_json::Value;
+use sn_json::Node;
 use sn_string::{Text, hash_bytes, uuid_of};
 use std::alloc::Global;
 use uuid::Uuid;
 
 /// A text.
-pub(crate) fn text_in(alloc: Global, body: &Value, name: &'static str) -> Result<Text, SyncError>
-    ensures ok { IfOk result (SaysText (get name.now (view body.now))) }
-    ensures err { IfErr result (Caused (Lacks (SaysText (get name.now (view body.now))) name.now)) }
+pub(crate) fn text_in(
+    alloc: Global,
+    body: Node<'_, '_>,
+    name: &'static str,
+) -> Result<Text, SyncError>
+    ensures ok { IfOk result (SaysText (get name.now (view body.entry))) }
+    ensures err { IfErr result (Caused (Lacks (SaysText (get name.now (view body.entry))) name.now)) }
 {
     match text_of(body, name) {
         Some(text) => Ok(Text::of(alloc, text)?),
@@ -31,27 +35,31 @@ pub(crate) fn text_in(alloc: Global, body: &Value, name: &'static str) -> Result
 /// An identifier, 1 to 254 bytes.
 pub(crate) fn identifier_in(
     alloc: Global,
-    body: &Value,
+    body: Node<'_, '_>,
     name: &'static str,
 ) -> Result<Text, SyncError>
-    ensures ok { IfOk result (SaysIdentifier (get name.now (view body.now))) }
-    ensures err { IfErr result (Caused (Lacks (SaysIdentifier (get name.now (view body.now))) name.now)) }
+    ensures ok { IfOk result (SaysIdentifier (get name.now (view body.entry))) }
+    ensures err { IfErr result (Caused (Lacks (SaysIdentifier (get name.now (view body.entry))) name.now)) }
 {
     sized_in(alloc, body, name, 254)
 }
 
 /// A nonce, 1 to 256 bytes.
-pub(crate) fn nonce_in(alloc: Global, body: &Value, name: &'static str) -> Result<Text, SyncError>
-    ensures ok { IfOk result (SaysNonce (get name.now (view body.now))) }
-    ensures err { IfErr result (Caused (Lacks (SaysNonce (get name.now (view body.now))) name.now)) }
+pub(crate) fn nonce_in(
+    alloc: Global,
+    body: Node<'_, '_>,
+    name: &'static str,
+) -> Result<Text, SyncError>
+    ensures ok { IfOk result (SaysNonce (get name.now (view body.entry))) }
+    ensures err { IfErr result (Caused (Lacks (SaysNonce (get name.now (view body.entry))) name.now)) }
 {
     sized_in(alloc, body, name, 256)
 }
 
 /// A cost, 1 to 4294967295, without fraction or exponent.
-pub(crate) fn cost_in(body: &Value, name: &'static str) -> Result<u32, SyncError>
-    ensures ok { IfOk result (SaysCost (get name.now (view body.now))) }
-    ensures err { IfErr result (Caused (Lacks (SaysCost (get name.now (view body.now))) name.now)) }
+pub(crate) fn cost_in(body: Node<'_, '_>, name: &'static str) -> Result<u32, SyncError>
+    ensures ok { IfOk result (SaysCost (get name.now (view body.entry))) }
+    ensures err { IfErr result (Caused (Lacks (SaysCost (get name.now (view body.entry))) name.now)) }
 {
     match cost_of(body, name) {
         Some(cost) => Ok(cost),
@@ -60,9 +68,9 @@ pub(crate) fn cost_in(body: &Value, name: &'static str) -> Result<u32, SyncError
 }
 
 /// 32 bytes in lower-case hex.
-pub(crate) fn hash_in(body: &Value, name: &'static str) -> Result<[u8; 32], SyncError>
-    ensures ok { IfOk result (SaysHash (get name.now (view body.now))) }
-    ensures err { IfErr result (Caused (Lacks (SaysHash (get name.now (view body.now))) name.now)) }
+pub(crate) fn hash_in(body: Node<'_, '_>, name: &'static str) -> Result<[u8; 32], SyncError>
+    ensures ok { IfOk result (SaysHash (get name.now (view body.entry))) }
+    ensures err { IfErr result (Caused (Lacks (SaysHash (get name.now (view body.entry))) name.now)) }
 {
     match hash_of(body, name) {
         Some(bytes) => Ok(bytes),
@@ -71,9 +79,9 @@ pub(crate) fn hash_in(body: &Value, name: &'static str) -> Result<[u8; 32], Sync
 }
 
 /// A uuid in lower case with hyphens.
-pub(crate) fn uuid_in(body: &Value, name: &'static str) -> Result<Uuid, SyncError>
-    ensures ok { IfOk result (SaysUuid (get name.now (view body.now))) }
-    ensures err { IfErr result (Caused (Lacks (SaysUuid (get name.now (view body.now))) name.now)) }
+pub(crate) fn uuid_in(body: Node<'_, '_>, name: &'static str) -> Result<Uuid, SyncError>
+    ensures ok { IfOk result (SaysUuid (get name.now (view body.entry))) }
+    ensures err { IfErr result (Caused (Lacks (SaysUuid (get name.now (view body.entry))) name.now)) }
 {
     match named_uuid(body, name) {
         Some(uuid) => Ok(uuid),
@@ -84,11 +92,11 @@ pub(crate) fn uuid_in(body: &Value, name: &'static str) -> Result<Uuid, SyncErro
 /// A text, or nothing where it is null or left out.
 pub(crate) fn optional_in(
     alloc: Global,
-    body: &Value,
+    body: Node<'_, '_>,
     name: &'static str,
 ) -> Result<Option<Text>, SyncError>
-    ensures ok { IfOk result (SaysOptional (get name.now (view body.now))) }
-    ensures err { IfErr result (Caused (Lacks (SaysOptional (get name.now (view body.now))) name.now)) }
+    ensures ok { IfOk result (SaysOptional (get name.now (view body.entry))) }
+    ensures err { IfErr result (Caused (Lacks (SaysOptional (get name.now (view body.entry))) name.now)) }
 {
     match text_of(body, name) {
         Some(text) => Ok(Some(Text::of(alloc, text)?)),
@@ -100,11 +108,11 @@ pub(crate) fn optional_in(
 /// A text or null.
 pub(crate) fn nullable_in(
     alloc: Global,
-    body: &Value,
+    body: Node<'_, '_>,
     name: &'static str,
 ) -> Result<Option<Text>, SyncError>
-    ensures ok { IfOk result (SaysNullable (get name.now (view body.now))) }
-    ensures err { IfErr result (Caused (Lacks (SaysNullable (get name.now (view body.now))) name.now)) }
+    ensures ok { IfOk result (SaysNullable (get name.now (view body.entry))) }
+    ensures err { IfErr result (Caused (Lacks (SaysNullable (get name.now (view body.entry))) name.now)) }
 {
     match text_of(body, name) {
         Some(text) => Ok(Some(Text::of(alloc, text)?)),
@@ -116,11 +124,11 @@ pub(crate) fn nullable_in(
 /// A text, which is empty where it is null or left out.
 pub(crate) fn text_or_empty_in(
     alloc: Global,
-    body: &Value,
+    body: Node<'_, '_>,
     name: &'static str,
 ) -> Result<Text, SyncError>
-    ensures ok { IfOk result (SaysTextOrEmpty (get name.now (view body.now))) }
-    ensures err { IfErr result (Caused (Lacks (SaysTextOrEmpty (get name.now (view body.now))) name.now)) }
+    ensures ok { IfOk result (SaysTextOrEmpty (get name.now (view body.entry))) }
+    ensures err { IfErr result (Caused (Lacks (SaysTextOrEmpty (get name.now (view body.entry))) name.now)) }
 {
     match text_or_empty(body, name) {
         Some(text) => Ok(Text::of(alloc, text)?),
@@ -129,9 +137,9 @@ pub(crate) fn text_or_empty_in(
 }
 
 /// True or false, and false where it is null or left out.
-pub(crate) fn flag_in(body: &Value, name: &'static str) -> Result<bool, SyncError>
-    ensures ok { IfOk result (SaysFlag (get name.now (view body.now))) }
-    ensures err { IfErr result (Caused (Lacks (SaysFlag (get name.now (view body.now))) name.now)) }
+pub(crate) fn flag_in(body: Node<'_, '_>, name: &'static str) -> Result<bool, SyncError>
+    ensures ok { IfOk result (SaysFlag (get name.now (view body.entry))) }
+    ensures err { IfErr result (Caused (Lacks (SaysFlag (get name.now (view body.entry))) name.now)) }
 {
     match flag_of(body, name) {
         Some(flag) => Ok(flag),
@@ -141,10 +149,10 @@ pub(crate) fn flag_in(body: &Value, name: &'static str) -> Result<bool, SyncErro
 }
 
 /// A stamp, by its text.
-pub(crate) fn stamp_in(body: &Value, name: &'static str) -> Result<u64, SyncError>
-    ensures ok { IfOk result (SaysStamp (get name.now (view body.now))) }
+pub(crate) fn stamp_in(body: Node<'_, '_>, name: &'static str) -> Result<u64, SyncError>
+    ensures ok { IfOk result (SaysStamp (get name.now (view body.entry))) }
     ensures bound { IfOk result (λ stamp. stamp ≤ last_stamp) }
-    ensures err { IfErr result (Caused (Lacks (SaysStamp (get name.now (view body.now))) name.now)) }
+    ensures err { IfErr result (Caused (Lacks (SaysStamp (get name.now (view body.entry))) name.now)) }
 {
     match stamp_of(body, name) {
         Some(stamp) => Ok(stamp),
@@ -155,11 +163,11 @@ pub(crate) fn stamp_in(body: &Value, name: &'static str) -> Result<u64, SyncErro
 /// The text of a stamp.
 pub(crate) fn stamp_text_in(
     alloc: Global,
-    body: &Value,
+    body: Node<'_, '_>,
     name: &'static str,
 ) -> Result<Text, SyncError>
-    ensures ok { IfOk result (SaysStampText (get name.now (view body.now))) }
-    ensures err { IfErr result (Caused (Lacks (SaysStampText (get name.now (view body.now))) name.now)) }
+    ensures ok { IfOk result (SaysStampText (get name.now (view body.entry))) }
+    ensures err { IfErr result (Caused (Lacks (SaysStampText (get name.now (view body.entry))) name.now)) }
 {
     match stamp_text_of(body, name) {
         Some(text) => Ok(Text::of(alloc, text)?),
@@ -170,11 +178,11 @@ pub(crate) fn stamp_text_in(
 /// A session token, 1 to 1,024 letters, digits and signs of ASCII.
 pub(crate) fn session_token_in(
     alloc: Global,
-    body: &Value,
+    body: Node<'_, '_>,
     name: &'static str,
 ) -> Result<Text, SyncError>
-    ensures ok { IfOk result (SaysSessionToken (get name.now (view body.now))) }
-    ensures err { IfErr result (Caused (Lacks (SaysSessionToken (get name.now (view body.now))) name.now)) }
+    ensures ok { IfOk result (SaysSessionToken (get name.now (view body.entry))) }
+    ensures err { IfErr result (Caused (Lacks (SaysSessionToken (get name.now (view body.entry))) name.now)) }
 {
     match text_of(body, name) {
         Some(text) if is_session_token(text) => Ok(Text::of(alloc, text)?),
@@ -183,9 +191,9 @@ pub(crate) fn session_token_in(
 }
 
 /// The one text that is allowed.
-pub(crate) fn word_in(body: &Value, name: &'static str, word: &str) -> Result<(), SyncError>
-    ensures ok { IfOk result (λ _. SaysWord word.now (get name.now (view body.now)) word.now) }
-    ensures err { IfErr result (Caused (Lacks (SaysWord word.now (get name.now (view body.now))) name.now)) }
+pub(crate) fn word_in(body: Node<'_, '_>, name: &'static str, word: &str) -> Result<(), SyncError>
+    ensures ok { IfOk result (λ _. SaysWord word.now (get name.now (view body.entry)) word.now) }
+    ensures err { IfErr result (Caused (Lacks (SaysWord word.now (get name.now (view body.entry))) name.now)) }
 {
     match text_of(body, name) {
         Some(text) if text == word => Ok(()),
@@ -194,9 +202,9 @@ pub(crate) fn word_in(body: &Value, name: &'static str, word: &str) -> Result<()
 }
 
 /// An item's type of at least so many bytes, and at most 255.
-pub(crate) fn kind_in(alloc: Global, body: &Value, least: usize) -> Result<Text, SyncError>
-    ensures ok { IfOk result (SaysKind least (get (codes "content_type") (view body.now))) }
-    ensures err { IfErr result (Caused (Lacks (SaysKind least (get (codes "content_type") (view body.now))) (codes "content_type"))) }
+pub(crate) fn kind_in(alloc: Global, body: Node<'_, '_>, least: usize) -> Result<Text, SyncError>
+    ensures ok { IfOk result (SaysKind least (get (codes "content_type") (view body.entry))) }
+    ensures err { IfErr result (Caused (Lacks (SaysKind least (get (codes "content_type") (view body.entry))) (codes "content_type"))) }
 {
     match kind_of(body, least) {
         Some(kind) => Ok(Text::of(alloc, kind)?),
@@ -214,8 +222,8 @@ pub(crate) fn lacks(name: &'static str) -> SyncError
 }
 
 /// Whether the member is null, or there is none.
-pub(crate) fn is_left_out(body: &Value, name: &str) -> bool
-    ensures { IsTrue result ↔ IsLeftOut (get name.now (view body.now)) }
+pub(crate) fn is_left_out(body: Node<'_, '_>, name: &str) -> bool
+    ensures { IsTrue result ↔ IsLeftOut (get name.now (view body.entry)) }
 {
     match body.get(name) {
         Some(value) => value.is_null(),
@@ -224,17 +232,22 @@ pub(crate) fn is_left_out(body: &Value, name: &str) -> bool
 }
 
 /// The whole number, without fraction or exponent.
-pub(crate) fn number_of(body: &Value, name: &str) -> Option<u64>
-    ensures some { IfSome result (SaysNumber (get name.now (view body.now))) }
-    ensures none { IfNone result ((n : ℕ) → ¬ (SaysNumber (get name.now (view body.now)) n)) }
+pub(crate) fn number_of(body: Node<'_, '_>, name: &str) -> Option<u64>
+    ensures some { IfSome result (SaysNumber (get name.now (view body.entry))) }
+    ensures none { IfNone result ((n : ℕ) → ¬ (SaysNumber (get name.now (view body.entry)) n)) }
 {
-    body.get(name).and_then(Value::as_u64)
+    body.get(name).and_then(Node::as_u64)
 }
 
 // A text of at least one byte and at most so many.
-fn sized_in(alloc: Global, body: &Value, name: &'static str, most: usize) -> Result<Text, SyncError>
-    ensures ok { IfOk result (λ text. SaysText (get name.now (view body.now)) text × ((1 ≤ length text) × (length text ≤ most))) }
-    ensures err { IfErr result (Caused (Lacks (λ text. SaysText (get name.now (view body.now)) text × ((1 ≤ length text) × (length text ≤ most))) name.now)) }
+fn sized_in(
+    alloc: Global,
+    body: Node<'_, '_>,
+    name: &'static str,
+    most: usize,
+) -> Result<Text, SyncError>
+    ensures ok { IfOk result (λ text. SaysText (get name.now (view body.entry)) text × ((1 ≤ length text) × (length text ≤ most))) }
+    ensures err { IfErr result (Caused (Lacks (λ text. SaysText (get name.now (view body.entry)) text × ((1 ≤ length text) × (length text ≤ most))) name.now)) }
 {
     match text_of(body, name) {
         Some(text) if 1 <= text.len() && text.len() <= most => Ok(Text::of(alloc, text)?),
@@ -242,16 +255,16 @@ fn sized_in(alloc: Global, body: &Value, name: &'static str, most: usize) -> Res
     }
 }
 
-pub(crate) fn text_of<'v>(body: &'v Value, name: &str) -> Option<&'v str>
-    ensures some { IfSome result (λ text. SaysText (get name.now (view body.now)) text.now) }
-    ensures none { IfNone result ((text : Bytes) → ¬ (SaysText (get name.now (view body.now)) text)) }
+pub(crate) fn text_of<'a>(body: Node<'_, 'a>, name: &str) -> Option<&'a str>
+    ensures some { IfSome result (λ text. SaysText (get name.now (view body.entry)) text.now) }
+    ensures none { IfNone result ((text : Bytes) → ¬ (SaysText (get name.now (view body.entry)) text)) }
 {
-    body.get(name).and_then(Value::as_str)
+    body.get(name).and_then(Node::as_str)
 }
 
-fn cost_of(body: &Value, name: &str) -> Option<u32>
-    ensures some { IfSome result (SaysCost (get name.now (view body.now))) }
-    ensures none { IfNone result ((cost : ℕ) → ¬ (SaysCost (get name.now (view body.now)) cost)) }
+fn cost_of(body: Node<'_, '_>, name: &str) -> Option<u32>
+    ensures some { IfSome result (SaysCost (get name.now (view body.entry))) }
+    ensures none { IfNone result ((cost : ℕ) → ¬ (SaysCost (get name.now (view body.entry)) cost)) }
 {
     let number = number_of(body, name)?;
     match u32::try_from(number) {
@@ -260,22 +273,22 @@ fn cost_of(body: &Value, name: &str) -> Option<u32>
     }
 }
 
-fn hash_of(body: &Value, name: &str) -> Option<[u8; 32]>
-    ensures some { IfSome result (SaysHash (get name.now (view body.now))) }
-    ensures none { IfNone result ((bytes : Bytes) → ¬ (SaysHash (get name.now (view body.now)) bytes)) }
+fn hash_of(body: Node<'_, '_>, name: &str) -> Option<[u8; 32]>
+    ensures some { IfSome result (SaysHash (get name.now (view body.entry))) }
+    ensures none { IfNone result ((bytes : Bytes) → ¬ (SaysHash (get name.now (view body.entry)) bytes)) }
 {
     hash_bytes(text_of(body, name)?)
 }
 
-pub(crate) fn named_uuid(body: &Value, name: &str) -> Option<Uuid>
-    ensures some { IfSome result (SaysUuid (get name.now (view body.now))) }
-    ensures none { IfNone result ((uuid : Bytes) → ¬ (SaysUuid (get name.now (view body.now)) uuid)) }
+pub(crate) fn named_uuid(body: Node<'_, '_>, name: &str) -> Option<Uuid>
+    ensures some { IfSome result (SaysUuid (get name.now (view body.entry))) }
+    ensures none { IfNone result ((uuid : Bytes) → ¬ (SaysUuid (get name.now (view body.entry)) uuid)) }
 {
     uuid_of(text_of(body, name)?)
 }
 
-fn is_null(body: &Value, name: &str) -> bool
-    ensures { IsTrue result ↔ (get name.now (view body.now) ≡ Some null) }
+fn is_null(body: Node<'_, '_>, name: &str) -> bool
+    ensures { IsTrue result ↔ (get name.now (view body.entry) ≡ Some null) }
 {
     match body.get(name) {
         Some(value) => value.is_null(),
@@ -283,9 +296,9 @@ fn is_null(body: &Value, name: &str) -> bool
     }
 }
 
-fn text_or_empty<'v>(body: &'v Value, name: &str) -> Option<&'v str>
-    ensures some { IfSome result (λ text. SaysTextOrEmpty (get name.now (view body.now)) text.now) }
-    ensures none { IfNone result ((text : Bytes) → ¬ (SaysTextOrEmpty (get name.now (view body.now)) text)) }
+fn text_or_empty<'a>(body: Node<'_, 'a>, name: &str) -> Option<&'a str>
+    ensures some { IfSome result (λ text. SaysTextOrEmpty (get name.now (view body.entry)) text.now) }
+    ensures none { IfNone result ((text : Bytes) → ¬ (SaysTextOrEmpty (get name.now (view body.entry)) text)) }
 {
     match text_of(body, name) {
         Some(text) => Some(text),
@@ -295,9 +308,9 @@ fn text_or_empty<'v>(body: &'v Value, name: &str) -> Option<&'v str>
 }
 
 #[tactic(auto, using(crate::proofs::OneValue::no_kind))]
-fn kind_of(body: &Value, least: usize) -> Option<&str>
-    ensures some { IfSome result (λ kind. SaysKind least (get (codes "content_type") (view body.now)) kind.now) }
-    ensures none { IfNone result ((kind : Bytes) → ¬ (SaysKind least (get (codes "content_type") (view body.now)) kind)) }
+fn kind_of<'a>(body: Node<'_, 'a>, least: usize) -> Option<&'a str>
+    ensures some { IfSome result (λ kind. SaysKind least (get (codes "content_type") (view body.entry)) kind.now) }
+    ensures none { IfNone result ((kind : Bytes) → ¬ (SaysKind least (get (codes "content_type") (view body.entry)) kind)) }
 {
     let kind = text_or_empty(body, "content_type")?;
     if least <= kind.len() && kind.len() <= 255 {
@@ -307,24 +320,24 @@ fn kind_of(body: &Value, least: usize) -> Option<&str>
     }
 }
 
-fn flag_of(body: &Value, name: &str) -> Option<bool>
-    ensures some { IfSome result (λ flag. get name.now (view body.now) ≡ Some (boolean flag)) }
-    ensures none { IfNone result ((flag : Bool) → ¬ (get name.now (view body.now) ≡ Some (boolean flag))) }
+fn flag_of(body: Node<'_, '_>, name: &str) -> Option<bool>
+    ensures some { IfSome result (λ flag. get name.now (view body.entry) ≡ Some (boolean flag)) }
+    ensures none { IfNone result ((flag : Bool) → ¬ (get name.now (view body.entry) ≡ Some (boolean flag))) }
 {
-    body.get(name).and_then(Value::as_bool)
+    body.get(name).and_then(Node::as_bool)
 }
 
-fn stamp_of(body: &Value, name: &str) -> Option<u64>
-    ensures some { IfSome result (SaysStamp (get name.now (view body.now))) }
+fn stamp_of(body: Node<'_, '_>, name: &str) -> Option<u64>
+    ensures some { IfSome result (SaysStamp (get name.now (view body.entry))) }
     ensures bound { IfSome result (λ stamp. stamp ≤ last_stamp) }
-    ensures none { IfNone result ((stamp : ℕ) → ¬ (SaysStamp (get name.now (view body.now)) stamp)) }
+    ensures none { IfNone result ((stamp : ℕ) → ¬ (SaysStamp (get name.now (view body.entry)) stamp)) }
 {
     Stamp::read(text_of(body, name)?).ok()
 }
 
-fn stamp_text_of<'v>(body: &'v Value, name: &str) -> Option<&'v str>
-    ensures some { IfSome result (λ text. SaysStampText (get name.now (view body.now)) text.now) }
-    ensures none { IfNone result ((text : Bytes) → ¬ (SaysStampText (get name.now (view body.now)) text)) }
+fn stamp_text_of<'a>(body: Node<'_, 'a>, name: &str) -> Option<&'a str>
+    ensures some { IfSome result (λ text. SaysStampText (get name.now (view body.entry)) text.now) }
+    ensures none { IfNone result ((text : Bytes) → ¬ (SaysStampText (get name.now (view body.entry)) text)) }
 {
     let text = text_of(body, name)?;
     match Stamp::read(text) {

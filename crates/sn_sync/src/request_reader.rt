@@ -2,7 +2,7 @@
 
 ghost use Rattle.std.specs.Prelude.{◌≡◌, IfErr, IfOk, codes, option_map, string_bytes};
 ghost use Rattle.serde_json.specs.Find.{get};
-ghost use Rattle.serde_json.specs.View.{view};
+ghost use Rattle.sn_json.specs.Views.{document_view, view};
 ghost use Rattle.sn_sync.specs.Fits.{FitsRequest};
 ghost use Rattle.sn_sync.specs.Members.{SaysCost, SaysNonce, SaysWord};
 ghost use Rattle.sn_sync.specs.Query.{first_value};
@@ -16,7 +16,7 @@ use crate::members::{
     cost_in, hash_in, identifier_in, is_left_out, lacks, nonce_in, number_of, optional_in, word_in,
 };
 use crate::request::{Request, Route};
-use serde_json::Value;
+use sn_json::{Document, JsonError, Node, Scratch};
 use sn_string::{Params, Text};
 use std::alloc::{AllocError, Global};
 
@@ -35,12 +35,18 @@ pub fn read_request(
     ensures fits { IfOk result FitsRequest }
     ensures err { IfErr result (Caused (RefusesRequest route text.now)) }
 {
+    if let Route::Params = route {
+        return question(alloc, text);
+    }
+    let mut scratch = Scratch::new(alloc);
+    let document = body_of(alloc, text, &mut scratch)?;
+    let body = document.root();
     match route {
-        Route::Params => question(alloc, text),
-        Route::Register => registration(alloc, &body_of(alloc, text)?),
-        Route::SignIn => sign_in(alloc, &body_of(alloc, text)?),
-        Route::ChangePw => change(alloc, token, &body_of(alloc, text)?),
-        Route::Sync => sync(alloc, token, &body_of(alloc, text)?),
+        Route::Params => unreachable!(),
+        Route::Register => registration(alloc, body),
+        Route::SignIn => sign_in(alloc, body),
+        Route::ChangePw => change(alloc, token, body),
+        Route::Sync => sync(alloc, token, body),
     }
 }
 
@@ -70,32 +76,31 @@ fn email_of(alloc: Global, query: &[u8]) -> Result<Option<String>, AllocError>
     Ok(None)
 }
 
-// The value of an object's text.
-pub(crate) fn body_of(alloc: Global, text: &[u8]) -> Result<Value, SyncError>
-    ensures ok { IfOk result (λ value. HasBody text.now (view value)) }
+// An object's text, as it is read. The scratch is lent for as long.
+pub(crate) fn body_of<'a>(
+    alloc: Global,
+    text: &'a [u8],
+    scratch: &'a mut Scratch,
+) -> Result<Document<'a>, SyncError>
+    ensures ok { IfOk result (λ document. HasBody text.now (document_view document)) }
     ensures err { IfErr result (Caused (RefusesBody (λ d e. ⊥) text.now)) }
 {
-    match Value::from_slice(alloc, text) {
-        Ok(value) => {
-            if value.is_object() {
-                Ok(value)
+    match Document::from_slice(alloc, text, scratch) {
+        Ok(document) => {
+            if document.root().is_object() {
+                Ok(document)
             } else {
                 Err(SyncError::NotJson)
             }
         }
-        Err(error) => {
-            if error.is_memory() {
-                Err(SyncError::Memory)
-            } else {
-                Err(SyncError::NotJson)
-            }
-        }
+        Err(JsonError::NotJson) => Err(SyncError::NotJson),
+        Err(JsonError::Memory) => Err(SyncError::Memory),
     }
 }
 
-fn registration(alloc: Global, body: &Value) -> Result<Request, SyncError>
-    ensures ok { IfOk result (λ r. (route_of r ≡ route.Register) × Says (view body.now) r) }
-    ensures err { IfErr result (Caused (RefusesRegistration (view body.now))) }
+fn registration(alloc: Global, body: Node<'_, '_>) -> Result<Request, SyncError>
+    ensures ok { IfOk result (λ r. (route_of r ≡ route.Register) × Says (view body.entry) r) }
+    ensures err { IfErr result (Caused (RefusesRegistration (view body.entry))) }
 {
     let identifier = identifier_in(alloc, body, "email")?;
     let pw = hash_in(body, "password")?;
@@ -106,18 +111,18 @@ fn registration(alloc: Global, body: &Value) -> Result<Request, SyncError>
     Ok(Request::Register { params, pw })
 }
 
-fn sign_in(alloc: Global, body: &Value) -> Result<Request, SyncError>
-    ensures ok { IfOk result (λ r. (route_of r ≡ route.SignIn) × Says (view body.now) r) }
-    ensures err { IfErr result (Caused (RefusesSignIn (view body.now))) }
+fn sign_in(alloc: Global, body: Node<'_, '_>) -> Result<Request, SyncError>
+    ensures ok { IfOk result (λ r. (route_of r ≡ route.SignIn) × Says (view body.entry) r) }
+    ensures err { IfErr result (Caused (RefusesSignIn (view body.entry))) }
 {
     let identifier = identifier_in(alloc, body, "email")?;
     let pw = hash_in(body, "password")?;
     Ok(Request::SignIn { identifier, pw })
 }
 
-fn change(alloc: Global, token: &str, body: &Value) -> Result<Request, SyncError>
-    ensures ok { IfOk result (λ r. (route_of r ≡ route.ChangePw) × Says (view body.now) r × HasToken token.now r) }
-    ensures err { IfErr result (Caused (RefusesChange (view body.now))) }
+fn change(alloc: Global, token: &str, body: Node<'_, '_>) -> Result<Request, SyncError>
+    ensures ok { IfOk result (λ r. (route_of r ≡ route.ChangePw) × Says (view body.entry) r × HasToken token.now r) }
+    ensures err { IfErr result (Caused (RefusesChange (view body.entry))) }
 {
     let current = hash_in(body, "current_password")?;
     let pw = hash_in(body, "new_password")?;
@@ -133,11 +138,11 @@ fn change(alloc: Global, token: &str, body: &Value) -> Result<Request, SyncError
 }
 
 // The cost and the nonce of a password, where the version is the one that is served.
-fn cost_on(alloc: Global, body: &Value) -> Result<(u32, Text), SyncError>
-    ensures ok { IfOk result (λ both. SaysCost (get (codes "pw_cost") (view body.now)) both.0
-        × SaysNonce (get (codes "pw_nonce") (view body.now)) both.1
-        × SaysWord (codes "003") (get (codes "version") (view body.now)) (codes "003")) }
-    ensures err { IfErr result (Caused (RefusesCostOn (view body.now))) }
+fn cost_on(alloc: Global, body: Node<'_, '_>) -> Result<(u32, Text), SyncError>
+    ensures ok { IfOk result (λ both. SaysCost (get (codes "pw_cost") (view body.entry)) both.0
+        × SaysNonce (get (codes "pw_nonce") (view body.entry)) both.1
+        × SaysWord (codes "003") (get (codes "version") (view body.entry)) (codes "003")) }
+    ensures err { IfErr result (Caused (RefusesCostOn (view body.entry))) }
 {
     let cost = cost_in(body, "pw_cost")?;
     let nonce = nonce_in(alloc, body, "pw_nonce")?;
@@ -145,9 +150,9 @@ fn cost_on(alloc: Global, body: &Value) -> Result<(u32, Text), SyncError>
     Ok((cost, nonce))
 }
 
-fn sync(alloc: Global, token: &str, body: &Value) -> Result<Request, SyncError>
-    ensures ok { IfOk result (λ r. (route_of r ≡ route.Sync) × Says (view body.now) r × HasToken token.now r) }
-    ensures err { IfErr result (Caused (RefusesSync (view body.now))) }
+fn sync(alloc: Global, token: &str, body: Node<'_, '_>) -> Result<Request, SyncError>
+    ensures ok { IfOk result (λ r. (route_of r ≡ route.Sync) × Says (view body.entry) r × HasToken token.now r) }
+    ensures err { IfErr result (Caused (RefusesSync (view body.entry))) }
 {
     word_in(body, "api", "20190520")?;
     let cursor_token = optional_in(alloc, body, "cursor_token")?;
@@ -165,9 +170,9 @@ fn sync(alloc: Global, token: &str, body: &Value) -> Result<Request, SyncError>
 }
 
 // How many items the answer may give.
-fn limit_in(body: &Value) -> Result<u32, SyncError>
-    ensures ok { IfOk result (SaysLimit (get (codes "limit") (view body.now))) }
-    ensures err { IfErr result (Caused (RefusesLimit (get (codes "limit") (view body.now)))) }
+fn limit_in(body: Node<'_, '_>) -> Result<u32, SyncError>
+    ensures ok { IfOk result (SaysLimit (get (codes "limit") (view body.entry))) }
+    ensures err { IfErr result (Caused (RefusesLimit (get (codes "limit") (view body.entry)))) }
 {
     match number_of(body, "limit") {
         Some(number) if 1 <= number && number <= u64::from(MOST_ITEMS) => Ok(number as u32),

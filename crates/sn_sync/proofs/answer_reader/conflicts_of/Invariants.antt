@@ -1,7 +1,14 @@
-use Rattle.std.proofs.Common.{take}
-use Rattle.serde_json.specs.View.{items_view}
-use Rattle.sn_sync.specs.Answers.{AreConflicts}
+use Rattle.serde_json.specs.Events.{items_len}
+use Rattle.sn_json.specs.Views.{items_view}
+use Rattle.sn_sync.specs.Answers.{AreConflicts, RefusesConflicts}
+use Rattle.sn_sync.proofs.Lists.{GoesOn, Refuses}
 use Rattle.sn_sync.proofs.answer_reader.conflicts_of.Given as goal
 
-abbrev pub invariant-loop-value : goal.invariant-loop-value
-invariant-loop-value l = AreConflicts (items_view (take l.value-index l.values)) l.conflicts
+abbrev pub invariant-values : goal.invariant-values
+invariant-values l = record {
+  conflicts : GoesOn AreConflicts (items_view l.left) (items_view l.values) l.conflicts;
+  refusals : Refuses RefusesConflicts (items_view l.left) (items_view l.values);
+}
+
+abbrev pub decreases-values : goal.decreases-values
+decreases-values l = items_len (items_view l.left)

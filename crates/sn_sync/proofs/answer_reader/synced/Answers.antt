@@ -1,6 +1,6 @@
 use Rattle.std.proofs.Common.{codes, inl, inr}
 use Rattle.serde_json.specs.Find.{get}
-use Rattle.serde_json.specs.View.{view}
+use Rattle.sn_json.specs.Views.{view}
 use Rattle.sn_sync.specs.Answers.{RefusesSynced}
 use Rattle.sn_sync.specs.Items.{RefusesList, stored}
 use Rattle.sn_sync.specs.Members.{SaysText}
@@ -10,7 +10,7 @@ use Rattle.sn_sync.proofs.answer_reader.synced.Goals as goal
 
 pub returns-in_err-saved-clause-err : goal.returns-in_err-saved-clause-err
 returns-in_err-saved-clause-err c =
-    let d = view c.args.body.now in
+    let d = view c.args.body in
     IfErr-exit (RefusesList stored (codes "saved_items") (get (codes "saved_items") d)) (RefusesSynced d)
     c.from_residual-in_err-saved.result c.in_err-saved.field-0.0 c.from_residual-in_err-saved.ensures.1
     (λ e wrong. inr (
@@ -24,7 +24,7 @@ returns-in_err-saved-clause-err c =
 
 pub returns-in_err-sync_token-clause-err : goal.returns-in_err-sync_token-clause-err
 returns-in_err-sync_token-clause-err c =
-    let d = view c.args.body.now in
+    let d = view c.args.body in
     IfErr-exit (Lacks (SaysText (get (codes "sync_token") d)) (codes "sync_token")) (RefusesSynced d)
     c.from_residual-in_err-sync_token.result c.in_err-sync_token.field-0.0 c.from_residual-in_err-sync_token.ensures.1
     (λ e lacks. inr (

@@ -1,24 +1,26 @@
-use Rattle.std.proofs.Common.{rules, ◌≡◌, ◌++◌, ◌∷◌, []}
-use Rattle.serde_json.specs.View.{items_view, view}
-use Rattle.sn_sync.specs.Items.{RefusesItem, RefusesItems}
+use Rattle.std.proofs.Common.{arith, rules, ◌≡◌, ◌++◌, ◌∷◌, []}
+use Rattle.serde_json.specs.Data.{no_items}
+use Rattle.sn_json.specs.Views.{items_view, view}
+use Rattle.sn_sync.specs.Items.{AreItems}
 use Rattle.sn_sync.specs.Standings.{standing_of}
-use Rattle.sn_sync.proofs.Chains.{IfErr-exit}
-use Rattle.sn_sync.proofs.Lists.{AreItems-more, RefusesItems-at}
+use Rattle.sn_sync.proofs.Lists.{AreItems-more, RefusesItems-more, all_there}
 use Rattle.sn_sync.proofs.item_reader.items.Goals as goal
 
-pub returns-in_err-item-clause-err : goal.returns-in_err-item-clause-err
-returns-in_err-item-clause-err c =
+pub values-preserved : goal.values-preserved
+values-preserved c =
     let s = standing_of c.args.standing in
-    let outer = c.args.outer.now in
-    let values = c.args.values.now in
-    let value = c.value-item.result in
-    IfErr-exit (RefusesItem s outer (view value)) (RefusesItems s outer (items_view values))
-    c.from_residual.result c.in_err-item.field-0.0 c.from_residual.ensures.1
-    (λ e wrong. RefusesItems-at s outer values c.loop-value.value-index c.loop-value.items value e c.loop-value-test.true c.value-item.is c.loop-value.invariant wrong)
-    c.in_err-item.ensures.err
+    let whole = items_view c.args.values in
+    let left = items_view c.values.left in
+    let rest = items_view c.in-Some.rest in
+    let d = view c.in-Some.value in
+    let i = c.in_ok-item.field-0 in
+    let added : c.push.new.self ≡ c.values.items ++ i ∷ [] = search rules in
+    record {
+      items = rw added (AreItems-more s left rest whole d c.values.items i c.in-Some.ensures c.values.invariant.items c.in_ok-item.ensures.ok);
+      refusals = RefusesItems-more s c.args.outer.now left rest whole d i c.in-Some.ensures c.values.invariant.refusals c.in_ok-item.ensures.ok;
+    }
 
-pub loop-value-preserved : goal.loop-value-preserved
-loop-value-preserved c =
-    let added : c.push.new.self ≡ c.loop-value.items ++ c.in_ok-item.field-0 ∷ [] = search rules in
-    rw added (AreItems-more (standing_of c.args.standing) c.args.values.now c.loop-value.value-index c.loop-value.items c.in_ok-item.field-0
-    c.value-item.result c.loop-value-test.true c.value-item.is c.loop-value.invariant c.in_ok-item.ensures.ok)
+pub returns-clause-ok : goal.returns-clause-ok
+returns-clause-ok c =
+    let over : items_view c.values.left ≡ no_items = grind arith in
+    all_there (AreItems (standing_of c.args.standing)) (items_view c.values.left) (items_view c.args.values) c.values.items tt over c.values.invariant.items
