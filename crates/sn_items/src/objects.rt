@@ -2,7 +2,7 @@
 ghost use Rattle.std.specs.Prelude.{◌≡◌, IfOk};
 ghost use Rattle.sn_items.specs.Objects.{is_object};
 
-use serde_json::Value;
+use sn_json::{Document, JsonError, Scratch};
 use std::alloc::{AllocError, Global};
 
 /// Whether `serde_json` reads the text as an object. A number too large for a double, a lone
@@ -10,13 +10,10 @@ use std::alloc::{AllocError, Global};
 pub fn is_object(alloc: Global, text: &str) -> Result<bool, AllocError>
     ensures { IfOk result (λ found. found ≡ is_object text.now) }
 {
-    match Value::from_str(alloc, text) {
-        Ok(value) => Ok(value.is_object()),
-        Err(error) => {
-            if error.is_memory() {
-                return Err(AllocError);
-            }
-            Ok(false)
-        }
+    let mut scratch = Scratch::new(alloc);
+    match Document::read(alloc, text, &mut scratch) {
+        Ok(document) => Ok(document.root().is_object()),
+        Err(JsonError::NotJson) => Ok(false),
+        Err(JsonError::Memory) => Err(AllocError),
     }
 }

@@ -5,5 +5,5 @@ use Rattle.sn_items.proofs.objects.is_object.Goals as goal
 pub returns-in-Ok : goal.returns-in-Ok
 returns-in-Ok c = search (rules, object_read)
 
-pub returns-else-is_memory : goal.returns-else-is_memory
-returns-else-is_memory c = search (rules, none_read)
+pub returns-in-Err-NotJson : goal.returns-in-Err-NotJson
+returns-in-Err-NotJson c = search (rules, none_read)
