@@ -19,11 +19,11 @@ ghost use Rattle.sn_device.specs.Steps.{Deletes, Edits, IsUnknown, PutsNew, dele
 use crate::called::Called;
 use crate::changes::{one_change, put_draft, put_new, put_next, two_changes};
 use crate::device::Device;
-use sn_device::ClientError;
 use crate::fresh::fresh_uuid;
 use crate::index::Index;
 use crate::looking::{check_content, held_sets, shown_text, standing_item};
 use crate::state::{find, owner};
+use sn_device::ClientError;
 use sn_disk::Disk;
 use sn_items::Words;
 use sn_rows::{Change, Key, LocalItem, RowBody};

@@ -1,10 +1,9 @@
 //! What a device tells of its items.
 
 use crate::device::Device;
-use sn_device::ClientError;
 use crate::lines::lines_of;
-use sn_device::Listed;
 use crate::looking::{held_sets, shown_text, standing_item};
+use sn_device::{ClientError, Listed};
 use sn_disk::Disk;
 use sn_string::OwnedList;
 use uuid::Uuid;

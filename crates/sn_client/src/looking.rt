@@ -16,9 +16,9 @@ ghost use Rattle.sn_device.specs.States.{Bytes, HasItem, HasSets, IsSound, IsSou
 ghost use Rattle.sn_device.specs.Steps.{IsContent};
 ghost use Rattle.sn_device.specs.declared.error.ClientError.TheVariants as refusal;
 
-use sn_device::ClientError;
 use crate::index::Index;
 use crate::state::{find, sets_of};
+use sn_device::ClientError;
 use sn_disk::Disk;
 use sn_items::is_object;
 use sn_rows::{LocalItem, RowBody, RowStrings};

@@ -15,8 +15,8 @@ ghost use Rattle.sn_table.specs.Tables.{table_rows};
 
 use crate::called::Called;
 use crate::device::Device;
-use sn_device::ClientError;
 use crate::state::owner;
+use sn_device::ClientError;
 use sn_disk::Disk;
 use sn_items::Words;
 use sn_keys::derive;

@@ -11,9 +11,9 @@ ghost use Rattle.sn_row_map.specs.RowMaps.{row_in};
 ghost use Rattle.sn_rows.specs.Table.{Rows, changed, rows_after};
 ghost use Rattle.sn_rows.specs.declared.device_rows.LocalItem.{LocalItem};
 
-use sn_device::ClientError;
 use crate::index::Index;
 use crate::state::find_in;
+use sn_device::ClientError;
 use sn_row_map::RowMap;
 use sn_rows::{Change, Key, LocalItem, Value};
 use sn_string::OwnedList;
