@@ -15,7 +15,7 @@ use std::mem;
 // How many calls are noted with no more memory at first: those of a batch of a journal.
 const ROOM: usize = 4;
 
-/// The bytes that reads give, and what undoes each changing call, the oldest first. So the record has no byte that the file still has.
+/// The bytes that reads give, and what undoes each changing call, the oldest first. So a file that only grows is kept once.
 #[derive(Debug, Drop)]
 pub(crate) struct History {
     bytes: Vec<u8>,
@@ -152,7 +152,8 @@ fn copied_undos(alloc: Global, undos: &[Undo]) -> Result<Vec<Undo>, AllocError>
     Ok(copies)
 }
 
-// What a crash leaves behind the calls that these undo, which led to the file. It goes back to the last sync, and then on from there.
+// What a crash leaves behind the calls that these undo, which led to the file. It goes back to the last sync, and then on from there,
+// with a copy of the file for each call since: few, where each write is synced before the next.
 fn image_behind(
     alloc: Global,
     image: CrashImage,

@@ -4,7 +4,7 @@ ghost use Rattle.sn_disk.specs.Record.{back_of, undone};
 
 use std::alloc::{AllocError, Global};
 
-/// What undoes a changing call. It has the bytes that aren't in the file any more, and no others.
+/// What undoes a changing call. Of a write and a cut it has just the bytes that aren't in the file any more.
 #[derive(Debug, Drop)]
 pub(crate) enum Undo {
     /// So many bytes were written from this place on, over these.

@@ -25,6 +25,7 @@ impl From<AllocError> for JsonError {
     }
 }
 
+// Reading a tree gives `Invalid` and `OutOfMemory` alone: the others are of other readers.
 impl From<json::Error> for JsonError {
     ghost from_gives = { λ from e. e ≡ refusal_of from };
 
