@@ -2,7 +2,7 @@
 //! such. They are read in place, and do without memory and without the JSON reader, which takes
 //! longer than the rest of a string.
 
-ghost use Rattle.std.specs.Prelude.{◌≡◌, ◌≤◌, ◌<◌, ◌∷◌, ◌++◌, length, take, decimal, IfSome};
+ghost use Rattle.std.specs.Prelude.{◌≡◌, ◌≤◌, ◌<◌, ◌∷◌, ◌++◌, length, take, decimal, string_bytes, IfOk, IfSome};
 ghost use Rattle.std.specs.List.{list_all};
 ghost use Rattle.sn_string.specs.Base64.{IsBase64};
 ghost use Rattle.sn_string.specs.Lent.{lent_params};
@@ -14,6 +14,7 @@ use crate::params::are_within_bounds;
 use base64::engine::general_purpose::STANDARD;
 use itoa::Buffer;
 use simdutf8::compat::from_utf8;
+use std::alloc::{AllocError, Global};
 
 /// The bytes of the room in which a part is decoded. The parts of all but very long identifiers and
 /// nonces find room in it.
@@ -127,17 +128,44 @@ fn cost_of(digits: &str) -> Option<u32>
     }
 }
 
-// Whether the text stands in JSON as it is.
-fn is_plain(text: &str) -> bool
+/// The JSON of parameters whose identifier and nonce stand in it as they are.
+pub(crate) fn plain_text(
+    alloc: Global,
+    identifier: &str,
+    pw_cost: u32,
+    pw_nonce: &str,
+) -> Result<String, AllocError>
+    ensures { IfOk result (λ json. (params : Params) → identifier.now ≡ params.identifier
+        → pw_cost ≡ params.pw_cost → pw_nonce.now ≡ params.pw_nonce → string_bytes json ≡ plain_json params) }
+{
+    let mut buffer = Buffer::new();
+    let mut json = String::with_capacity(alloc, ROOM)?;
+    json.push_str("{\"identifier\":\"")?;
+    json.push_str(identifier)?;
+    json.push_str("\",\"pw_cost\":")?;
+    json.push_str(buffer.format(pw_cost))?;
+    json.push_str(",\"pw_nonce\":\"")?;
+    json.push_str(pw_nonce)?;
+    json.push_str("\",\"version\":\"003\"}")?;
+    Ok(json)
+}
+
+/// Whether the text stands in JSON as it is.
+pub(crate) fn is_plain(text: &str) -> bool
     ensures { result ≡ list_all is_plain text.now }
 {
     are_plain(text.as_bytes())
 }
 
+// No byte ends the loop, so that many are looked at in one step.
 fn are_plain(bytes: &[u8]) -> bool
     ensures { result ≡ list_all is_plain bytes.now }
 {
-    bytes.iter().all(|byte| is_plain_byte(*byte))
+    let mut all = true;
+    'bytes: for byte in bytes {
+        all = all & is_plain_byte(*byte);
+    }
+    all
 }
 
 fn is_plain_byte(byte: u8) -> bool
