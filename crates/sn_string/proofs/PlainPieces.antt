@@ -1,5 +1,7 @@
 -- The plain JSON of parameters from its pieces, and of pieces that are written one after the other.
 use Rattle.std.proofs.Common.{◌≡◌, ◌∙◌, ap, sym, ℕ, List, [], ◌∷◌, ◌++◌, append_assoc, codes, decimal}
+use Rattle.std.specs.Str.{IsUtf8}
+use Rattle.std.proofs.lemmas.Str.{IsUtf8-append}
 use Rattle.sn_string.specs.Parameters.{plain_json}
 use Rattle.sn_string.specs.declared.params.Params.{Params}
 
@@ -50,3 +52,7 @@ plain_json-written text identifier digits nonce p whole name cost seed =
     ∙ ap (λ t. codes "{\"identifier\":\"" ++ (t ++ (codes "\",\"pw_cost\":" ++ (digits ++ (codes ",\"pw_nonce\":\"" ++ (nonce ++ codes "\",\"version\":\"003\"}")))))) name
     ∙ ap (λ t. codes "{\"identifier\":\"" ++ (p.identifier ++ (codes "\",\"pw_cost\":" ++ (t ++ (codes ",\"pw_nonce\":\"" ++ (nonce ++ codes "\",\"version\":\"003\"}")))))) cost
     ∙ ap (λ t. codes "{\"identifier\":\"" ++ (p.identifier ++ (codes "\",\"pw_cost\":" ++ (decimal p.pw_cost ++ (codes ",\"pw_nonce\":\"" ++ (t ++ codes "\",\"version\":\"003\"}")))))) seed
+
+pub utf8_seven : (a b c d e f g : List ℕ) → IsUtf8 a → IsUtf8 b → IsUtf8 c → IsUtf8 d → IsUtf8 e → IsUtf8 f → IsUtf8 g → IsUtf8 (a ++ (b ++ (c ++ (d ++ (e ++ (f ++ g))))))
+utf8_seven a b c d e f g one two three four five six seven =
+    IsUtf8-append a _ one (IsUtf8-append b _ two (IsUtf8-append c _ three (IsUtf8-append d _ four (IsUtf8-append e _ five (IsUtf8-append f g six seven)))))

@@ -9,7 +9,7 @@ ghost use Rattle.sn_string.specs.declared.params.Params.{Params};
 
 use crate::base64_texts::{base64_bytes, base64_text};
 use crate::params::Params;
-use crate::plain_params::{ROOM, is_plain, plain_params, plain_text};
+use crate::plain_params::{ROOM, is_plain, is_plain_part_of, plain_params, plain_text};
 use crate::text::Text;
 use serde_json::{Value, json};
 use std::alloc::{AllocError, Global};
@@ -91,6 +91,9 @@ pub(crate) fn is_params_part(alloc: Global, part: &str) -> Result<bool, AllocErr
 pub(crate) fn is_part_of(alloc: Global, part: &str, params: &Params) -> Result<bool, AllocError>
     ensures { IfOk result (λ is. IsTrue is ↔ IsParamsPart part.now params.now) }
 {
+    if is_plain_part_of(part, params) {
+        return Ok(true);
+    }
     let mut room = [0u8; ROOM];
     if let Some(lent) = plain_params(part, &mut room) {
         return Ok(lent.are(params));
