@@ -154,6 +154,10 @@ swept_filled old new key value rows others other =
       | inr apart ↦ others other apart
     ]
 
+pub filled_swept : (old new : RowMap) (key : Key) (value : Value) → ((other : Key) → row_in new other ≡ (if same_key key other then Some value else row_in old other))
+    → IsSwept new key
+filled_swept old new key value rows h = ap is_some (rows key ∙ ap (λ (b : Bool). cond b (Some value) (row_in old key)) ((keys_compare key key).1 refl))
+
 -- ---- the keys of changes
 
 -- one of the changes

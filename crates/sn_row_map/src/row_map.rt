@@ -164,16 +164,23 @@ impl RowMap {
         Ok(())
     }
 
-    // Changes one row. Takes no memory.
-    fn set(&mut self, change: Change)
+    // Changes one row, and says whether it went, so that its room may be left without one. Takes no memory.
+    fn set(&mut self, change: Change) -> bool
         requires { FitsIn self.old change }
         ensures rows { (key : Key) → row_in self.new key ≡ changed (row_in self.old key) key change }
         ensures kept { KeepsRoom self.old self.new }
         ensures others { (other : Key) → same_key (key_of change) other ≡ false → StaysSwept self.old self.new other }
+        ensures filled { result ≡ false → IsSwept self.new (key_of change) × ((key : Key) → StaysSwept self.old self.new key) }
     {
         match change {
-            Change::Put(row) => self.fill(row.key, Some(row.value)),
-            Change::Remove(key) => self.empty(key),
+            Change::Put(row) => {
+                self.fill(row.key, Some(row.value));
+                false
+            }
+            Change::Remove(key) => {
+                self.empty(key);
+                true
+            }
         }
     }
 
@@ -207,22 +214,29 @@ impl RowMap {
         ensures rows { (key : Key) → row_in self.new key ≡ row_after (row_in self.old key) key changes.items }
         ensures tidy { IsTidyBut changes.items self.old → IsTidy self.new }
     {
-        self.set_each(&mut changes);
+        if !self.set_each(&mut changes) {
+            return;
+        }
         self.sweep_for(&changes);
     }
 
-    // Makes each change, and leaves in its place the removal of its key.
-    fn set_each(&mut self, changes: &mut [Change])
+    // Makes each change, leaves in its place the removal of its key, and says whether one was a removal.
+    fn set_each(&mut self, changes: &mut [Change]) -> bool
         requires { All (FitsIn self.old) changes.old }
         ensures rows { (key : Key) → row_in self.new key ≡ row_after (row_in self.old key) key changes.old }
         ensures others { (key : Key) → Spares key changes.old → StaysSwept self.old self.new key }
         ensures keys { map key_of changes.new ≡ map key_of changes.old }
+        // A row that is put leaves no room over.
+        ensures tidy { result ≡ false → IsTidyBut changes.old self.old → IsTidy self.new }
     {
+        let mut removed = false;
         'changes: for change in changes.iter_mut() {
             let left = Change::Remove(change.key());
             let made = mem::replace(change, left);
-            self.set(made);
+            let went = self.set(made);
+            removed = removed | went;
         }
+        removed
     }
 
     // Changes one row. Makes no room for a row that goes.

@@ -1,8 +1,9 @@
 -- Lengths of base64, and its one reading.
-use Rattle.std.proofs.Common.{arith, ◌≡◌, ◌∙◌, ap, subst, ℕ, ◌+◌, List, length, replicate, Ok, refl}
-use Rattle.std.proofs.lemmas.List.{length-append, length-replicate}
+use Rattle.std.proofs.Common.{arith, ◌≡◌, ◌∙◌, ap, sym, subst, ℕ, ◌+◌, ◌<◌, ◌≤◌, inl, inr, List, length, replicate, take, Result, Ok, Err, refl}
+use Rattle.std.proofs.lemmas.Bool.{cases_lt}
+use Rattle.std.proofs.lemmas.List.{length-append, length-replicate, take_at}
 use Rattle.base64.specs.Engines.{standard}
-use Rattle.base64.specs.GeneralPurpose.{engine_symbols, decode_of}
+use Rattle.base64.specs.GeneralPurpose.{engine_symbols, decode_of, encoded_size_of, IsEncodedOver}
 use Rattle.base64.specs.Rfc4648.{encode_symbols, padding_len, unpadded_len}
 use Rattle.base64.proofs.EngineFacts.{decode_of-encode_of}
 use Rattle.base64.proofs.RoundTrip.{length-encode_symbols}
@@ -34,3 +35,17 @@ pub IsParamsJson-part : (part json : List ℕ) (p : Params) → IsBase64 part js
 IsParamsJson-part part json p encoded h =
     let P : List ℕ → Type 0 = λ j. IsParamsJson j p in
     subst P (same_bytes part h.json json h.encoded encoded) h.says
+
+-- what is written into a room is written where it fits
+pub fits_then : {E : Type 0} (r : Result ℕ E) (size most count : ℕ) (e : E) → r ≡ Ok count → (size ≤ most → r ≡ Ok size) → (most < size → r ≡ Err e)
+    → count ≡ size
+fits_then r size most count e is fits small =
+    elim (cases_lt most size) [
+      | inl over ↦ absurd (let no : r ≡ Err e = small over in cc)
+      | inr under ↦ let yes : r ≡ Ok size = fits under in cc
+    ]
+
+pub base64_over : (bytes old new : List ℕ) (count : ℕ) → count ≡ encoded_size_of standard (length bytes) → IsEncodedOver standard bytes old new
+    → take count new ≡ base64_text bytes
+base64_over bytes old new count same over =
+    ap (take count) over ∙ take_at (base64_text bytes) _ count (length-base64_text bytes ∙ sym same)

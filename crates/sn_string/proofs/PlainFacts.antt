@@ -70,3 +70,8 @@ pub IsParamsJson-plain : (p : Params) (text : List ℕ) → IsUtf8 text → text
 IsParamsJson-plain p text utf8 same identifier nonce =
     IsParamsJson-written (params_data p) p text refl utf8
     (λ shallow. ap read (same ∙ sym (params_json-plain p identifier nonce)) ∙ read-params_json p)
+
+-- plain JSON is what is written where nothing is escaped
+pub written_plainly : (p : Params) (text : List ℕ) → text ≡ plain_json p → list_all is_plain p.identifier ≡ true → list_all is_plain p.pw_nonce ≡ true
+    → text ≡ params_json p
+written_plainly p text same identifier nonce = same ∙ sym (params_json-plain p identifier nonce)

@@ -3,15 +3,21 @@
 ghost use Rattle.std.specs.Prelude.{ℕ, List, string_bytes, IfOk, IfSome, IfNone};
 ghost use Rattle.sn_string.specs.Base64.{IsBase64};
 
-use base64::DecodeAllocError;
 use base64::engine::general_purpose::STANDARD;
+use base64::{DecodeAllocError, encoded_len};
 use std::alloc::{AllocError, Global};
 
 /// The base64 of some bytes.
 pub fn base64_text(alloc: Global, bytes: &[u8]) -> Result<String, AllocError>
     ensures { IfOk result (λ text. IsBase64 (string_bytes text) bytes.now) }
 {
-    STANDARD.encode(alloc, bytes)
+    let Some(count) = encoded_len(bytes.len(), true) else {
+        return Err(AllocError);
+    };
+    // `encode` would look at each character once more, for whether they are text.
+    let mut text = String::with_capacity(alloc, count)?;
+    STANDARD.encode_string(bytes, &mut text)?;
+    Ok(text)
 }
 
 /// The bytes of a base64 text.

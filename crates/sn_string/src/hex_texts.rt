@@ -1,8 +1,9 @@
 //! Lower-case hex digits. Upper case is refused, so that each list of bytes has one spelling.
 
-ghost use Rattle.std.specs.Prelude.{◌≡◌, ◌*◌, ℕ, List, length, string_bytes, IfOk, IfSome, IfNone};
+ghost use Rattle.std.specs.Prelude.{◌≡◌, ◌↔◌, ◌*◌, ℕ, List, length, string_bytes, IfOk, IfSome, IfNone, IsTrue};
+ghost use Rattle.std.specs.List.{list_all};
 ghost use Rattle.hex.specs.Hex.{encode_lower};
-ghost use Rattle.sn_string.specs.Hex.{IsLowerHex};
+ghost use Rattle.sn_string.specs.Hex.{IsLowerHex, is_lower_digit};
 
 use hex::FromHex;
 use std::alloc::{AllocError, Global};
@@ -49,22 +50,44 @@ pub fn key_bytes(text: &str) -> Option<[u8; 64]>
     spelled_bytes::<64, 128>(text)
 }
 
-// `hex` takes either case, so what it read is written again and compared.
+// `hex` takes either case, so the case is looked at first.
 fn spelled_bytes<const N: usize, const DIGITS: usize>(text: &str) -> Option<[u8; N]>
     requires { DIGITS ≡ 2 * N }
     ensures some { IfSome result (λ bytes. IsLowerHex N text.now bytes) }
     ensures none { IfNone result ((bytes : List ℕ) → ¬ (IsLowerHex N text.now bytes)) }
 {
-    let Ok(bytes) = <[u8; N] as FromHex>::from_hex(text) else {
+    if !are_digits(text, DIGITS) {
         return None;
-    };
-    let mut digits = [0u8; DIGITS];
-    let Ok(()) = hex::encode_to_slice(&bytes, &mut digits) else {
+    }
+    let Ok(bytes) = <[u8; N] as FromHex>::from_hex(text) else {
         unreachable!();
     };
-    if digits.as_slice() == text.as_bytes() {
-        Some(bytes)
-    } else {
-        None
+    Some(bytes)
+}
+
+/// Whether the text is so many digits.
+pub(crate) fn are_digits(text: &str, count: usize) -> bool
+    ensures { (n : ℕ) → count ≡ 2 * n → IsTrue result ↔ ((bytes : List ℕ) × IsLowerHex n text.now bytes) }
+{
+    if text.len() != count {
+        return false;
     }
+    are_lower(text.as_bytes())
+}
+
+// No digit ends the loop, so that many bytes are looked at in one step.
+fn are_lower(bytes: &[u8]) -> bool
+    ensures { result ≡ list_all is_lower_digit bytes.now }
+{
+    let mut all = true;
+    'bytes: for byte in bytes {
+        all = all & is_lower(*byte);
+    }
+    all
+}
+
+fn is_lower(byte: u8) -> bool
+    ensures { result ≡ is_lower_digit byte }
+{
+    (byte >= b'0' && byte <= b'9') || (byte >= b'a' && byte <= b'f')
 }

@@ -9,7 +9,7 @@ ghost use Rattle.sn_string.specs.declared.params.Params.{Params};
 
 use crate::base64_texts::{base64_bytes, base64_text};
 use crate::params::Params;
-use crate::plain_params::{ROOM, plain_params};
+use crate::plain_params::{ROOM, is_plain, is_plain_part_of, plain_params, plain_text};
 use crate::text::Text;
 use serde_json::{Value, json};
 use std::alloc::{AllocError, Global};
@@ -27,6 +27,19 @@ pub fn params_text(alloc: Global, params: &Params) -> Result<String, AllocError>
 }
 
 fn params_json(alloc: Global, params: &Params) -> Result<String, AllocError>
+    ensures text { IfOk result (λ json. string_bytes json ≡ params_json params.now) }
+    ensures reads { IfOk result (λ json. IsParamsJson (string_bytes json) params.now) }
+{
+    let identifier = params.identifier.as_str();
+    let pw_nonce = params.pw_nonce.as_str();
+    if is_plain(identifier) && is_plain(pw_nonce) {
+        return plain_text(alloc, identifier, params.pw_cost, pw_nonce);
+    }
+    escaped_text(alloc, params)
+}
+
+// The JSON of parameters, in which characters may be escaped.
+fn escaped_text(alloc: Global, params: &Params) -> Result<String, AllocError>
     ensures text { IfOk result (λ json. string_bytes json ≡ params_json params.now) }
     ensures reads { IfOk result (λ json. IsParamsJson (string_bytes json) params.now) }
 {
@@ -78,6 +91,9 @@ pub(crate) fn is_params_part(alloc: Global, part: &str) -> Result<bool, AllocErr
 pub(crate) fn is_part_of(alloc: Global, part: &str, params: &Params) -> Result<bool, AllocError>
     ensures { IfOk result (λ is. IsTrue is ↔ IsParamsPart part.now params.now) }
 {
+    if is_plain_part_of(part, params) {
+        return Ok(true);
+    }
     let mut room = [0u8; ROOM];
     if let Some(lent) = plain_params(part, &mut room) {
         return Ok(lent.are(params));

@@ -2,18 +2,19 @@
 //! such. They are read in place, and do without memory and without the JSON reader, which takes
 //! longer than the rest of a string.
 
-ghost use Rattle.std.specs.Prelude.{◌≡◌, ◌≤◌, ◌<◌, ◌∷◌, ◌++◌, length, take, decimal, IfSome};
+ghost use Rattle.std.specs.Prelude.{◌≡◌, ◌≤◌, ◌<◌, ◌∷◌, ◌++◌, length, take, decimal, string_bytes, IfOk, IfSome, IsTrue};
 ghost use Rattle.std.specs.List.{list_all};
 ghost use Rattle.sn_string.specs.Base64.{IsBase64};
 ghost use Rattle.sn_string.specs.Lent.{lent_params};
-ghost use Rattle.sn_string.specs.Parameters.{IsParamsJson, IsParamsPart, is_plain, plain_json};
+ghost use Rattle.sn_string.specs.Parameters.{IsParamsJson, IsParamsPart, is_plain, params_json, plain_json};
 ghost use Rattle.sn_string.specs.declared.params.Params.{Params};
 
 use crate::lent::LentParams;
-use crate::params::are_within_bounds;
+use crate::params::{Params, are_within_bounds};
 use base64::engine::general_purpose::STANDARD;
 use itoa::Buffer;
 use simdutf8::compat::from_utf8;
+use std::alloc::{AllocError, Global};
 
 /// The bytes of the room in which a part is decoded. The parts of all but very long identifiers and
 /// nonces find room in it.
@@ -127,17 +128,108 @@ fn cost_of(digits: &str) -> Option<u32>
     }
 }
 
-// Whether the text stands in JSON as it is.
-fn is_plain(text: &str) -> bool
+/// The JSON of parameters whose identifier and nonce stand in it as they are.
+pub(crate) fn plain_text(
+    alloc: Global,
+    identifier: &str,
+    pw_cost: u32,
+    pw_nonce: &str,
+) -> Result<String, AllocError>
+    ensures { IfOk result (λ json. (params : Params) → identifier.now ≡ params.identifier
+        → pw_cost ≡ params.pw_cost → pw_nonce.now ≡ params.pw_nonce → string_bytes json ≡ plain_json params) }
+{
+    let mut buffer = Buffer::new();
+    let mut json = String::with_capacity(alloc, ROOM)?;
+    json.push_str("{\"identifier\":\"")?;
+    json.push_str(identifier)?;
+    json.push_str("\",\"pw_cost\":")?;
+    json.push_str(buffer.format(pw_cost))?;
+    json.push_str(",\"pw_nonce\":\"")?;
+    json.push_str(pw_nonce)?;
+    json.push_str("\",\"version\":\"003\"}")?;
+    Ok(json)
+}
+
+/// Whether the part is what is written for the parameters, with nothing escaped. It is not read for that.
+pub(crate) fn is_plain_part_of(part: &str, params: &Params) -> bool
+    ensures { IsTrue result → IsParamsPart part.now params.now }
+{
+    let mut json = [0u8; ROOM];
+    match put_plain(params, &mut json) {
+        Some(count) => is_base64_of(part, &json[..count]),
+        None => false,
+    }
+}
+
+// Whether the text is the base64 of these bytes, if they are few.
+fn is_base64_of(text: &str, bytes: &[u8]) -> bool
+    ensures { IsTrue result → IsBase64 text.now bytes.now }
+{
+    let mut room = [0u8; MOST_CHARACTERS];
+    match STANDARD.encode_slice(bytes, &mut room) {
+        Ok(count) => {
+            let written = &room[..count];
+            written == text.as_bytes()
+        }
+        Err(_) => false,
+    }
+}
+
+// Puts the JSON of parameters in front of the room, if nothing is escaped in it and it has room.
+fn put_plain(params: &Params, room: &mut [u8]) -> Option<usize>
+    requires { length room.old ≡ ROOM }
+    ensures within { IfSome result (λ count. count ≤ length room.new) }
+    ensures json { IfSome result (λ count. IsParamsJson (take count room.new) params.now × (take count room.new ≡ params_json params.now)) }
+{
+    let identifier = params.identifier.as_str();
+    let pw_nonce = params.pw_nonce.as_str();
+    if !is_plain(identifier) {
+        return None;
+    }
+    if !is_plain(pw_nonce) {
+        return None;
+    }
+    let mut buffer = Buffer::new();
+    let place = put(room, 0, "{\"identifier\":\"")?;
+    let place = put(room, place, identifier)?;
+    let place = put(room, place, "\",\"pw_cost\":")?;
+    let place = put(room, place, buffer.format(params.pw_cost))?;
+    let place = put(room, place, ",\"pw_nonce\":\"")?;
+    let place = put(room, place, pw_nonce)?;
+    let end = put(room, place, "\",\"version\":\"003\"}")?;
+    Some(end)
+}
+
+// Puts a text at a place, and gives the place behind it, if the room goes so far.
+fn put(room: &mut [u8], place: usize, text: &str) -> Option<usize>
+    requires { place ≤ length room.old }
+    ensures within { IfSome result (λ end. end ≤ length room.new) }
+    ensures after { IfSome result (λ end. take end room.new ≡ take place room.old ++ text.now) }
+{
+    if room.len() - place < text.len() {
+        return None;
+    }
+    let end = place + text.len();
+    room[place..end].copy_from_slice(text.as_bytes());
+    Some(end)
+}
+
+/// Whether the text stands in JSON as it is.
+pub(crate) fn is_plain(text: &str) -> bool
     ensures { result ≡ list_all is_plain text.now }
 {
     are_plain(text.as_bytes())
 }
 
+// No byte ends the loop, so that many are looked at in one step.
 fn are_plain(bytes: &[u8]) -> bool
     ensures { result ≡ list_all is_plain bytes.now }
 {
-    bytes.iter().all(|byte| is_plain_byte(*byte))
+    let mut all = true;
+    'bytes: for byte in bytes {
+        all = all & is_plain_byte(*byte);
+    }
+    all
 }
 
 fn is_plain_byte(byte: u8) -> bool

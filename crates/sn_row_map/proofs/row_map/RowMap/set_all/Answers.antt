@@ -1,10 +1,15 @@
-use Rattle.std.proofs.Common.{rules, ◌≡◌, ◌∙◌, ap, map, subst, length, take, drop, ◌++◌, arith}
-use Rattle.std.proofs.lemmas.List.{take_at, take_all}
+use Rattle.std.proofs.Common.{rules, ◌≡◌, false, ◌∙◌, ap, map, subst, length}
+use Rattle.std.proofs.lemmas.List.{take_at}
 use Rattle.sn_rows.specs.Table.{Spares, key_of}
 use Rattle.sn_rows.specs.declared.key.Key.{Key}
-use Rattle.sn_row_map.specs.RowMaps.{StaysSwept}
+use Rattle.sn_row_map.specs.RowMaps.{IsTidy, IsTidyBut, StaysSwept}
 use Rattle.sn_row_map.proofs.RowLemmas.{tidy_set}
 use Rattle.sn_row_map.proofs.row_map.RowMap.set_all.Goals as goal
+
+pub returns-then-not-set_each-clause-tidy : goal.returns-then-not-set_each-clause-tidy
+returns-then-not-set_each-clause-tidy c =
+    let none : c.set_each.result ≡ false = search rules in
+    subst (λ changes. IsTidyBut changes c.args.self.now → IsTidy c.set_each.new.self) c.deref_mut.ensures.value (c.set_each.ensures.tidy none)
 
 pub returns-clause-tidy : goal.returns-clause-tidy
 returns-clause-tidy c =

@@ -1,4 +1,4 @@
-use Rattle.std.proofs.Common.{◌∙◌, subst, sym, take, arith}
+use Rattle.std.proofs.Common.{◌∙◌, subst, take, arith}
 use Rattle.std.proofs.lemmas.List.Elements.{All-weaker}
 use Rattle.sn_rows.specs.Table.{key_of}
 use Rattle.sn_row_map.specs.RowMaps.{IsSwept}
