@@ -7,7 +7,7 @@ use Rattle.sn_string.specs.Bounds.{IsIdentifier}
 use Rattle.sn_sets.proofs.Facts.{later_again}
 use Rattle.sn_client.specs.Calls.{device_rows}
 use Rattle.sn_device.specs.Changing.{MayAsk, NoneRuns}
-use Rattle.sn_client.specs.Going.{IsSetWith}
+use Rattle.sn_joining.specs.Accounts.{IsSetWith}
 use Rattle.sn_device.specs.Runs.{AnswersChange, AsksFor, AsksHost, CommitsStep, IsNewSet, RefusesChange, Then, change_to, most_exchanges}
 use Rattle.sn_device.specs.States.{Bytes, HasLocal, HasSets}
 use Rattle.sn_device.specs.Steps.{asks}
