@@ -1,7 +1,14 @@
 //! Changing the password of a device's account.
 
-ghost use Rattle.std.specs.Prelude.{◌≡◌};
+ghost use Rattle.std.specs.Prelude.{◌≡◌, ◌≢◌, ◌≤◌, [], IfErr, IfOk};
+ghost use Rattle.sn_client.specs.Going.{IsToAsk};
+ghost use Rattle.sn_device.specs.Runs.{AsksFor, is_over, most_exchanges, refused};
+ghost use Rattle.sn_device.specs.States.{HasNoneAsked, HasOwner, IsSound};
 ghost use Rattle.sn_device.specs.declared.error.ClientError.TheVariants as refusal;
+ghost use Rattle.sn_row_map.specs.RowMaps.{row_in};
+ghost use Rattle.sn_rows.specs.declared.device_rows.OwnerRow.{OwnerRow};
+ghost use Rattle.sn_sets.specs.Seals.{IsLater};
+ghost use Rattle.sn_table.specs.Tables.{table_rows};
 
 use crate::called::Called;
 use crate::device::Device;
@@ -18,14 +25,13 @@ use sn_net::Link;
 use sn_sets::Sets;
 use sn_string::{KeySet, Text};
 use sn_sync::Answer;
-use sn_table::Committed;
+use sn_table::{Committed, Table};
+use std::alloc::Global;
 
 impl<D: Disk> Device<D> {
-    ghost use Rattle.std.specs.Prelude.{◌≤◌, ◌<◌};
+    ghost use Rattle.std.specs.Prelude.{◌<◌};
     ghost use Rattle.sn_disk.specs.Disk.{LeavesOnly};
     ghost use Rattle.sn_io.specs.Causes.{Rose};
-    ghost use Rattle.sn_rows.specs.declared.device_rows.OwnerRow.{OwnerRow};
-    ghost use Rattle.sn_sets.specs.Seals.{IsLater};
     ghost use Rattle.sn_sets.specs.declared.sets.Sets.{Sets};
     ghost use Rattle.sn_sync.specs.Fits.{FitsAnswer};
     ghost use Rattle.sn_sync.specs.declared.answer.Answer.TheVariants.{Refused as RefusedAnswer};
@@ -35,8 +41,8 @@ impl<D: Disk> Device<D> {
     ghost use Rattle.sn_client.specs.Calls.{CallsOver, HasFront, IfBroken, IfRefused, IfStands, IsOpen, MayHave, called_disk, device_disk, device_rows, tried};
     ghost use Rattle.sn_exchange.specs.Asked.{IsGranted};
     ghost use Rattle.sn_device.specs.Changing.{HoldsAsked, MayAsk};
-    ghost use Rattle.sn_device.specs.Runs.{AnswersChange, AsksFor, AsksHost, ChangesTo, CommitsStep, Exchanges, IsBadCost, Then, begun, change_to, most_exchanges, passwd};
-    ghost use Rattle.sn_device.specs.States.{HasOwner, HasSets, IsSound, HasNoneAsked};
+    ghost use Rattle.sn_device.specs.Runs.{AnswersChange, AsksHost, ChangesTo, CommitsStep, Exchanges, IsBadCost, Then, begun, change_to, passwd};
+    ghost use Rattle.sn_device.specs.States.{HasSets};
     ghost use Rattle.sn_device.specs.Steps.{asks};
     ghost use Rattle.sn_client.specs.Syncing.{IfOn, MadeAtMost, IsOpenSince, KeepsDevice, MayHaveSince, WentBy, called_past, gives_nothing};
 
@@ -165,22 +171,13 @@ impl<D: Disk> Device<D> {
         ensures link_fault { IfRefused (called_past result) (λ why. why ≡ refusal.LinkFault → Rose (L.fault_count link.old) (L.fault_count link.new)) }
         ensures link_later { L.fault_count link.old ≤ L.fault_count link.new }
     {
-        let sets = match held_sets(self.alloc, &self.table) {
-            Ok(sets) => sets,
-            Err(why) => return PieceEnd::Over(Called::Refused(self, why)),
-        };
-        if let Err(why) = may_begin(self.alloc, self.table.rows(), &sets) {
-            return PieceEnd::Over(Called::Refused(self, why));
+        match set_to_ask(self.alloc, &self.table, words, password, cost, made) {
+            Ok(found) => {
+                let (sets, set) = found;
+                self.ask_for_set(link, words, &sets.present, &set, made)
+            }
+            Err(why) => PieceEnd::Over(Called::Refused(self, why)),
         }
-        if made >= MOST_EXCHANGES {
-            return PieceEnd::Over(Called::Refused(self, ClientError::RoundsUsed));
-        }
-        let nonce = words.nonce();
-        let identifier = sets.present.params.identifier.as_str();
-        let Ok(set) = new_set(self.alloc, &nonce, identifier, password, cost) else {
-            return PieceEnd::Over(Called::Refused(self, ClientError::Memory));
-        };
-        self.ask_for_set(link, words, &sets.present, &set, made)
     }
 
     // Keeps a set as asked for, and asks for it.
@@ -314,4 +311,41 @@ impl<D: Disk> Device<D> {
         }
         self.drop_asked(ClientError::Refused { status, tag })
     }
+}
+
+// The sets that are held, and a new one of the password that may be asked for.
+fn set_to_ask<D: Disk>(
+    alloc: Global,
+    table: &Table<D>,
+    words: &mut Words,
+    password: &str,
+    cost: u32,
+    made: u64,
+) -> Result<(Sets, KeySet), ClientError>
+    requires sound { IsSound (row_in (table_rows table.now)) }
+    requires few { made ≤ most_exchanges }
+    requires owned { (owner : OwnerRow) × HasOwner (row_in (table_rows table.now)) owner }
+    requires none_asked { HasNoneAsked (row_in (table_rows table.now)) }
+    requires cost { 1 ≤ cost }
+    ensures ok { IfOk result (λ found. IsToAsk (row_in (table_rows table.now)) words.old password.now cost made found.0 found.1 words.new) }
+    ensures err { IfErr result (λ why. AsksFor password.now cost (record { made = made; rows = row_in (table_rows table.now); words = words.old }) [] (is_over (refused why))) }
+    ensures link { IfErr result (λ why. why ≢ refusal.LinkFault) }
+    ensures words { IsLater words.old words.new }
+{
+    let sets = match held_sets(alloc, table) {
+        Ok(sets) => sets,
+        Err(why) => return Err(why),
+    };
+    if let Err(why) = may_begin(alloc, table.rows(), &sets) {
+        return Err(why);
+    }
+    if made >= MOST_EXCHANGES {
+        return Err(ClientError::RoundsUsed);
+    }
+    let nonce = words.nonce();
+    let identifier = sets.present.params.identifier.as_str();
+    let Ok(set) = new_set(alloc, &nonce, identifier, password, cost) else {
+        return Err(ClientError::Memory);
+    };
+    Ok((sets, set))
 }
