@@ -1,10 +1,6 @@
 -- How a call over a link goes on behind an account, and the first rows that keep it.
-use Rattle.std.specs.Prelude.{◌≡◌, ◌≤◌, ℕ, IsTrue, length, nat_le, List, [], ◌∷◌, Option, Some, None, Ok, Err}
-use Rattle.std.specs.List.{AllByRecursion, list_all}
-use Rattle.std.proofs.Common.{arith, inl, inr, refl, sym, ap, subst}
-use Rattle.std.proofs.lemmas.Bool.{and_from}
-use Rattle.std.proofs.lemmas.Bool.Decides.{nat_tests}
-use Rattle.std.proofs.lemmas.List.Elements.{recursion_from_All}
+use Rattle.std.specs.Prelude.{◌≡◌, ℕ, List, [], ◌∷◌, Option, Some, None, Err}
+use Rattle.std.proofs.Common.{inl, inr, refl, sym, ap, subst}
 use Rattle.rand_chacha.specs.ChaCha.{ChaCha}
 use Rattle.sn_disk.specs.Disk.{LeavesOnly}
 use Rattle.sn_disk.specs.Moments.{started}
@@ -12,13 +8,9 @@ use Rattle.sn_disk.specs.declared.disk.Disk.{Ghosts}
 use Rattle.sn_journal.specs.declared.owner.Owner.{Owner}
 use Rattle.sn_journal.specs.declared.owner.Owner.TheVariants.{Device as DeviceOwner}
 use Rattle.sn_net.specs.Exchanges.{Exchange}
-use Rattle.sn_rows.specs.Bounds.{HasLength, IsVisible, is_visible}
 use Rattle.sn_rows.specs.Table.{Rows}
 use Rattle.sn_rows.specs.declared.change.Change.{Change}
-use Rattle.sn_rows.specs.declared.device_rows.OwnerRow.{OwnerRow}
 use Rattle.sn_rows.specs.declared.value.Value.{Value}
-use Rattle.sn_string.specs.Bounds.{IsIdentifier}
-use Rattle.sn_sync.specs.Members.{IsSessionToken}
 use Rattle.sn_sync.specs.declared.answer.Answer.TheVariants as answer
 use Rattle.sn_sync.specs.declared.request.Request.{Request}
 use Rattle.sn_table.specs.Batches.{IsAllOrNothing, IsStore}
@@ -29,10 +21,11 @@ use Rattle.sn_table.specs.Tables.{IsOpen as IsOpenTable, table_disk, table_owner
 use Rattle.sn_table.specs.declared.committed.CommitError.{CommitError}
 use Rattle.sn_table.specs.declared.committed.CommitError.TheVariants as commit
 use Rattle.sn_table.specs.declared.table.Table.{Table}
-use Rattle.sn_client.specs.Asked.{AsksOnce, IsAsked}
+use Rattle.sn_exchange.specs.Asked.{IsAsked}
 use Rattle.sn_device.specs.Asking.{Reply, said}
 use Rattle.sn_client.specs.Calls.{Ends, IfRefused, StandsOrHas, of_commit}
-use Rattle.sn_client.specs.Going.{GivesAccount, GoesOver, MayWant}
+use Rattle.sn_joining.specs.Accounts.{GivesAccount}
+use Rattle.sn_client.specs.Going.{GoesOver, MayWant}
 use Rattle.sn_device.specs.Runs.{Act, AreExchanges, AsksAccount, EndsCommit, Given, Halt, asked, nothing, refused}
 use Rattle.sn_device.specs.States.{Bytes, HasNoAccount, HasOwner, IsFresh, IsSound}
 use Rattle.sn_device.specs.Steps.{Step, What}
@@ -40,7 +33,6 @@ use Rattle.sn_client.specs.declared.called.Called.{Called}
 use Rattle.sn_client.specs.declared.called.Called.TheVariants as called
 use Rattle.sn_device.specs.declared.error.ClientError.{ClientError}
 use Rattle.sn_device.specs.declared.error.ClientError.TheVariants as refusal
-use Rattle.sn_device.proofs.Facts.{lengths}
 
 -- ---- a device without an account
 
@@ -165,38 +157,3 @@ no_link_fault (called.Done device given) changes P cause = tt
 no_link_fault (called.Refused device why) changes P (commit.TooLarge size, is, so) = λ fault. absurd cc
 no_link_fault (called.Refused device why) changes P (commit.Memory, is, so) = λ fault. absurd cc
 no_link_fault (called.Broken disk) changes P cause = tt
-
--- ---- what an account's answer has
-
--- the answer that came is an account
-pub given_account : (asks : List Exchange → Type 0) (host : Bytes) (r : Request) (token identifier uuid : Bytes)
-    → IsAsked asks host r (Ok (answer.Account token identifier uuid)) → GivesAccount asks host r uuid token
-given_account asks host r token identifier uuid (inl (none, is)) = absurd cc
-given_account asks host r token identifier uuid (inr (reply, once, is)) = (identifier, subst (λ (p : Reply). AsksOnce asks host r p) is once)
-
-visible : (text : Bytes) → AllByRecursion (λ c. (33 ≤ c) × (c ≤ 126)) text → IsTrue (list_all is_visible text)
-visible [] all = refl
-visible (byte ∷ text) (here, later) =
-    let low : IsTrue (nat_le 33 byte) = grind (arith, nat_tests, here.0) in
-    let high : IsTrue (nat_le byte 126) = grind (arith, nat_tests, here.1) in
-    and_from (is_visible byte) (list_all is_visible text) (and_from (nat_le 33 byte) (nat_le byte 126) low high) (visible text later)
-
--- an account's row takes them
-pub owner_fits : (identifier token none other : Bytes) → IsIdentifier identifier → IsSessionToken token → none ≡ [] → other ≡ []
-    → HasLength 1 254 identifier × HasLength 1 1024 token × IsVisible token × HasLength 0 33554432 none × HasLength 0 33554432 other
-owner_fits identifier token none other named session empty too =
-    let e : length none ≡ 0 = ap (λ (l : Bytes). length l) empty in
-    let f : length other ≡ 0 = ap (λ (l : Bytes). length l) too in
-    (named, (session.0, session.1), visible token (recursion_from_All (λ c. (33 ≤ c) × (c ≤ 126)) token session.2), (omega arith, omega arith), (omega arith, omega arith))
-
--- an account's row takes another session token
-pub renewed_fits : (owner : OwnerRow) (identifier token sync cursor : Bytes) → identifier ≡ owner.identifier → sync ≡ owner.sync_token
-    → cursor ≡ owner.cursor_token → IsSessionToken token
-    → HasLength 1 254 identifier × HasLength 1 1024 token × IsVisible token × HasLength 0 33554432 sync × HasLength 0 33554432 cursor
-renewed_fits owner identifier token sync cursor named synced paged session = (
-  subst (λ (t : Bytes). HasLength 1 254 t) (sym named) (lengths 1 254 owner.identifier owner.identifier_fits),
-  (session.0, session.1),
-  visible token (recursion_from_All (λ c. (33 ≤ c) × (c ≤ 126)) token session.2),
-  subst (λ (t : Bytes). HasLength 0 33554432 t) (sym synced) (lengths 0 33554432 owner.sync_token owner.sync_token_fits),
-  subst (λ (t : Bytes). HasLength 0 33554432 t) (sym paged) (lengths 0 33554432 owner.cursor_token owner.cursor_token_fits),
-)

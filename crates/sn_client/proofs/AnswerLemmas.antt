@@ -19,12 +19,12 @@ use Rattle.sn_device.specs.Sending.{NoneWaits, SomeWaits}
 use Rattle.sn_device.specs.States.{Bytes, HasOwner, HasSets}
 use Rattle.sn_device.specs.Steps.{start}
 use Rattle.sn_client.specs.Syncing.{IsCheckRefusal}
-use Rattle.sn_client.specs.Taken.{StopsBy, refusal_of}
+use Rattle.sn_taking.specs.Taken.{StopsBy, refusal_of}
 use Rattle.sn_device.specs.Taking.{RunsOut, told_by}
 use Rattle.sn_device.specs.declared.error.ClientError.{ClientError}
 use Rattle.sn_device.specs.declared.error.ClientError.TheVariants as refusal
-use Rattle.sn_client.specs.declared.taken.NotTaken.{NotTaken}
-use Rattle.sn_client.specs.declared.taken.NotTaken.TheVariants as stop
+use Rattle.sn_taking.specs.declared.taken.NotTaken.{NotTaken}
+use Rattle.sn_taking.specs.declared.taken.NotTaken.TheVariants as stop
 use Rattle.sn_device.proofs.Facts.{one_owner}
 
 -- ---- what isn't applied

@@ -6,7 +6,7 @@ use Rattle.sn_rows.specs.declared.device_rows.LocalItem.{LocalItem}
 use Rattle.sn_rows.specs.declared.device_rows.OwnerRow.{OwnerRow}
 use Rattle.sn_sets.specs.declared.sets.Sets.{Sets}
 use Rattle.sn_string.specs.declared.params.KeySet.{KeySet}
-use Rattle.sn_client.specs.Calls.{MayRefuse, none_more}
+use Rattle.sn_drafts.specs.Refusing.{MayRefuse, none_more}
 use Rattle.sn_device.specs.Changing.{MayAsk, NoneRuns}
 use Rattle.sn_device.specs.Runs.{Act, AnswersChange, AsksFor, AsksHost, CommitsStep, IsNewSet, Point, RefusesChange, Then, Turn, WithAccount, change_to, is_over, most_exchanges, refused}
 use Rattle.sn_device.specs.States.{Bytes, HasLocal, HasOwner, HasSets, HasNoneAsked}

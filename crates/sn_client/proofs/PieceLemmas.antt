@@ -11,7 +11,7 @@ use Rattle.sn_sync.specs.declared.request.Request.{Request}
 use Rattle.sn_table.specs.Committing.{IsCause}
 use Rattle.sn_table.specs.Kept.{Kept, with_batch}
 use Rattle.sn_table.specs.declared.committed.CommitError.{CommitError}
-use Rattle.sn_client.specs.Asked.{AsksOnce, HeardAs, IsHeardBehind}
+use Rattle.sn_exchange.specs.Asked.{AsksOnce, HeardAs, IsHeardBehind}
 use Rattle.sn_device.specs.Asking.{Reply, lost, said, unheard, unread}
 use Rattle.sn_client.specs.Calls.{kept_done, of_commit}
 use Rattle.sn_client.specs.Going.{GoesOver}

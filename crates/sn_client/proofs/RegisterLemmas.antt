@@ -1,24 +1,20 @@
--- A registration: the set that is made, and the call's run.
-use Rattle.std.specs.Prelude.{◌≡◌, ◌⊎◌, ◌*◌, ◌≤◌, ℕ, List, [], ◌∷◌, length}
-use Rattle.std.proofs.Common.{arith, inl, inr, refl, sym, ap, subst, ◌∙◌}
-use Rattle.hex.specs.Hex.{encode_lower, lower_digits}
-use Rattle.hex.proofs.HexLemmas.{length-encode_with}
+-- A registration: its new set, and the call's run.
+use Rattle.std.specs.Prelude.{◌≡◌, ◌⊎◌, ℕ, List, [], ◌∷◌}
+use Rattle.std.proofs.Common.{inl, inr, refl, ap, subst}
 use Rattle.rand_chacha.specs.ChaCha.{ChaCha}
 use Rattle.sn_items.specs.Draws.{drawn}
-use Rattle.sn_keys.specs.Keys.{AreKeysOf}
 use Rattle.sn_net.specs.Exchanges.{Exchange}
 use Rattle.sn_rows.specs.Table.{Rows}
 use Rattle.sn_rows.specs.declared.change.Change.{Change}
 use Rattle.sn_rows.specs.declared.device_rows.OwnerRow.{OwnerRow}
 use Rattle.sn_sets.specs.Seals.{IsLater}
-use Rattle.sn_string.specs.Bounds.{IsCost, IsIdentifier, IsNonce}
 use Rattle.sn_string.specs.declared.params.KeySet.{KeySet}
-use Rattle.sn_string.specs.declared.params.Params.{Params}
 use Rattle.sn_sync.specs.declared.request.Request.{Request}
 use Rattle.sn_sync.specs.declared.request.Request.TheVariants as request
 use Rattle.sn_table.specs.Kept.{Kept}
 use Rattle.sn_client.specs.Calls.{CallsOver}
-use Rattle.sn_client.specs.Going.{GoesOver, IsSetWith, MayWant}
+use Rattle.sn_client.specs.Going.{GoesOver, MayWant}
+use Rattle.sn_joining.specs.Accounts.{IsSetWith}
 use Rattle.sn_device.specs.Runs.{AsksAccount, Call, Given, IsBadCost, IsNewSet, Run, refused, register}
 use Rattle.sn_device.specs.States.{Bytes, HasNoAccount, HasOwner}
 use Rattle.sn_device.specs.Steps.{begins}
@@ -28,23 +24,6 @@ use Rattle.sn_device.specs.declared.error.ClientError.{ClientError}
 use Rattle.sn_device.specs.declared.error.ClientError.TheVariants as refusal
 
 -- ---- the set
-
--- the parts are within the bounds of parameters
-pub params_fit : (identifier nonce bytes : Bytes) (cost : ℕ) → IsIdentifier identifier → 1 ≤ cost → cost ≤ 4294967295 → nonce ≡ encode_lower bytes
-    → length bytes ≡ 32 → IsIdentifier identifier × IsCost cost × IsNonce nonce
-params_fit identifier nonce bytes cost named least most spelled long =
-    let digits : length nonce ≡ 2 * length bytes = ap (λ (l : Bytes). length l) spelled ∙ length-encode_with lower_digits bytes in
-    (named, (least, most), (omega arith, omega arith))
-
-pub set_with : (nonce identifier password : Bytes) (cost : ℕ) (params : Params) (set : KeySet)
-    → (params.identifier ≡ identifier) × (params.pw_cost ≡ cost) × (params.pw_nonce ≡ encode_lower nonce) → AreKeysOf password params set
-    → IsSetWith nonce identifier password cost set
-set_with nonce identifier password cost params set parts keys = record {
-  identifier_is = ap (λ (p : Params). p.identifier) keys.params ∙ parts.0;
-  cost_is = ap (λ (p : Params). p.pw_cost) keys.params ∙ parts.1;
-  nonce_is = ap (λ (p : Params). p.pw_nonce) keys.params ∙ parts.2;
-  keys = subst (λ (p : Params). AreKeysOf password p set) (sym keys.params) keys;
-}
 
 -- with a drawn nonce it is a new set
 pub is_new : (words left : ChaCha) (nonce identifier password : Bytes) (cost : ℕ) (set : KeySet) → (nonce, left) ≡ drawn 32 words

@@ -26,10 +26,6 @@ HoldsOwner rows = (owner : OwnerRow) × HasOwner rows owner
 
 -- ---- a set that is asked for, or none
 
-pub is_nothing : {T : Type 0} (found : Option T) → ((x : T) → found ≡ Some x → ⊥) → found ≡ None
-is_nothing None never = refl
-is_nothing (Some x) never = absurd (never x refl)
-
 pub asks_nothing : (rows : Rows) (owner : OwnerRow) (sets : Sets) → HasSets rows owner sets → sets.asked ≡ None → HasNoneAsked rows
 asks_nothing rows owner sets has none = subst (IsInSlot rows owner.identifier Asked) none has.wanted
 

@@ -1,7 +1,6 @@
 -- How a sign-in goes on behind each of its exchanges.
-use Rattle.std.specs.Prelude.{◌≡◌, ◌≢◌, ◌⊎◌, ◌↔◌, ◌++◌, ℕ, Bool, true, false, not, IsTrue, List, [], ◌∷◌, Some, Result, Ok, Err, IfOk, IfErr, IsErrAnd, codes}
+use Rattle.std.specs.Prelude.{◌≡◌, ◌≢◌, ◌⊎◌, ◌++◌, ℕ, List, [], ◌∷◌, codes}
 use Rattle.std.proofs.Common.{inl, inr, refl, sym, ap, subst, ◌∙◌}
-use Rattle.std.proofs.lemmas.Bool.{false≢true}
 use Rattle.rand_chacha.specs.ChaCha.{ChaCha}
 use Rattle.sn_net.specs.Exchanges.{Exchange}
 use Rattle.sn_keys.specs.Keys.{AreKeysOf}
@@ -16,12 +15,13 @@ use Rattle.sn_sync.specs.declared.answer.Answer.TheVariants as answer
 use Rattle.sn_sync.specs.declared.request.Request.{Request}
 use Rattle.sn_sync.specs.declared.request.Request.TheVariants as request
 use Rattle.sn_table.specs.Kept.{Kept}
-use Rattle.sn_client.specs.Asked.{AsksOnce}
+use Rattle.sn_exchange.specs.Asked.{AsksOnce}
 use Rattle.sn_device.specs.Asking.{said}
 use Rattle.sn_client.specs.Going.{GoesOver, MayWant}
 use Rattle.sn_client.specs.Calls.{CallsOver}
 use Rattle.sn_device.specs.Runs.{Act, AsksAccount, AsksFirst, Given, Halt, IsOrMayBe, IsOtherOlder, Run, SignsInBy, SignsInUnder, SignsInWith, asked, refused, sign_in}
-use Rattle.sn_client.specs.Signing.{HasKeys, JoinsAgain, JoinsBy, MadeBySignIn, RefusesAgain, RefusesKeys, RefusesParams, RefusesWith}
+use Rattle.sn_joining.specs.Signing.{HasKeys, JoinsBy, RefusesKeys, RefusesParams, RefusesWith}
+use Rattle.sn_client.specs.Signing.{MadeBySignIn}
 use Rattle.sn_device.specs.Steps.{Adopts, BeginsDevice, Renews, adopts, begins, renews}
 use Rattle.sn_device.specs.States.{Bytes, HasNoAccount, HasOwner, HasSets}
 use Rattle.sn_client.specs.declared.called.Called.{Called}
@@ -29,40 +29,11 @@ use Rattle.sn_client.specs.declared.called.Called.TheVariants as called
 use Rattle.sn_device.specs.declared.error.ClientError.{ClientError}
 use Rattle.sn_device.specs.declared.error.ClientError.TheVariants as refusal
 use Rattle.sn_device.specs.declared.error.Place.TheVariants as place
-use Rattle.sn_client.specs.declared.signing.Joining.{Joining}
-use Rattle.sn_client.specs.declared.signing.Joining.TheVariants as joining
+use Rattle.sn_joining.specs.declared.signing.Joining.TheVariants as joining
 use Rattle.sn_client.proofs.AccountLemmas.{ends_behind}
 use Rattle.sn_client.proofs.RegisterLemmas.{refused_call, refuses}
 
 -- ---- why it is refused, and what is held
-
--- a refusal that is handed on
-pub refused_for : {T : Type 0} (result : Result T ClientError) (why : ClientError) (P : ClientError → Type 0) → IsErrAnd result (λ e. e ≡ why) → P why → IfErr result P
-refused_for (Ok given) why P is holds = tt
-refused_for (Err e) why P is holds = subst P (sym is) holds
-
--- keys of the older set's parameters are others, where they aren't its own
-pub other_older : (sets : Sets) (set older : KeySet) (same : Bool) → sets.older ≡ Some older → set.params ≡ older.params → IsTrue same ↔ (set ≡ older)
-    → IsTrue (not same) ↔ IsOtherOlder sets set
-other_older sets set older true has params says = (
-  λ no. absurd (false≢true no),
-  λ other.
-      let it : sets.older ≡ Some other.0 = other.1 in
-      let same : older ≡ other.0 = cc in
-      absurd (other.3 (says.0 refl ∙ same)),
-)
-other_older sets set older false has params says = ((λ yes. (older, has, params, (λ same. false≢true (says.1 same)))), (λ other. refl))
-
--- under held sets
-pub joins_held : (rows : Rows) (owner : OwnerRow) (sets : Sets) (set : KeySet) (result : Result Joining ClientError) → HasSets rows owner sets
-    → IfOk result (JoinsAgain sets set) → IfOk result (JoinsBy rows set)
-joins_held rows owner sets set (Ok how) has is = inr (owner, sets, has, is)
-joins_held rows owner sets set (Err why) has is = tt
-
-pub refuses_held : (rows : Rows) (owner : OwnerRow) (sets : Sets) (set : KeySet) (result : Result Joining ClientError) → HasSets rows owner sets
-    → IfErr result (RefusesAgain sets set) → IfErr result (RefusesWith rows set)
-refuses_held rows owner sets set (Ok how) has is = tt
-refuses_held rows owner sets set (Err why) has is = inr (owner, sets, has, is)
 
 -- a device that begins has no account
 pub joins_first : (rows : Rows) (set : KeySet) → JoinsBy rows set joining.Begins → HasNoAccount rows

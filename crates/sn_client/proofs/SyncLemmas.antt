@@ -14,7 +14,7 @@ use Rattle.sn_sync.specs.declared.request.Request.TheVariants as request
 use Rattle.sn_table.specs.Committing.{IsCause}
 use Rattle.sn_table.specs.Kept.{Kept, with_batch}
 use Rattle.sn_table.specs.declared.committed.CommitError.{CommitError}
-use Rattle.sn_client.specs.Asked.{AsksOnce, IsAsked}
+use Rattle.sn_exchange.specs.Asked.{AsksOnce, IsAsked}
 use Rattle.sn_device.specs.Asking.{said}
 use Rattle.sn_client.specs.Calls.{Ends, kept_done, of_commit}
 use Rattle.sn_device.specs.Runs.{Act, AreExchanges, AreRounds, EndsBehind, EndsUnapplied, Exchanges, Halt, IsAllDone, IsBatch, IsDone, IsDue, IsLeft, IsRound, IsUnapplied, Round, Sends, Standing, acts_of, asked, broken, commits, goes_on, items_of, most_exchanges, posting, refused}

@@ -7,7 +7,8 @@ use Rattle.sn_rows.specs.declared.change.Change.{Change}
 use Rattle.sn_rows.specs.declared.device_rows.OwnerRow.{OwnerRow}
 use Rattle.sn_sets.specs.declared.sets.Sets.{Sets}
 use Rattle.sn_table.specs.Kept.{Kept}
-use Rattle.sn_client.specs.Calls.{CallsOver, MayRefuse, none_more}
+use Rattle.sn_client.specs.Calls.{CallsOver}
+use Rattle.sn_drafts.specs.Refusing.{MayRefuse, none_more}
 use Rattle.sn_client.specs.Going.{GoesOver}
 use Rattle.sn_device.specs.Runs.{AnswersNothing, ChangesPassword, ChangesTo, IsBadCost, Run, SyncsUnder, WithAccount, begun, passwd, refused, sync}
 use Rattle.sn_device.specs.States.{Bytes, HasNoAccount, HasSets}
@@ -16,7 +17,7 @@ use Rattle.sn_client.specs.declared.called.Called.{Called}
 use Rattle.sn_device.specs.declared.error.ClientError.{ClientError}
 use Rattle.sn_device.specs.declared.error.ClientError.TheVariants as refusal
 use Rattle.sn_client.specs.declared.piece_end.PieceEnd.{PieceEnd}
-use Rattle.sn_client.proofs.LookLemmas.{without_account}
+use Rattle.sn_drafts.proofs.Facts.{without_account}
 use Rattle.sn_client.proofs.PieceLemmas.{answers_over}
 
 -- ---- before the first act

@@ -6,13 +6,14 @@ use Rattle.sn_rows.specs.Table.{Rows}
 use Rattle.sn_rows.specs.declared.device_rows.LocalItem.{LocalItem}
 use Rattle.sn_rows.specs.declared.device_rows.OwnerRow.{OwnerRow}
 use Rattle.sn_sets.specs.declared.sets.Sets.{Sets}
-use Rattle.sn_client.specs.Calls.{MayRefuse, Tells, none_more}
+use Rattle.sn_drafts.specs.Refusing.{MayRefuse, none_more}
+use Rattle.sn_client.specs.Calls.{Tells}
 use Rattle.sn_device.specs.Listing.{IsDeleted, Shows}
 use Rattle.sn_device.specs.Runs.{Call, Given, GivesText, IsGone, RunsCall, RunsContent, WithAccount, WithItem, a_text, answered}
 use Rattle.sn_device.specs.States.{Bytes, HasItem, HasSets}
 use Rattle.sn_device.specs.declared.error.ClientError.{ClientError}
 use Rattle.sn_device.specs.declared.error.ClientError.TheVariants as refusal
-use Rattle.sn_client.proofs.LookLemmas.{RefusesShown, of_account, of_closed, of_gone, without_account}
+use Rattle.sn_drafts.proofs.Facts.{RefusesShown, of_account, of_closed, of_gone, without_account}
 
 -- a refusal that is handed on
 pub tells_exit : {T : Type 0} (least : ℕ) (call : Call) (rows : Rows) (gives : T → Given) (r : Result T ClientError) (why : ClientError) → IsErrAnd r (λ e. e ≡ why)

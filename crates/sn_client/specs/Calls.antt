@@ -12,7 +12,7 @@ use Rattle.sn_table.specs.Kept.{Kept, with_batch}
 use Rattle.sn_table.specs.declared.committed.CommitError.{CommitError}
 use Rattle.sn_table.specs.declared.committed.CommitError.TheVariants as commit
 use Rattle.sn_table.specs.Tables.{IsOpen as IsOpenTable, table_disk, table_rows}
-use Rattle.sn_device.specs.Runs.{Act, AreExchanges, Call, EndsCommit, Given, Halt, Run, Wants, answered, asked, broken, commits, refused}
+use Rattle.sn_device.specs.Runs.{Act, AreExchanges, Call, Given, Halt, Run, answered, asked, broken, commits, refused}
 use Rattle.sn_device.specs.Steps.{What}
 use Rattle.sn_device.specs.States.{Bytes}
 use Rattle.sn_client.specs.declared.called.Called.{Called}
@@ -96,20 +96,6 @@ module _ {S D T : Type 0} (is_open : S → Kept → Type 0) (may_have : D → Ke
     pub are : AreExchanges host acts exchanges
     pub asked_so : asks exchanges
     pub ends : Ends kept acts halt left result
-
--- ---- before the first act
-
--- the call does nothing, and is refused for want of memory or as this says
-abbrev pub MayRefuse : (List Act → Halt → Type 0) → ClientError → Type 0
-MayRefuse P why = Wants [] (refused why) ⊎ P [] (refused why)
-
--- nothing more of the call is said
-abbrev pub none_more : List Act → Halt → Type 0
-none_more acts halt = ⊥
-
--- as this says, the call ends by a last commit of these changes
-abbrev pub Prepares : (List Act → Halt → Type 0) → What → List Change → Given → ChaCha → Type 0
-Prepares P what changes given left = (acts : List Act) (halt : Halt) → EndsCommit what changes given left acts halt → P acts halt
 
 -- ---- a crash in a call of one commit
 

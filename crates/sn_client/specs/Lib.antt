@@ -1,11 +1,5 @@
-pub mod Adopting
-pub mod Asked
 pub mod Calls
-pub mod Chosen
 pub mod Going
-pub mod Index
 pub mod Loads
 pub mod Signing
 pub mod Syncing
-pub mod Taken
-pub mod Unsound

@@ -18,7 +18,7 @@ use Rattle.sn_sync.specs.declared.request.Request.{Request}
 use Rattle.sn_sync.specs.declared.request.Request.TheVariants as request
 use Rattle.sn_table.specs.Batches.{IsStore}
 use Rattle.sn_table.specs.Kept.{Kept, with_batch}
-use Rattle.sn_client.specs.Asked.{AsksOnce}
+use Rattle.sn_exchange.specs.Asked.{AsksOnce}
 use Rattle.sn_device.specs.Asking.{Reply, said}
 use Rattle.sn_client.specs.Calls.{Ends, IfBroken, IfStands, IsOpen, MayHave, called_disk, device_disk, device_rows, kept_done}
 use Rattle.sn_device.specs.Runs.{Act, AreExchanges, EndsBehind, EndsUnapplied, Given, Halt, IsBatch, IsCheckPlace, IsDue, IsLeft, IsRound, Point, Round, Standing, Turn, Wants, acts_of, asked, goes_on, is_over, most_exchanges, nothing}

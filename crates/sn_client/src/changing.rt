@@ -1,43 +1,37 @@
 //! Changing the password of a device's account.
 
-ghost use Rattle.std.specs.Prelude.{◌≡◌, ◌⊎◌, ℕ, IfErr, IfNone, IfOk, IfSome, None, OnOk};
-ghost use Rattle.sn_device.specs.Changing.{IsFirstItem, IsFirstSent, NoneRuns};
-ghost use Rattle.sn_device.specs.Runs.{RefusesChange};
-ghost use Rattle.sn_device.specs.States.{HasLocal};
+ghost use Rattle.std.specs.Prelude.{◌≡◌, ◌≢◌, ◌≤◌, [], IfErr, IfOk};
+ghost use Rattle.sn_client.specs.Going.{IsToAsk};
+ghost use Rattle.sn_device.specs.Runs.{AsksFor, is_over, most_exchanges, refused};
+ghost use Rattle.sn_device.specs.States.{HasNoneAsked, HasOwner, IsSound};
 ghost use Rattle.sn_device.specs.declared.error.ClientError.TheVariants as refusal;
-ghost use Rattle.sn_rekey.specs.Carrying.{IsOfOther};
 ghost use Rattle.sn_row_map.specs.RowMaps.{row_in};
-ghost use Rattle.sn_table.specs.Logs.{HasKinds};
-ghost use Rattle.sn_rows.specs.declared.device_rows.LocalItem.{LocalItem};
+ghost use Rattle.sn_rows.specs.declared.device_rows.OwnerRow.{OwnerRow};
+ghost use Rattle.sn_sets.specs.Seals.{IsLater};
+ghost use Rattle.sn_table.specs.Tables.{table_rows};
 
-use crate::asking::{MOST_EXCHANGES, hear_behind};
 use crate::called::Called;
 use crate::device::Device;
 use crate::error::of_commit;
-use crate::looking::held_sets;
 use crate::piece_end::PieceEnd;
-use crate::registering::{is_bad_cost, new_set};
-use crate::rekeying::asking;
+use sn_adopting::{asking, may_begin};
 use sn_device::ClientError;
 use sn_disk::Disk;
+use sn_drafts::held_sets;
+use sn_exchange::{MOST_EXCHANGES, hear_behind};
 use sn_items::Words;
+use sn_joining::{is_bad_cost, new_set};
 use sn_net::Link;
-use sn_rekey::{RekeyError, Running, is_of_other};
-use sn_row_map::RowMap;
-use sn_rows::{RowKind, Value};
 use sn_sets::Sets;
-use sn_string::{KeySet, Text, TryClone};
+use sn_string::{KeySet, Text};
 use sn_sync::Answer;
-use sn_table::Committed;
-use std::alloc::{AllocError, Global};
-use uuid::Uuid;
+use sn_table::{Committed, Table};
+use std::alloc::Global;
 
 impl<D: Disk> Device<D> {
-    ghost use Rattle.std.specs.Prelude.{◌≤◌, ◌<◌};
+    ghost use Rattle.std.specs.Prelude.{◌<◌};
     ghost use Rattle.sn_disk.specs.Disk.{LeavesOnly};
     ghost use Rattle.sn_io.specs.Causes.{Rose};
-    ghost use Rattle.sn_rows.specs.declared.device_rows.OwnerRow.{OwnerRow};
-    ghost use Rattle.sn_sets.specs.Seals.{IsLater};
     ghost use Rattle.sn_sets.specs.declared.sets.Sets.{Sets};
     ghost use Rattle.sn_sync.specs.Fits.{FitsAnswer};
     ghost use Rattle.sn_sync.specs.declared.answer.Answer.TheVariants.{Refused as RefusedAnswer};
@@ -45,10 +39,10 @@ impl<D: Disk> Device<D> {
     ghost use Rattle.sn_sync.specs.declared.request.Route.TheVariants as route;
     ghost use Rattle.sn_table.specs.Kept.{Kept};
     ghost use Rattle.sn_client.specs.Calls.{CallsOver, HasFront, IfBroken, IfRefused, IfStands, IsOpen, MayHave, called_disk, device_disk, device_rows, tried};
-    ghost use Rattle.sn_client.specs.Asked.{IsGranted};
+    ghost use Rattle.sn_exchange.specs.Asked.{IsGranted};
     ghost use Rattle.sn_device.specs.Changing.{HoldsAsked, MayAsk};
-    ghost use Rattle.sn_device.specs.Runs.{AnswersChange, AsksFor, AsksHost, ChangesTo, CommitsStep, Exchanges, IsBadCost, Then, begun, change_to, most_exchanges, passwd};
-    ghost use Rattle.sn_device.specs.States.{HasOwner, HasSets, IsSound, HasNoneAsked};
+    ghost use Rattle.sn_device.specs.Runs.{AnswersChange, AsksHost, ChangesTo, CommitsStep, Exchanges, IsBadCost, Then, begun, change_to, passwd};
+    ghost use Rattle.sn_device.specs.States.{HasSets};
     ghost use Rattle.sn_device.specs.Steps.{asks};
     ghost use Rattle.sn_client.specs.Syncing.{IfOn, MadeAtMost, IsOpenSince, KeepsDevice, MayHaveSince, WentBy, called_past, gives_nothing};
 
@@ -177,22 +171,13 @@ impl<D: Disk> Device<D> {
         ensures link_fault { IfRefused (called_past result) (λ why. why ≡ refusal.LinkFault → Rose (L.fault_count link.old) (L.fault_count link.new)) }
         ensures link_later { L.fault_count link.old ≤ L.fault_count link.new }
     {
-        let sets = match held_sets(self.alloc, &self.table) {
-            Ok(sets) => sets,
-            Err(why) => return PieceEnd::Over(Called::Refused(self, why)),
-        };
-        if let Err(why) = may_begin(self.alloc, self.table.rows(), &sets) {
-            return PieceEnd::Over(Called::Refused(self, why));
+        match set_to_ask(self.alloc, &self.table, words, password, cost, made) {
+            Ok(found) => {
+                let (sets, set) = found;
+                self.ask_for_set(link, words, &sets.present, &set, made)
+            }
+            Err(why) => PieceEnd::Over(Called::Refused(self, why)),
         }
-        if made >= MOST_EXCHANGES {
-            return PieceEnd::Over(Called::Refused(self, ClientError::RoundsUsed));
-        }
-        let nonce = words.nonce();
-        let identifier = sets.present.params.identifier.as_str();
-        let Ok(set) = new_set(self.alloc, &nonce, identifier, password, cost) else {
-            return PieceEnd::Over(Called::Refused(self, ClientError::Memory));
-        };
-        self.ask_for_set(link, words, &sets.present, &set, made)
     }
 
     // Keeps a set as asked for, and asks for it.
@@ -328,76 +313,39 @@ impl<D: Disk> Device<D> {
     }
 }
 
-// Whether a change may begin on these rows.
-fn may_begin(alloc: Global, rows: &RowMap, sets: &Sets) -> Result<(), ClientError>
-    requires kinds { HasKinds rows.now }
-    ensures ok { OnOk result (NoneRuns (row_in rows.now) sets.now × ((number : ℕ) (local : LocalItem) → HasLocal (row_in rows.now) number local → local.posted ≡ None)) }
-    ensures err { IfErr result (λ why. (why ≡ refusal.Memory) ⊎ RefusesChange (row_in rows.now) sets.now why) }
-{
-    if let Some(older) = &sets.older {
-        let nonce = older.params.pw_nonce.try_clone(alloc)?;
-        return Err(running(Running::Older { nonce }));
-    }
-    if let Some(uuid) = first_of_other(alloc, rows, &sets.present)? {
-        return Err(running(Running::Item { uuid }));
-    }
-    match first_sent(rows) {
-        Some(uuid) => Err(ClientError::Rekey {
-            error: RekeyError::Unsent { uuid },
-        }),
-        None => Ok(()),
-    }
-}
-
-// The refusal while a change runs.
-fn running(by: Running) -> ClientError
-    ensures { result ≡ refusal.Rekey (RekeyError.ChangeRunning by) }
-{
-    ClientError::Rekey {
-        error: RekeyError::ChangeRunning { by },
-    }
-}
-
-// The first item of which a version is sealed under another set than the present one.
-fn first_of_other(
+// The sets that are held, and a new one of the password that may be asked for.
+fn set_to_ask<D: Disk>(
     alloc: Global,
-    rows: &RowMap,
-    present: &KeySet,
-) -> Result<Option<Uuid>, AllocError>
-    requires kinds { HasKinds rows.now }
-    ensures some { IfOk result (λ found. IfSome found (IsFirstItem (row_in rows.now) (IsOfOther present.now))) }
-    ensures none { IfOk result (λ found. IfNone found ((number : ℕ) (local : LocalItem) → HasLocal (row_in rows.now) number local → ¬ (IsOfOther present.now local))) }
+    table: &Table<D>,
+    words: &mut Words,
+    password: &str,
+    cost: u32,
+    made: u64,
+) -> Result<(Sets, KeySet), ClientError>
+    requires sound { IsSound (row_in (table_rows table.now)) }
+    requires few { made ≤ most_exchanges }
+    requires owned { (owner : OwnerRow) × HasOwner (row_in (table_rows table.now)) owner }
+    requires none_asked { HasNoneAsked (row_in (table_rows table.now)) }
+    requires cost { 1 ≤ cost }
+    ensures ok { IfOk result (λ found. IsToAsk (row_in (table_rows table.now)) words.old password.now cost made found.0 found.1 words.new) }
+    ensures err { IfErr result (λ why. AsksFor password.now cost (record { made = made; rows = row_in (table_rows table.now); words = words.old }) [] (is_over (refused why))) }
+    ensures link { IfErr result (λ why. why ≢ refusal.LinkFault) }
+    ensures words { IsLater words.old words.new }
 {
-    let mut found = rows.first(RowKind::Local);
-    'items: while let Some((key, value)) = found {
-        let Value::Local(item) = value else {
-            unreachable!();
-        };
-        let item = item.get();
-        if is_of_other(alloc, item, present)? {
-            return Ok(Some(item.uuid));
-        }
-        found = rows.next_after(key);
+    let sets = match held_sets(alloc, table) {
+        Ok(sets) => sets,
+        Err(why) => return Err(why),
+    };
+    if let Err(why) = may_begin(alloc, table.rows(), &sets) {
+        return Err(why);
     }
-    Ok(None)
-}
-
-// The first item that was sent and isn't answered.
-fn first_sent(rows: &RowMap) -> Option<Uuid>
-    requires kinds { HasKinds rows.now }
-    ensures some { IfSome result (IsFirstSent (row_in rows.now)) }
-    ensures none { IfNone result ((number : ℕ) (local : LocalItem) → HasLocal (row_in rows.now) number local → local.posted ≡ None) }
-{
-    let mut found = rows.first(RowKind::Local);
-    'items: while let Some((key, value)) = found {
-        let Value::Local(item) = value else {
-            unreachable!();
-        };
-        let item = item.get();
-        if item.posted.is_some() {
-            return Some(item.uuid);
-        }
-        found = rows.next_after(key);
+    if made >= MOST_EXCHANGES {
+        return Err(ClientError::RoundsUsed);
     }
-    None
+    let nonce = words.nonce();
+    let identifier = sets.present.params.identifier.as_str();
+    let Ok(set) = new_set(alloc, &nonce, identifier, password, cost) else {
+        return Err(ClientError::Memory);
+    };
+    Ok((sets, set))
 }

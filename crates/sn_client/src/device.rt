@@ -4,12 +4,12 @@ ghost use Rattle.std.specs.Prelude.{◌≡◌};
 ghost use Rattle.sn_journal.specs.declared.owner.Owner.TheVariants.{Device as DeviceOwner};
 ghost use Rattle.sn_row_map.specs.RowMaps.{row_in};
 ghost use Rattle.sn_table.specs.Tables.{table_owner, table_rows};
-ghost use Rattle.sn_client.specs.Index.{Indexes, indexes-prop};
+ghost use Rattle.sn_local.specs.Index.{Indexes, indexes-prop};
 
 use crate::called::Called;
 use crate::error::of_commit;
-use crate::index::{Index, changed_numbers};
 use sn_disk::{Disk, MemDisk, Stop};
+use sn_local::{Index, changed_numbers};
 use sn_rows::Change;
 use sn_table::{CommitError, Committed, Table};
 use std::alloc::Global;

@@ -1,10 +1,9 @@
 //! What a device tells of its items.
 
 use crate::device::Device;
-use crate::lines::lines_of;
-use crate::looking::{held_sets, shown_text, standing_item};
 use sn_device::{ClientError, Listed};
 use sn_disk::Disk;
+use sn_drafts::{held_sets, lines_of, shown_text, standing_item};
 use sn_string::OwnedList;
 use uuid::Uuid;
 

@@ -2,10 +2,10 @@
 
 use crate::device::Device;
 use crate::error::DeviceError;
-use crate::index::Index;
-use crate::soundness::first_unsound;
 use sn_disk::Disk;
 use sn_journal::Owner;
+use sn_local::Index;
+use sn_soundness::first_unsound;
 use sn_table::Table;
 use std::alloc::Global;
 

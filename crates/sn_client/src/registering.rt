@@ -1,33 +1,19 @@
 //! Registration: an account's set is made of a password, and its first rows are kept.
 
-ghost use Rattle.std.specs.Prelude.{◌≡◌, ◌⊎◌, ◌↔◌, ◌≤◌, IfNone, IfOk, IfSome, IsTrue};
-ghost use Rattle.hex.specs.Hex.{encode_lower};
-ghost use Rattle.sn_client.specs.Going.{IsSetWith};
-ghost use Rattle.sn_device.specs.Runs.{IsBadCost, IsNewSet};
-ghost use Rattle.sn_device.specs.States.{HasNoAccount, HasOwner};
-ghost use Rattle.sn_device.specs.declared.error.ClientError.TheVariants as refusal;
-ghost use Rattle.sn_row_map.specs.RowMaps.{row_in};
-ghost use Rattle.sn_rows.specs.declared.device_rows.OwnerRow.{OwnerRow};
+ghost use Rattle.std.specs.Prelude.{◌≡◌, ◌≤◌};
+ghost use Rattle.sn_device.specs.Runs.{IsNewSet};
 ghost use Rattle.sn_sets.specs.Seals.{IsLater};
 ghost use Rattle.sn_string.specs.Bounds.{IsIdentifier};
 ghost use Rattle.sn_sync.specs.declared.request.Request.TheVariants as request;
-ghost use Rattle.sn_table.specs.Tables.{table_rows};
 
 use crate::called::Called;
 use crate::device::Device;
-use crate::state::owner;
 use sn_device::ClientError;
 use sn_disk::Disk;
 use sn_items::Words;
-use sn_keys::derive;
+use sn_joining::{registration, registration_refusal};
 use sn_net::Link;
-use sn_string::{KeySet, Params, Text, TryClone, hex_text};
-use sn_sync::Request;
-use sn_table::Table;
-use std::alloc::{AllocError, Global};
-
-/// The highest cost that is taken.
-const MOST_COST: u32 = 10_000_000;
+use sn_string::KeySet;
 
 impl<D: Disk> Device<D> {
     ghost use Rattle.std.specs.Prelude.{ℕ, List};
@@ -68,7 +54,7 @@ impl<D: Disk> Device<D> {
         ensures link_fault { IfRefused result (λ why. why ≡ ClientError.LinkFault → Rose (L.fault_count link.old) (L.fault_count link.new)) }
         ensures link_later { L.fault_count link.old ≤ L.fault_count link.new }
     {
-        if let Some(why) = refusal(self.alloc, &self.table, self.least_cost, cost) {
+        if let Some(why) = registration_refusal(self.alloc, &self.table, self.least_cost, cost) {
             return Called::Refused(self, why);
         }
         let nonce = words.nonce();
@@ -77,81 +63,4 @@ impl<D: Disk> Device<D> {
         };
         self.begin(link, request, set)
     }
-}
-
-// Why a registration is refused before anything is drawn.
-fn refusal<D: Disk>(alloc: Global, table: &Table<D>, least: u32, cost: u32) -> Option<ClientError>
-    ensures some { IfSome result (λ why. (why ≡ refusal.Memory)
-        ⊎ (((owner : OwnerRow) × HasOwner (row_in (table_rows table.now)) owner × (why ≡ refusal.HasAccount owner.identifier))
-        ⊎ (HasNoAccount (row_in (table_rows table.now)) × IsBadCost least cost × (why ≡ refusal.Cost cost)))) }
-    ensures none { IfNone result (HasNoAccount (row_in (table_rows table.now)) × ¬ (IsBadCost least cost)) }
-{
-    if let Some(owner) = owner(table) {
-        return match owner.identifier.try_clone(alloc) {
-            Ok(identifier) => Some(ClientError::HasAccount { identifier }),
-            Err(_) => Some(ClientError::Memory),
-        };
-    }
-    is_bad_cost(least, cost).then_some(ClientError::Cost { cost })
-}
-
-/// Whether a cost isn't taken.
-pub(crate) fn is_bad_cost(least: u32, cost: u32) -> bool
-    ensures { IsTrue result ↔ IsBadCost least cost }
-{
-    cost == 0 || cost < least || cost > MOST_COST
-}
-
-/// The set of a password, under the identifier, the cost and this nonce.
-pub(crate) fn new_set(
-    alloc: Global,
-    nonce: &[u8; 32],
-    identifier: &str,
-    password: &str,
-    cost: u32,
-) -> Result<KeySet, AllocError>
-    requires identifier { IsIdentifier identifier.now }
-    requires cost { 1 ≤ cost }
-    ensures { IfOk result (IsSetWith nonce.now identifier.now password.now cost) }
-{
-    let params = new_params(alloc, nonce, identifier, cost)?;
-    derive(alloc, password, &params)
-}
-
-// The set of a password under these parameters, and the request that registers it.
-fn registration(
-    alloc: Global,
-    nonce: &[u8; 32],
-    identifier: &str,
-    password: &str,
-    cost: u32,
-) -> Result<(KeySet, Request), AllocError>
-    requires identifier { IsIdentifier identifier.now }
-    requires cost { 1 ≤ cost }
-    ensures set { IfOk result (λ made. IsSetWith nonce.now identifier.now password.now cost made.0) }
-    ensures request { IfOk result (λ made. made.1 ≡ request.Register made.0.params made.0.pw) }
-{
-    let set = new_set(alloc, nonce, identifier, password, cost)?;
-    let params = set.params.try_clone(alloc)?;
-    let pw = set.pw;
-    Ok((set, Request::Register { params, pw }))
-}
-
-// Parameters with a nonce.
-fn new_params(
-    alloc: Global,
-    nonce: &[u8; 32],
-    identifier: &str,
-    cost: u32,
-) -> Result<Params, AllocError>
-    requires identifier { IsIdentifier identifier.now }
-    requires cost { 1 ≤ cost }
-    ensures { IfOk result (λ params. (params.identifier ≡ identifier.now) × (params.pw_cost ≡ cost) × (params.pw_nonce ≡ encode_lower nonce.now)) }
-{
-    let nonce = Text::of_string(hex_text(alloc, nonce)?);
-    let identifier = Text::of(alloc, identifier)?;
-    let Some(params) = Params::new(identifier, cost, nonce) else {
-        unreachable!();
-    };
-    Ok(params)
 }

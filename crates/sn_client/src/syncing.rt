@@ -2,29 +2,29 @@
 
 ghost use Rattle.std.specs.Prelude.{◌≡◌, ◌↔◌, IfNone, IfSome, IsTrue};
 ghost use Rattle.sn_device.specs.Runs.{HasCursor, HasLongToken};
-ghost use Rattle.sn_client.specs.Taken.{FitsTokens};
+ghost use Rattle.sn_taking.specs.Taken.{FitsTokens};
 ghost use Rattle.sn_device.specs.declared.error.ClientError.TheVariants as refusal;
 ghost use Rattle.sn_device.specs.declared.error.Place.TheVariants as place;
 ghost use Rattle.sn_client.specs.Syncing.{IsCheckRefusal};
 
-use crate::applying::applied;
-use crate::asking::{MOST_EXCHANGES, ask};
 use crate::called::Called;
 use crate::device::Device;
 use crate::error::of_commit;
 use crate::piece_end::PieceEnd;
-use crate::sending::{Sending, is_left, next_sending};
-use crate::state::{owner, sets_of};
 use sn_conflict::{CheckError, check};
 use sn_device::{ClientError, Place};
 use sn_disk::Disk;
+use sn_exchange::{MOST_EXCHANGES, ask};
 use sn_items::Words;
+use sn_local::{owner, sets_of};
 use sn_net::Link;
 use sn_rows::Change;
+use sn_sending::{Sending, is_left, next_sending};
 use sn_sets::Sets;
 use sn_string::Text;
 use sn_sync::{Answer, Request};
 use sn_table::Committed;
+use sn_taking::applied;
 use std::alloc::AllocError;
 
 /// The most bytes of a sync or cursor token in a device's row.

@@ -5,7 +5,8 @@ use Rattle.sn_device.specs.Runs.{Exchanges, Resolves, SyncsUnder, Then}
 use Rattle.sn_client.specs.Syncing.{IsOpenSince, MayHaveSince, WentBy, called_past}
 use Rattle.sn_client.specs.declared.piece_end.PieceEnd.TheVariants.{On, Over}
 use Rattle.sn_client.proofs.KeepLemmas.{keeps_on, link_rises}
-use Rattle.sn_client.proofs.SettledLemmas.{asks_nothing, asks_set, is_nothing}
+use Rattle.sn_client.proofs.SettledLemmas.{asks_nothing, asks_set}
+use Rattle.sn_local.proofs.Facts.{is_nothing}
 use Rattle.sn_client.proofs.PieceLemmas.{goes_behind, then_over, went_within}
 use Rattle.sn_client.proofs.device.Device.bring_together.Goals as goal
 

@@ -3,7 +3,7 @@ use Rattle.sn_rows.specs.Table.{Rows}
 use Rattle.sn_rows.specs.declared.device_rows.OwnerRow.{OwnerRow}
 use Rattle.sn_sync.specs.declared.answer.Answer.TheVariants as answer
 use Rattle.sn_sync.specs.declared.request.Request.{Request}
-use Rattle.sn_client.specs.Asked.{IsHeardBehind}
+use Rattle.sn_exchange.specs.Asked.{IsHeardBehind}
 use Rattle.sn_client.specs.Calls.{device_rows}
 use Rattle.sn_device.specs.Runs.{AdoptsOrDrops, CommitsStep, Drops, change_to}
 use Rattle.sn_device.specs.States.{HasOwner, HasNoneAsked}

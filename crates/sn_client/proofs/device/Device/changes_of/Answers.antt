@@ -5,11 +5,11 @@ use Rattle.sn_sync.specs.declared.answer.Answer.{Answer}
 use Rattle.sn_sync.specs.declared.answer.Answer.TheVariants as answer
 use Rattle.sn_sync.specs.declared.item.Item.{Item}
 use Rattle.sn_client.specs.Calls.{device_rows}
-use Rattle.sn_client.specs.Index.{Indexes}
+use Rattle.sn_local.specs.Index.{Indexes}
 use Rattle.sn_device.specs.Runs.{IsUnapplied, items_of}
 use Rattle.sn_device.specs.Sending.{AreOfRows}
 use Rattle.sn_device.specs.States.{HasSets, AreApart}
-use Rattle.sn_client.specs.Taken.{refusal_of}
+use Rattle.sn_taking.specs.Taken.{refusal_of}
 use Rattle.sn_device.specs.declared.error.ClientError.{ClientError}
 use Rattle.sn_device.specs.declared.error.ClientError.TheVariants as refusal
 use Rattle.sn_client.proofs.AnswerLemmas.{check_fails, held_by, no_link_of, runs_out}

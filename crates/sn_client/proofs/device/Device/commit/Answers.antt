@@ -9,7 +9,7 @@ use Rattle.sn_rows.specs.declared.change.Change.{Change}
 use Rattle.sn_table.specs.Batches.{IsOf}
 use Rattle.sn_table.specs.Logs.{log_owner}
 use Rattle.sn_table.specs.Tables.{table_rows}
-use Rattle.sn_client.specs.Index.{Indexes}
+use Rattle.sn_local.specs.Index.{Indexes}
 use Rattle.sn_client.proofs.device.Device.commit.Goals as goal
 
 pub commit-requires : goal.commit-requires

@@ -1,6 +1,5 @@
-use Rattle.std.proofs.Common.{refl, subst, sym}
+use Rattle.std.proofs.Common.{refl, subst, sym, []}
 use Rattle.rand_chacha.specs.ChaCha.{of_seed}
-use Rattle.std.proofs.Common.{[]}
 use Rattle.sn_rows.specs.Table.{Rows}
 use Rattle.sn_rows.specs.declared.key.Slot.TheVariants.{Asked}
 use Rattle.sn_client.specs.Calls.{device_rows}

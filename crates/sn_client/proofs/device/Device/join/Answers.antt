@@ -4,7 +4,7 @@ use Rattle.sn_rows.specs.declared.device_rows.OwnerRow.{OwnerRow}
 use Rattle.sn_sync.specs.declared.answer.Answer.TheVariants as answer
 use Rattle.sn_sync.specs.declared.request.Request.{Request}
 use Rattle.sn_sync.specs.declared.request.Request.TheVariants as request
-use Rattle.sn_client.specs.Asked.{IsHeardBehind}
+use Rattle.sn_exchange.specs.Asked.{IsHeardBehind}
 use Rattle.sn_client.specs.Calls.{device_rows}
 use Rattle.sn_device.specs.Runs.{AdoptsOrKeeps, CommitsStep, DropsOrKeeps}
 use Rattle.sn_device.specs.States.{Bytes, HasOwner, HasNoneAsked}

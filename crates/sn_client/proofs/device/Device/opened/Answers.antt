@@ -5,7 +5,7 @@ use Rattle.sn_row_map.specs.RowMaps.{row_in}
 use Rattle.sn_row_map.specs.declared.row_map.RowMap.{RowMap}
 use Rattle.sn_rows.specs.declared.kind.RowKind.{RowKind}
 use Rattle.sn_table.specs.Logs.{HasOwned}
-use Rattle.sn_client.specs.Index.{Indexes}
+use Rattle.sn_local.specs.Index.{Indexes}
 use Rattle.sn_device.specs.States.{IsFirstUnsound}
 use Rattle.sn_client.proofs.device.Device.opened.Goals as goal
 

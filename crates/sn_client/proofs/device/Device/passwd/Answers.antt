@@ -1,6 +1,7 @@
 use Rattle.std.proofs.Common.{refl, subst}
 use Rattle.sn_rows.specs.Table.{Rows}
-use Rattle.sn_client.specs.Calls.{IsOpen, MayHave, MayRefuse, none_more}
+use Rattle.sn_client.specs.Calls.{IsOpen, MayHave}
+use Rattle.sn_drafts.specs.Refusing.{MayRefuse, none_more}
 use Rattle.sn_device.specs.Runs.{IsBadCost, WithAccount, passwd}
 use Rattle.sn_device.specs.States.{HasSets}
 use Rattle.sn_client.specs.Syncing.{IsOpenSince, MayHaveSince, gives_nothing}

@@ -7,7 +7,8 @@ use Rattle.sn_device.specs.Runs.{a_uuid, put}
 use Rattle.sn_device.specs.States.{Bytes}
 use Rattle.sn_device.specs.Steps.{PutsNew, puts}
 use Rattle.sn_client.proofs.CallLemmas.{rests, steps}
-use Rattle.sn_client.proofs.EditLemmas.{answered_call, put_runs, puts_owned, refused_call}
+use Rattle.sn_client.proofs.EditLemmas.{answered_call, puts_owned, refused_call}
+use Rattle.sn_drafts.proofs.Facts.{put_runs}
 use Rattle.sn_device.proofs.Facts.{steps_stay_sound}
 use Rattle.sn_client.proofs.device.Device.put.Goals as goal
 

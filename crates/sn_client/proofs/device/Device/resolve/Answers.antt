@@ -4,7 +4,7 @@ use Rattle.sn_sync.specs.Fits.{FitsAnswer}
 use Rattle.sn_sync.specs.Requests.{route_of}
 use Rattle.sn_sync.specs.declared.request.Request.{Request}
 use Rattle.sn_sync.specs.declared.request.Request.TheVariants as request
-use Rattle.sn_client.specs.Asked.{IsHeardBehind}
+use Rattle.sn_exchange.specs.Asked.{IsHeardBehind}
 use Rattle.sn_device.specs.Runs.{Finds}
 use Rattle.sn_device.specs.States.{HasOwner}
 use Rattle.sn_client.specs.Syncing.{IsOpenSince, MayHaveSince, called_past}

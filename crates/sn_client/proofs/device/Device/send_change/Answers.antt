@@ -3,7 +3,7 @@ use Rattle.sn_rows.specs.Table.{Rows}
 use Rattle.sn_sync.specs.Fits.{FitsAnswer}
 use Rattle.sn_sync.specs.Requests.{route_of}
 use Rattle.sn_sync.specs.declared.request.Request.{Request}
-use Rattle.sn_client.specs.Asked.{IsHeardBehind}
+use Rattle.sn_exchange.specs.Asked.{IsHeardBehind}
 use Rattle.sn_device.specs.Runs.{AnswersChange, change_to}
 use Rattle.sn_device.specs.States.{HasOwner}
 use Rattle.sn_client.specs.Syncing.{IsOpenSince, MayHaveSince, called_past}

@@ -27,19 +27,19 @@ returns-in-Some-clause-any_moment g c = λ told kept opens.
 
 pub sign_in_with-requires-clause-named : goal.sign_in_with-requires-clause-named
 sign_in_with-requires-clause-named g c =
-    keys_may_be c.args.self.least_cost (device_rows c.args.self) c.args.identifier.now c.args.password.now (g.L.Link.asks c.args.link.now c.keys.new.link)
+    keys_may_be c.args.self.least_cost (device_rows c.args.self) c.args.identifier.now c.args.password.now (g.L.Link.asks c.args.link.now c.ask_keys.new.link)
     (g.L.Link.aimed c.args.link.now) c.in-Ok.set c.in-Ok.ensures.keys c.in_default.ensures.none
 
 pub returns-in-Ok-clause-runs : goal.returns-in-Ok-clause-runs
 returns-in-Ok-clause-runs g c = λ kept opens.
     let may : IsOrMayBe kept.rows c.args.identifier.now = subst (λ (r : Rows). IsOrMayBe r c.args.identifier.now) opens.rows_are c.in_default.ensures.none in
     goes_sign_in (IsOpen {D = g.row.D.Denot} {g = g.D.Disk}) (MayHave g.D.Disk.told g.D.Disk.may_leave) (λ given. nothing) kept c.args.self.least_cost c.args.identifier.now
-    c.args.password.now (g.L.Link.asks c.args.link.now c.keys.new.link) (g.L.Link.asks c.keys.new.link c.sign_in_with.new.link)
+    c.args.password.now (g.L.Link.asks c.args.link.now c.ask_keys.new.link) (g.L.Link.asks c.ask_keys.new.link c.sign_in_with.new.link)
     (g.L.Link.asks c.args.link.now c.sign_in_with.new.link) (g.L.Link.aimed c.args.link.now) c.args.words.now c.sign_in_with.new.words c.in-Ok.set c.sign_in_with.result may
-    (λ xs ys first later. g.met.L.Link.asking.more c.args.link.now c.keys.new.link c.sign_in_with.new.link xs ys first later) c.in-Ok.ensures.keys
+    (λ xs ys first later. g.met.L.Link.asking.more c.args.link.now c.ask_keys.new.link c.sign_in_with.new.link xs ys first later) c.in-Ok.ensures.keys
     (goes_at (IsOpen {D = g.row.D.Denot} {g = g.D.Disk}) (MayHave g.D.Disk.told g.D.Disk.may_leave) (λ given. nothing) kept
-    (MayWant (SignsInWith kept.rows c.args.words.now c.in-Ok.set.params.identifier c.in-Ok.set)) (g.L.Link.asks c.keys.new.link c.sign_in_with.new.link)
-    (g.L.Link.aimed c.args.link.now) (g.L.Link.aimed c.keys.new.link) c.sign_in_with.new.words c.sign_in_with.result c.keys.ensures.aimed
+    (MayWant (SignsInWith kept.rows c.args.words.now c.in-Ok.set.params.identifier c.in-Ok.set)) (g.L.Link.asks c.ask_keys.new.link c.sign_in_with.new.link)
+    (g.L.Link.aimed c.args.link.now) (g.L.Link.aimed c.ask_keys.new.link) c.sign_in_with.new.words c.sign_in_with.result c.ask_keys.ensures.aimed
     (c.sign_in_with.ensures.runs kept opens))
 
 pub returns-in-Ok-clause-any_moment : goal.returns-in-Ok-clause-any_moment
@@ -51,13 +51,13 @@ returns-in-Ok-clause-any_moment g c = λ told kept opens.
     weaker g.D.Disk.moment g.D.Disk.left_since (device_disk c.args.self) (called_disk device_disk c.sign_in_with.result) (StandsOrHas kept.batches P) (StandsOrHas kept.batches Q)
     (c.sign_in_with.ensures.any_moment told kept opens)
     (λ f is. stands_weaker kept.batches P Q f (λ changes has. made_by c.args.self.least_cost kept.rows c.args.words.now c.sign_in_with.new.words c.args.identifier.now c.args.password.now
-    (g.L.Link.asks c.args.link.now c.keys.new.link) (g.L.Link.aimed c.args.link.now) c.in-Ok.set changes c.in-Ok.ensures.keys has) is)
+    (g.L.Link.asks c.args.link.now c.ask_keys.new.link) (g.L.Link.aimed c.args.link.now) c.in-Ok.set changes c.in-Ok.ensures.keys has) is)
 
 pub returns-in-Err-clause-runs : goal.returns-in-Err-clause-runs
 returns-in-Err-clause-runs g c = λ kept opens.
     let may : IsOrMayBe kept.rows c.args.identifier.now = subst (λ (r : Rows). IsOrMayBe r c.args.identifier.now) opens.rows_are c.in_default.ensures.none in
     keys_refused (IsOpen {D = g.row.D.Denot} {g = g.D.Disk}) (MayHave g.D.Disk.told g.D.Disk.may_leave) (λ given. nothing) kept c.args.self.least_cost c.args.identifier.now
-    c.args.password.now (g.L.Link.asks c.args.link.now c.keys.new.link) (g.L.Link.aimed c.args.link.now) c.args.words.now c.args.words.now c.args.self c.in-Err.why opens may
+    c.args.password.now (g.L.Link.asks c.args.link.now c.ask_keys.new.link) (g.L.Link.aimed c.args.link.now) c.args.words.now c.args.words.now c.args.self c.in-Err.why opens may
     c.in-Err.ensures.err
 
 pub returns-in-Err-clause-any_moment : goal.returns-in-Err-clause-any_moment

@@ -5,11 +5,11 @@ use Rattle.sn_rows.specs.declared.change.Change.{Change}
 use Rattle.sn_client.specs.Calls.{IsOpen, MayHave, StandsOrHas, called_disk, device_disk, device_rows}
 use Rattle.sn_client.specs.Going.{MayWant}
 use Rattle.sn_device.specs.Runs.{AsksAccount, SignsInWith, nothing}
-use Rattle.sn_client.specs.Signing.{JoinsBy, RefusesWith}
+use Rattle.sn_joining.specs.Signing.{JoinsBy, RefusesWith}
 use Rattle.sn_device.specs.States.{HasNoAccount}
 use Rattle.sn_device.specs.Steps.{Adopts, BeginsDevice, Renews, adopts, begins, renews}
 use Rattle.sn_device.specs.declared.error.ClientError.TheVariants as refusal
-use Rattle.sn_client.specs.declared.signing.Joining.{Joining}
+use Rattle.sn_joining.specs.declared.signing.Joining.{Joining}
 use Rattle.sn_client.proofs.AccountLemmas.{refuses_first, stands_weaker, still_stands}
 use Rattle.sn_client.proofs.SignLemmas.{HoldsKeys, HoldsOthers, goes_as, joins_again, joins_first, joins_other, signs_again, signs_first, signs_other, signs_refused}
 use Rattle.sn_client.proofs.device.Device.sign_in_with.Goals as goal

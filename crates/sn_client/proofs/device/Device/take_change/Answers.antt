@@ -4,7 +4,7 @@ use Rattle.sn_sync.specs.Fits.{FitsAnswer}
 use Rattle.sn_sync.specs.declared.answer.Answer.{Answer}
 use Rattle.sn_sync.specs.declared.answer.Answer.TheVariants as answer
 use Rattle.sn_sync.specs.declared.request.Route.TheVariants as route
-use Rattle.sn_client.specs.Asked.{IsGranted}
+use Rattle.sn_exchange.specs.Asked.{IsGranted}
 use Rattle.sn_device.specs.Runs.{AnswersChange, CommitsStep}
 use Rattle.sn_device.specs.Steps.{adopts}
 use Rattle.sn_client.specs.Syncing.{IsOpenSince, MayHaveSince, WentBy, called_past}

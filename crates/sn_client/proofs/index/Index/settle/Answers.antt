@@ -1,4 +1,0 @@
-use Rattle.sn_client.proofs.index.Index.settle.Goals as goal
-
-pub numbers-preserved : goal.numbers-preserved
-numbers-preserved c = λ indexes. c.settle_one.ensures (c.numbers.invariant indexes)

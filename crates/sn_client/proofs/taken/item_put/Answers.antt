@@ -1,4 +1,0 @@
-use Rattle.sn_client.proofs.taken.item_put.Goals as goal
-
-pub returns-in_default-clause-none : goal.returns-in_default-clause-none
-returns-in_default-clause-none c = λ number put local has. c.in_default.ensures.none number put

@@ -1,0 +1,4 @@
+pub mod DraftLemmas
+pub mod Facts
+pub mod LineLemmas
+pub mod LookLemmas

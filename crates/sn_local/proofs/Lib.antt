@@ -1,0 +1,9 @@
+pub mod ChangeLemmas
+pub mod DrawLemmas
+pub mod Facts
+pub mod FoundLemmas
+pub mod IndexLemmas
+pub mod ItemRows
+pub mod RenewLemmas
+pub mod StateLemmas
+pub mod Tests

@@ -1,0 +1,13 @@
+use Rattle.std.proofs.Common.{map, take}
+use Rattle.sn_row_map.specs.RowMaps.{row_in}
+use Rattle.sn_sets.specs.Seals.{IsLater}
+use Rattle.sn_taking.specs.Taken.{so_far}
+use Rattle.sn_device.specs.Taking.{TakesAll, is_conflict}
+use Rattle.sn_taking.proofs.taking.take_conflicts.Given as goal
+
+-- What is told so far is taken.
+abbrev pub invariant-conflicts : goal.invariant-conflicts
+invariant-conflicts l = record {
+  takes : TakesAll l.sets l.saved (so_far (row_in l.rows) l.fn.taken l.fn.words) (map is_conflict (take l.conflict-index l.conflicts)) (so_far (row_in l.rows) l.taken l.words);
+  later : IsLater l.fn.words l.words;
+}

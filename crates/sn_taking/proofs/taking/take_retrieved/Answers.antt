@@ -1,0 +1,40 @@
+use Rattle.std.proofs.Common.{map, arith, subst, sym}
+use Rattle.sn_row_map.specs.RowMaps.{row_in}
+use Rattle.sn_sets.proofs.Facts.{later_again}
+use Rattle.sn_taking.specs.Taken.{StopsBy, so_far}
+use Rattle.sn_device.specs.Taking.{Progress, RunsOut, RunsOutAt, Takes, is_retrieved}
+use Rattle.sn_taking.proofs.TakingLemmas.{err_as, runs_out, stops_more, takes_more}
+use Rattle.sn_taking.proofs.taking.take_retrieved.Goals as goal
+
+pub returns-in_err-effect-clause-err : goal.returns-in_err-effect-clause-err
+returns-in_err-effect-clause-err c =
+    let p = so_far (row_in c.args.rows.now) c.args.taken.now c.args.words.now in
+    let q = so_far (row_in c.args.rows.now) c.retrieved.taken c.retrieved.words in
+    let sets = c.args.sets.now in
+    let saved = c.args.saved.now in
+    err_as c.from_residual.result c.in_err-effect.field-0.0 (StopsBy (RunsOut sets saved p (map is_retrieved c.args.retrieved.now))) c.from_residual.ensures.1
+    (stops_more (RunsOutAt sets saved q (is_retrieved c.item-item.result)) (RunsOut sets saved p (map is_retrieved c.args.retrieved.now)) c.in_err-effect.field-0.0
+    (λ why stops.
+    runs_out is_retrieved sets saved p q c.args.retrieved.now c.retrieved.item-index c.item-item.result (omega arith) c.item-item.is c.retrieved.invariant.takes why
+    stops)
+    c.in_err-effect.ensures.err)
+
+pub returns-in_err-effect-clause-words : goal.returns-in_err-effect-clause-words
+returns-in_err-effect-clause-words c = later_again c.args.words.now c.retrieved.words c.take_unless_saved.new.words c.retrieved.invariant.later c.take_unless_saved.ensures.words
+
+pub returns-in_err-add-clause-words : goal.returns-in_err-add-clause-words
+returns-in_err-add-clause-words c = later_again c.args.words.now c.retrieved.words c.take_unless_saved.new.words c.retrieved.invariant.later c.take_unless_saved.ensures.words
+
+pub retrieved-preserved : goal.retrieved-preserved
+retrieved-preserved c =
+    let p = so_far (row_in c.args.rows.now) c.args.taken.now c.args.words.now in
+    let q = so_far (row_in c.args.rows.now) c.retrieved.taken c.retrieved.words in
+    let r = so_far (row_in c.args.rows.now) c.add.new.self c.take_unless_saved.new.words in
+    let sets = c.args.sets.now in
+    let saved = c.args.saved.now in
+    record {
+      takes = takes_more is_retrieved sets saved p q r c.args.retrieved.now c.retrieved.item-index c.item-item.result (omega arith) c.item-item.is c.retrieved.invariant.takes
+          (subst (λ (z : Progress). Takes sets saved q (is_retrieved c.item-item.result) z)
+          (sym (c.in_ok-add.ensures (row_in c.args.rows.now) c.retrieved.words c.take_unless_saved.new.words)) c.in_ok-effect.ensures.ok);
+      later = later_again c.args.words.now c.retrieved.words c.take_unless_saved.new.words c.retrieved.invariant.later c.take_unless_saved.ensures.words;
+    }
