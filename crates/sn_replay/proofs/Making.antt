@@ -19,6 +19,7 @@ use Rattle.sn_saying.specs.Served.{IsBegunAs}
 use Rattle.sn_string.specs.declared.params.KeySet.{KeySet}
 use Rattle.sn_sync.specs.declared.request.Request.{Request}
 use Rattle.sn_telling.specs.Laws.{AreBegunAs}
+use Rattle.sn_telling.specs.Walking.{requests_in}
 use Rattle.sn_world.specs.Calls.{Fate, call_steps, crashed, fate_steps, served, undelivered}
 use Rattle.sn_world.specs.Happens.{Happens, makes}
 use Rattle.sn_world.specs.Sessions.{made_behind}
@@ -106,9 +107,9 @@ module _ (name : Bytes) (begins : Request → Option KeySet) where
 
   pub own_kept : (acts : List Act) (fates : List Fate) (batches : List (List RowChange)) (exchanged : List Exchanged) (begun : List (Option KeySet)) (made : List Made)
       (kept : List Kept) → AreTold host acts fates batches exchanged → AreReadable host acts → AreBegunAs begins acts begun → AllZip IsKeptOf (made_by name made) kept
-      → AllZip IsKeptOf (made_by name (made_behind made (call_steps name begins acts fates))) (kept ++ kept_all exchanged begun)
+      → AllZip IsKeptOf (made_by name (made_behind made (call_steps name begins acts fates))) (kept ++ kept_all (requests_in exchanged) begun)
   own_kept [] fates batches exchanged begun made kept told readable so h =
-      subst (λ (es : List Exchanged). AllZip IsKeptOf (made_by name made) (kept ++ kept_all es begun)) (sym told.2)
+      subst (λ (es : List Exchanged). AllZip IsKeptOf (made_by name made) (kept ++ kept_all (requests_in es) begun)) (sym told.2)
       (subst (λ (ks : List Kept). AllZip IsKeptOf (made_by name made) ks) (sym (append-nil kept)) h)
   own_kept (committed what changes ∷ acts) fates [] exchanged begun made kept told readable so h = absurd told
   own_kept (committed what changes ∷ acts) fates (batch ∷ batches) exchanged begun made kept told readable so h =
@@ -119,7 +120,7 @@ module _ (name : Bytes) (begins : Request → Option KeySet) where
   own_kept (asked r reply ∷ acts) (fate ∷ fates) batches (e ∷ exchanged) (one ∷ begun) made kept told readable so h =
       let more = kept_more made kept r reply fate e one told.0 readable.0 so.0 h in
       let rest = own_kept acts fates batches exchanged begun (made_of r ∷ made) (kept ++ kept_of e one ∷ []) told.1 readable.1 so.1 more in
-      subst (λ (ms : List Made). AllZip IsKeptOf (made_by name ms) (kept ++ kept_of e one ∷ kept_all exchanged begun))
+      subst (λ (ms : List Made). AllZip IsKeptOf (made_by name ms) (kept ++ kept_of e one ∷ kept_all (requests_in exchanged) begun))
       (sym (behind_fate (made_of r) fate (call_steps name begins acts fates) made))
       (subst (λ (ks : List Kept). AllZip IsKeptOf (made_by name (made_behind (made_of r ∷ made) (call_steps name begins acts fates))) ks)
-      (append_assoc kept (kept_of e one ∷ []) (kept_all exchanged begun)) rest)
+      (append_assoc kept (kept_of e one ∷ []) (kept_all (requests_in exchanged) begun)) rest)

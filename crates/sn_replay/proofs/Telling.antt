@@ -38,7 +38,7 @@ use Rattle.sn_string.specs.declared.params.KeySet.{KeySet}
 use Rattle.sn_sync.specs.declared.request.Request.{Request}
 use Rattle.sn_tail.specs.Shelves.{SlotReads}
 use Rattle.sn_telling.specs.Laws.{CallsTell, IsTelling, IsWhole}
-use Rattle.sn_telling.specs.Walking.{SaysWalk}
+use Rattle.sn_telling.specs.Walking.{SaysWalk, requests_in}
 use Rattle.sn_telling.specs.declared.calling.Calling.{Calling}
 use Rattle.sn_world.specs.Calls.{Fate, call_steps}
 use Rattle.sn_world.specs.Happens.{Happens}
@@ -90,7 +90,7 @@ module _ (tell : CallsTell) (fit : EachFits) (keeps : Keeps) (stays : KeepsHeld)
     (mirrored behind.devices name))
     (others_see : (other : Bytes) → other ≢ name → mirrored behind.devices other ≡ mirrored seen.devices other)
     (labels_see : behind.labels ≡ labels_of (puts_of calling) seen.labels moves) (names_see : behind.names ≡ names_with seen.names (Some name))
-    (requests_see : requests_of behind.requests name ≡ requests_of seen.requests name ++ kept_all came.exchanged begun)
+    (requests_see : requests_of behind.requests name ≡ requests_of seen.requests name ++ kept_all (requests_in came.exchanged) begun)
     (others_keep : (other : Bytes) → other ≢ name → requests_of behind.requests other ≡ requests_of seen.requests other)
     (event : IsEventOf came.ends x.leads.next r.number name (puts_of calling) moves came.last e) where
   abbrev words : ChaCha

@@ -3,8 +3,8 @@ use Rattle.std.specs.Prelude.{ℕ, zero, suc, List, [], ◌∷◌, Bool, true, f
 use Rattle.std.specs.BTreeMap.{get_by_text}
 use Rattle.sn_device.specs.Asking.{IsRequestBytes}
 use Rattle.sn_events.specs.Calling.{host}
+use Rattle.sn_laws.specs.Lookups.{Bytes}
 use Rattle.sn_link.specs.Laws.{IsReadable}
-use Rattle.sn_recorder.specs.declared.exchanged.Exchanged.{Exchanged}
 use Rattle.sn_saying.specs.Served.{IsBegunAs}
 use Rattle.sn_script.specs.declared.script.Ordinal.{Ordinal}
 use Rattle.sn_script.specs.declared.script.Ordinal.TheVariants as ordinal
@@ -42,11 +42,11 @@ puts_of calling.Delete = false
 puts_of calling.Sync = false
 puts_of calling.Passwd = false
 
--- of each exchange its request, with the set that this would begin
-abbrev pub kept_all : List Exchanged → List (Option KeySet) → List Kept
+-- its requests, each with the set that it would begin
+abbrev pub kept_all : List Bytes → List (Option KeySet) → List Kept
 kept_all [] begun = []
-kept_all (e ∷ exchanged) [] = []
-kept_all (e ∷ exchanged) (begins ∷ begun) = record { request = e.request; begins = begins } ∷ kept_all exchanged begun
+kept_all (request ∷ requests) [] = []
+kept_all (request ∷ requests) (begins ∷ begun) = record { request = request; begins = begins } ∷ kept_all requests begun
 
 -- ---- what it stands for
 

@@ -3,7 +3,6 @@
 ghost use Rattle.std.specs.Prelude.{◌≡◌, ◌++◌, OnOk};
 ghost use Rattle.sn_replay.specs.Keeping.{kept_all};
 
-use sn_recorder::Exchanged;
 use sn_script::Ordinal;
 use sn_string::{KeySet, OwnedList, TryClone};
 use std::alloc::{AllocError, Global};
@@ -37,18 +36,18 @@ impl Requests {
         }
     }
 
-    /// Keeps the requests of a call's exchanges, each with the set that it would begin, behind those that its device made before.
+    /// Keeps the requests of a call, each with the set that it would begin, behind those that its device made before.
     pub(crate) fn add(
         &mut self,
         name: &str,
-        exchanged: OwnedList<Exchanged>,
+        requests: OwnedList<OwnedList<u8>>,
         begun: OwnedList<Option<KeySet>>,
     ) -> Result<(), AllocError>
-        ensures own { OnOk result (requests_of self.new name.now ≡ requests_of self.old name.now ++ kept_all exchanged begun) }
+        ensures own { OnOk result (requests_of self.new name.now ≡ requests_of self.old name.now ++ kept_all requests begun) }
         ensures others { (other : List ℕ) → other ≢ name.now → requests_of self.new other ≡ requests_of self.old other }
     {
         let mut kept = self.take(name);
-        keep_all(self.alloc, &mut kept, exchanged, begun.as_slice())?;
+        keep_all(self.alloc, &mut kept, requests, begun.as_slice())?;
         self.put(name, kept)
     }
 
@@ -92,21 +91,20 @@ impl Requests {
     }
 }
 
-// The requests of exchanges behind others, each with the set that it would begin.
+// Requests behind others, each with the set that it would begin.
 fn keep_all(
     alloc: Global,
     kept: &mut OwnedList<Kept>,
-    exchanged: OwnedList<Exchanged>,
+    requests: OwnedList<OwnedList<u8>>,
     begun: &[Option<KeySet>],
 ) -> Result<(), AllocError>
-    ensures { OnOk result (kept.new ≡ kept.old ++ kept_all exchanged begun.now) }
+    ensures { OnOk result (kept.new ≡ kept.old ++ kept_all requests begun.now) }
 {
     let mut place = 0usize;
-    'exchanges: for exchange in exchanged.into_vec() {
+    'requests: for request in requests.into_vec() {
         let Some(begins) = begun.get(place) else {
             return Ok(());
         };
-        let Exchanged { request, .. } = exchange;
         let begins = begins.try_clone(alloc)?;
         kept.push(Kept { request, begins })?;
         place += 1;

@@ -66,14 +66,7 @@ pub(crate) fn late_line(
         status,
         batches,
     } = ends.again(at.settings.clock, kept.request.as_slice())?;
-    let moves = moves_of(
-        alloc,
-        &mut server,
-        &mut devices,
-        device,
-        kept,
-        batches.as_slice(),
-    )?;
+    let moves = moves_of(alloc, &mut server, &mut devices, device, kept, batches)?;
     add_labels(&mut labels, false, moves.as_slice())?;
     let server_mark = ends.server_mark();
     let seen = Seen {
@@ -104,11 +97,11 @@ fn moves_of(
     devices: &mut Mirrors,
     device: &Text,
     kept: &Kept,
-    batches: &[OwnedList<Change>],
+    batches: OwnedList<OwnedList<Change>>,
 ) -> Result<OwnedList<Move>, AllocError>
     ensures moves { IfOk result (λ moves. (found : Option Request) × IsReadAs kept.now.request found
-        × SaysGained (row_in server.old) (mirrored devices.old device.now) device.now kept.now.begins found batches.now moves) }
-    ensures server { OnOk result (row_in server.new ≡ rows_behind_all (row_in server.old) batches.now) }
+        × SaysGained (row_in server.old) (mirrored devices.old device.now) device.now kept.now.begins found batches moves) }
+    ensures server { OnOk result (row_in server.new ≡ rows_behind_all (row_in server.old) batches) }
     ensures devices { OnOk result ((name : List ℕ) → mirrored devices.new name ≡ mirrored devices.old name) }
 {
     let rows = devices.take(device.as_str());

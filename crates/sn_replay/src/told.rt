@@ -32,7 +32,7 @@ use sn_laws::Move;
 use sn_lines::each_fits;
 use sn_report::{DeviceMark, Event, Last};
 use sn_string::{OwnedList, Text, TryClone};
-use sn_telling::{Calling, Told, calls_tell};
+use sn_telling::{Calling, calls_tell};
 use sn_world::{keeps, keeps_held};
 use std::alloc::{AllocError, Global};
 
@@ -77,14 +77,13 @@ pub(crate) fn told(
     keeps();
     keeps_held();
     steps_stay_sound();
-    let Told { moves, begun } = see(alloc, &mut seen, name, calling, &came)?;
     let Came {
         ends,
         last,
+        batches,
         exchanged,
-        ..
     } = came;
-    seen.requests.add(name.as_str(), exchanged, begun)?;
+    let moves = see(alloc, &mut seen, name, calling, batches, exchanged)?;
     let event = event_of(alloc, &ends, number, name, calling, moves, last)?;
     Ok(LineTold {
         replaying: Replaying { ends, seen },

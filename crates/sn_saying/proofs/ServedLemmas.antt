@@ -1,6 +1,5 @@
 -- One more change of a batch of the server.
-use Rattle.std.proofs.Common.{◌≡◌, ◌<◌, ◌+◌, ℕ, List, [], ◌∷◌, ◌++◌, refl, sym, ap, ◌∙◌, subst, append_assoc, get_or, length, take}
-use Rattle.std.proofs.lemmas.List.{take_more}
+use Rattle.std.proofs.Common.{◌≡◌, List, [], ◌∷◌, ◌++◌, refl, sym, ap, ◌∙◌, subst, append_assoc}
 use mathlib.Core.Path.{fun_ext}
 use Rattle.sn_laws.specs.Lookups.{Bytes}
 use Rattle.sn_laws.specs.declared.moves.Move.{Move}
@@ -21,14 +20,10 @@ pub after_both : (rows : Rows) (first second : List Change) → rows_after rows 
 after_both rows first second = fun_ext (λ at. row_after-append (rows at) at first second)
 
 -- the rows behind one more change
-pub rows_more : (rows now next : Rows) (changes : List Change) (i : ℕ) (change : Change) → i < length changes → change ≡ get_or changes i change
-    → now ≡ rows_after rows (take i changes) → next ≡ rows_after now (change ∷ []) → next ≡ rows_after rows (take (i + 1) changes)
-rows_more rows now next changes i change within change_is now_is next_is =
-    next_is
-    ∙ ap (λ (r : Rows). rows_after r (change ∷ [])) now_is
-    ∙ sym (after_both rows (take i changes) (change ∷ []))
-    ∙ ap (λ (c : Change). rows_after rows (take i changes ++ c ∷ [])) change_is
-    ∙ ap (rows_after rows) (sym (take_more changes i change within))
+pub rows_more : (rows now next : Rows) (made : List Change) (change : Change) → now ≡ rows_after rows made → next ≡ rows_after now (change ∷ [])
+    → next ≡ rows_after rows (made ++ change ∷ [])
+rows_more rows now next made change now_is next_is =
+    next_is ∙ ap (λ (r : Rows). rows_after r (change ∷ [])) now_is ∙ sym (after_both rows made (change ∷ []))
 
 nothing_behind : (xs : List Move) → xs ++ [] ≡ xs
 nothing_behind [] = refl
@@ -62,19 +57,14 @@ lone_both server device (c ∷ cs) change h = let rest = lone_both (rows_after s
 abbrev pub SaysLone : Rows → Rows → Bytes → List Change → List Move → Type 0
 SaysLone server device name changes moves = LoneChanges server device changes → SaysChanges server device name changes moves
 
-pub says_more : (server now device : Rows) (name : Bytes) (changes : List Change) (i : ℕ) (change : Change) (ms ns next : List Move)
-    → i < length changes → change ≡ get_or changes i change → now ≡ rows_after server (take i changes)
-    → SaysLone server device name (take i changes) ms → (LoneChange now device change → SaysChange now device name change ns) → next ≡ ms ++ ns
-    → SaysLone server device name (take (i + 1) changes) next
-says_more server now device name changes i change ms ns next within change_is now_is so_far says next_is =
-    let Said : List Change → Type 0 = λ cs. SaysLone server device name cs (ms ++ ns) in
-    let here : LoneChange (rows_after server (take i changes)) device change → SaysChange (rows_after server (take i changes)) device name change ns =
+pub says_more : (server now device : Rows) (name : Bytes) (made : List Change) (change : Change) (ms ns next : List Move) → now ≡ rows_after server made
+    → SaysLone server device name made ms → (LoneChange now device change → SaysChange now device name change ns) → next ≡ ms ++ ns
+    → SaysLone server device name (made ++ change ∷ []) next
+says_more server now device name made change ms ns next now_is so_far says next_is =
+    let here : LoneChange (rows_after server made) device change → SaysChange (rows_after server made) device name change ns =
     subst (λ (r : Rows). LoneChange r device change → SaysChange r device name change ns) now_is says in
-    let all : Said (take i changes ++ change ∷ []) = λ lone.
-    let both = lone_both server device (take i changes) change lone in
-    one_more server device name (take i changes) change ms ns (so_far both.0) (here both.1) in
-    let named : Said (take i changes ++ get_or changes i change ∷ []) = subst (λ (c : Change). Said (take i changes ++ c ∷ [])) change_is all in
-    subst (λ (os : List Move). SaysLone server device name (take (i + 1) changes) os) (sym next_is) (subst Said (sym (take_more changes i change within)) named)
+    subst (λ (os : List Move). SaysLone server device name (made ++ change ∷ []) os) (sym next_is)
+    (λ lone. let both = lone_both server device made change lone in one_more server device name made change ms ns (so_far both.0) (here both.1))
 
 -- an item's row that is put says what is said of the item
 pub says_put : (server device : Rows) (name : Bytes) (change : Change) (row : Row) (uuid : Bytes) (item : ItemRow) (ms : List Move) → change ≡ Put row

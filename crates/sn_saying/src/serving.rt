@@ -30,46 +30,43 @@ pub fn served(
     name: &Text,
     begins: Option<&KeySet>,
     request: &Request,
-    changes: &[Change],
+    changes: OwnedList<Change>,
 ) -> Result<OwnedList<Move>, AllocError>
-    ensures moves { IfOk result (IsServing (row_in server.old) (row_in device.now) name.now (option_copied begins.entry) request.now changes.now) }
-    ensures rows { OnOk result (row_in server.new ≡ rows_after (row_in server.old) changes.now) }
+    ensures moves { IfOk result (IsServing (row_in server.old) (row_in device.now) name.now (option_copied begins.entry) request.now changes) }
+    ensures rows { OnOk result (row_in server.new ≡ rows_after (row_in server.old) changes) }
 {
     match request {
         Request::Sync { .. } => items_served(alloc, server, device, name, changes),
         Request::Register { params, .. } => {
-            let moves = registers_in(alloc, &params.identifier, begins, changes)?;
-            apply_all(alloc, server, changes)?;
+            let moves = registers_in(alloc, &params.identifier, begins, changes.as_slice())?;
+            apply_all(server, changes)?;
             Ok(moves)
         }
         Request::ChangePw { .. } => {
-            let moves = changes_in(alloc, begins, changes)?;
-            apply_all(alloc, server, changes)?;
+            let moves = changes_in(alloc, begins, changes.as_slice())?;
+            apply_all(server, changes)?;
             Ok(moves)
         }
         Request::Params { .. } | Request::SignIn { .. } => {
-            apply_all(alloc, server, changes)?;
+            apply_all(server, changes)?;
             Ok(OwnedList::new(alloc))
         }
     }
 }
 
 // Applies changes.
-fn apply_all(alloc: Global, server: &mut RowMap, changes: &[Change]) -> Result<(), AllocError>
-    ensures { OnOk result (row_in server.new ≡ rows_after (row_in server.old) changes.now) }
+fn apply_all(server: &mut RowMap, changes: OwnedList<Change>) -> Result<(), AllocError>
+    ensures { OnOk result (row_in server.new ≡ rows_after (row_in server.old) changes) }
 {
-    'changes: for change in changes {
-        apply(alloc, server, change)?;
-    }
-    Ok(())
+    server.add_all(changes.into_vec())
 }
 
 // Applies a change.
-fn apply(alloc: Global, server: &mut RowMap, change: &Change) -> Result<(), AllocError>
-    ensures { OnOk result (row_in server.new ≡ rows_after (row_in server.old) (change.now ∷ [])) }
+fn apply(alloc: Global, server: &mut RowMap, change: Change) -> Result<(), AllocError>
+    ensures { OnOk result (row_in server.new ≡ rows_after (row_in server.old) (change ∷ [])) }
 {
     let mut changes = Vec::new(alloc);
-    changes.push(change.try_clone(alloc)?)?;
+    changes.push(change)?;
     server.add_all(changes)
 }
 
@@ -116,15 +113,15 @@ fn items_served(
     server: &mut RowMap,
     device: &RowMap,
     name: &Text,
-    changes: &[Change],
+    changes: OwnedList<Change>,
 ) -> Result<OwnedList<Move>, AllocError>
-    ensures moves { IfOk result (λ moves. LoneChanges (row_in server.old) (row_in device.now) changes.now
-        → SaysChanges (row_in server.old) (row_in device.now) name.now changes.now moves) }
-    ensures rows { OnOk result (row_in server.new ≡ rows_after (row_in server.old) changes.now) }
+    ensures moves { IfOk result (λ moves. LoneChanges (row_in server.old) (row_in device.now) changes
+        → SaysChanges (row_in server.old) (row_in device.now) name.now changes moves) }
+    ensures rows { OnOk result (row_in server.new ≡ rows_after (row_in server.old) changes) }
 {
     let mut moves = OwnedList::new(alloc);
-    'changes: for change in changes {
-        let said = change_said(alloc, server, device, name, change)?;
+    'changes: for change in changes.into_vec() {
+        let said = change_said(alloc, server, device, name, &change)?;
         push_said(&mut moves, said)?;
         apply(alloc, server, change)?;
     }

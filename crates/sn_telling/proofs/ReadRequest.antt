@@ -13,7 +13,6 @@ use Rattle.sn_link.proofs.Facts.{ReadLaws, no_check_fails, the_message, whole}
 use Rattle.sn_server.specs.Routing.{AsksFor, path_of, query_of, route_at, text_of}
 use Rattle.sn_sync.specs.Laws.{token_of}
 use Rattle.sn_sync.specs.Requests.{IsRequest, route_of}
-use Rattle.sn_sync.specs.Routes.{method_of}
 use Rattle.sn_sync.specs.declared.request.Request.{Request}
 use Rattle.sn_sync.specs.declared.request.Request.TheVariants as request
 use Rattle.sn_sync.specs.declared.request.Route.{Route}

@@ -1,5 +1,5 @@
 -- What a call is, as far as its batches and its exchanges don't tell it.
-use Rattle.std.specs.Prelude.{◌≡◌, Option, Some}
+use Rattle.std.specs.Prelude.{◌≡◌, Some}
 use Rattle.rand_chacha.specs.ChaCha.{ChaCha}
 use Rattle.sn_device.specs.Runs.{Call, IsNewSet, delete, edit, passwd, put, register, sign_in, sync}
 use Rattle.sn_string.specs.declared.params.KeySet.{KeySet}

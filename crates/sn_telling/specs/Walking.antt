@@ -175,3 +175,8 @@ SaysWalk call name server rows heard answer batches (e ∷ exchanged) moves begu
     × SaysWalk call name (rows_behind_all server e.batches) (rows_behind_all rows (front heard (asks_sync found) batches)) (asks_sync found) e.answer
     (rest heard (asks_sync found) batches) exchanged later others server_end rows_end
     × (begun ≡ begins ∷ others) × (moves ≡ first ++ (served ++ later))
+
+-- the requests of exchanges, in order
+abbrev pub requests_in : List Exchanged → List Bytes
+requests_in [] = []
+requests_in (e ∷ exchanged) = e.request ∷ requests_in exchanged

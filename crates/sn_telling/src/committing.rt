@@ -34,17 +34,17 @@ pub(crate) fn committed(
     name: &Text,
     calling: &Calling,
     answer: &Option<OwnedList<u8>>,
-    batches: &[OwnedList<Change>],
+    batches: Vec<OwnedList<Change>>,
 ) -> Result<OwnedList<Move>, AllocError>
-    ensures moves { IfOk result (SaysBatches calling.now (row_in server.now) (row_in device.old) name.now answer.now batches.now) }
-    ensures rows { OnOk result (row_in device.new ≡ rows_behind_all (row_in device.old) batches.now) }
+    ensures moves { IfOk result (SaysBatches calling.now (row_in server.now) (row_in device.old) name.now answer.now batches.items) }
+    ensures rows { OnOk result (row_in device.new ≡ rows_behind_all (row_in device.old) batches.items) }
 {
     let mut moves = OwnedList::new(alloc);
     'batches: for batch in batches {
         let changes = batch.as_slice();
         let said = batch_moves(alloc, server, device, name, calling, answer, changes)?;
         push_all(&mut moves, said)?;
-        change_rows(alloc, device, batch)?;
+        change_rows(device, batch)?;
     }
     Ok(moves)
 }

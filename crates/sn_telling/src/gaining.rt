@@ -23,15 +23,15 @@ pub(crate) fn gained(
     name: &Text,
     begins: Option<&KeySet>,
     request: &Option<Request>,
-    batches: &[OwnedList<Change>],
+    batches: OwnedList<OwnedList<Change>>,
 ) -> Result<OwnedList<Move>, AllocError>
-    ensures moves { IfOk result (SaysGained (row_in server.old) (row_in device.now) name.now (option_copied begins.entry) request.now batches.now) }
-    ensures rows { OnOk result (row_in server.new ≡ rows_behind_all (row_in server.old) batches.now) }
+    ensures moves { IfOk result (SaysGained (row_in server.old) (row_in device.now) name.now (option_copied begins.entry) request.now batches) }
+    ensures rows { OnOk result (row_in server.new ≡ rows_behind_all (row_in server.old) batches) }
 {
     match request {
         Some(request) => all_served(alloc, server, device, name, begins, request, batches),
         None => {
-            change_all(alloc, server, batches)?;
+            change_all(server, batches)?;
             Ok(OwnedList::new(alloc))
         }
     }
@@ -45,30 +45,25 @@ fn all_served(
     name: &Text,
     begins: Option<&KeySet>,
     request: &Request,
-    batches: &[OwnedList<Change>],
+    batches: OwnedList<OwnedList<Change>>,
 ) -> Result<OwnedList<Move>, AllocError>
-    ensures moves { IfOk result (SaysGained (row_in server.old) (row_in device.now) name.now (option_copied begins.entry) (Some request.now) batches.now) }
-    ensures rows { OnOk result (row_in server.new ≡ rows_behind_all (row_in server.old) batches.now) }
+    ensures moves { IfOk result (SaysGained (row_in server.old) (row_in device.now) name.now (option_copied begins.entry) (Some request.now) batches) }
+    ensures rows { OnOk result (row_in server.new ≡ rows_behind_all (row_in server.old) batches) }
 {
     let mut moves = OwnedList::new(alloc);
-    'batches: for batch in batches {
-        let changes = batch.as_slice();
-        let said = served(alloc, server, device, name, begins, request, changes)?;
+    'batches: for batch in batches.into_vec() {
+        let said = served(alloc, server, device, name, begins, request, batch)?;
         push_all(&mut moves, said)?;
     }
     Ok(moves)
 }
 
 // Changes rows by batches.
-fn change_all(
-    alloc: Global,
-    rows: &mut RowMap,
-    batches: &[OwnedList<Change>],
-) -> Result<(), AllocError>
-    ensures { OnOk result (row_in rows.new ≡ rows_behind_all (row_in rows.old) batches.now) }
+fn change_all(rows: &mut RowMap, batches: OwnedList<OwnedList<Change>>) -> Result<(), AllocError>
+    ensures { OnOk result (row_in rows.new ≡ rows_behind_all (row_in rows.old) batches) }
 {
-    'batches: for batch in batches {
-        change_rows(alloc, rows, batch)?;
+    'batches: for batch in batches.into_vec() {
+        change_rows(rows, batch)?;
     }
     Ok(())
 }

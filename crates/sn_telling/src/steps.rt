@@ -7,8 +7,8 @@ ghost use Rattle.sn_rows.specs.Table.{rows_after};
 use sn_laws::Move;
 use sn_row_map::RowMap;
 use sn_rows::Change;
-use sn_string::{OwnedList, TryClone};
-use std::alloc::{AllocError, Global};
+use sn_string::OwnedList;
+use std::alloc::AllocError;
 
 /// Adds moves behind others.
 pub(crate) fn push_all(moves: &mut OwnedList<Move>, said: OwnedList<Move>) -> Result<(), AllocError>
@@ -21,13 +21,8 @@ pub(crate) fn push_all(moves: &mut OwnedList<Move>, said: OwnedList<Move>) -> Re
 }
 
 /// Changes rows by a batch.
-pub(crate) fn change_rows(
-    alloc: Global,
-    rows: &mut RowMap,
-    batch: &OwnedList<Change>,
-) -> Result<(), AllocError>
-    ensures { OnOk result (row_in rows.new ≡ rows_after (row_in rows.old) batch.now) }
+pub(crate) fn change_rows(rows: &mut RowMap, batch: OwnedList<Change>) -> Result<(), AllocError>
+    ensures { OnOk result (row_in rows.new ≡ rows_after (row_in rows.old) batch) }
 {
-    let changes = batch.try_clone(alloc)?;
-    rows.add_all(changes.into_vec())
+    rows.add_all(batch.into_vec())
 }

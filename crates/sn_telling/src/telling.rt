@@ -7,8 +7,8 @@ ghost use Rattle.sn_order.specs.Order.{asks_sync};
 ghost use Rattle.sn_row_map.specs.RowMaps.{row_in};
 ghost use Rattle.sn_string.specs.declared.params.KeySet.{KeySet};
 ghost use Rattle.sn_sync.specs.declared.request.Request.{Request};
-ghost use Rattle.sn_telling.specs.Turns.{SaysTurn};
-ghost use Rattle.sn_telling.specs.Walking.{IsReadAs, SaysGained, SaysWalk, front, rest, rows_behind_all};
+ghost use Rattle.sn_telling.specs.Turns.{GoesOn, SaysTurn};
+ghost use Rattle.sn_telling.specs.Walking.{IsReadAs, SaysBatches, SaysGained, SaysWalk, front, requests_in, rest, rows_behind_all};
 
 use crate::beginning::begun_in;
 use crate::calling::Calling;
@@ -24,12 +24,23 @@ use sn_rows::Change;
 use sn_string::{KeySet, OwnedList, Text};
 use sn_sync::Request;
 use std::alloc::{AllocError, Global};
+use std::mem;
 
-/// What is told of a call: its moves, and the set that each of its requests would begin, in order.
+/// What is told of a call: its moves, and its requests with the set that each would begin, in order.
 #[derive(Drop)]
 pub struct Told {
     pub moves: OwnedList<Move>,
+    pub requests: OwnedList<OwnedList<u8>>,
     pub begun: OwnedList<Option<KeySet>>,
+}
+
+// Where a walk stands: what is told so far, whether the last request asked for a sync, its answer, and the batches that are left.
+#[derive(Drop)]
+pub(crate) struct Walk {
+    pub(crate) told: Told,
+    pub(crate) heard: bool,
+    pub(crate) answer: Option<OwnedList<u8>>,
+    pub(crate) left: Vec<OwnedList<Change>>,
 }
 
 /// The moves of a call of the device of this name, by the device's batches and the exchanges. The rows of both ends, which
@@ -40,32 +51,18 @@ pub fn call_moves(
     device: &mut RowMap,
     name: &Text,
     calling: &Calling,
-    batches: &[OwnedList<Change>],
-    exchanged: &[Exchanged],
+    batches: OwnedList<OwnedList<Change>>,
+    exchanged: OwnedList<Exchanged>,
 ) -> Result<Told, AllocError>
-    ensures { IfOk result (λ told. SaysWalk calling.now name.now (row_in server.old) (row_in device.old) false None batches.now exchanged.now
+    ensures walk { IfOk result (λ told. SaysWalk calling.now name.now (row_in server.old) (row_in device.old) false None batches exchanged
         told.moves told.begun (row_in server.new) (row_in device.new)) }
+    ensures requests { IfOk result (λ told. told.requests ≡ requests_in exchanged) }
 {
-    let mut told = Told {
-        moves: OwnedList::new(alloc),
-        begun: OwnedList::new(alloc),
-    };
-    let none = None;
-    let (mut heard, mut answer, mut left) = (false, &none, batches);
-    'exchanges: for exchange in exchanged {
-        let request = request_read(alloc, exchange.request.as_slice())?;
-        let syncs = asks_sync(&request);
-        let (first, behind) = split(heard, syncs, left);
-        push_turn(
-            alloc, &mut told, server, device, name, calling, answer, first, &request, exchange,
-        )?;
-        heard = syncs;
-        answer = &exchange.answer;
-        left = behind;
+    let mut walk = begun_walk(alloc, batches);
+    'exchanges: for exchange in exchanged.into_vec() {
+        push_exchange(alloc, &mut walk, server, device, name, calling, exchange)?;
     }
-    let said = committed(alloc, server, device, name, calling, answer, left)?;
-    push_all(&mut told.moves, said)?;
-    Ok(told)
+    ended_walk(alloc, walk, server, device, name, calling)
 }
 
 /// The moves of a request of the device of this name that comes late or again, by the batches that the server's store gained:
@@ -77,20 +74,121 @@ pub fn late_moves(
     name: &Text,
     request: &[u8],
     begins: Option<&KeySet>,
-    batches: &[OwnedList<Change>],
+    batches: OwnedList<OwnedList<Change>>,
 ) -> Result<OwnedList<Move>, AllocError>
     ensures moves { IfOk result (λ moves. (found : Option Request) × IsReadAs request.now found
-        × SaysGained (row_in server.old) (row_in device.now) name.now (option_copied begins.entry) found batches.now moves) }
-    ensures rows { OnOk result (row_in server.new ≡ rows_behind_all (row_in server.old) batches.now) }
+        × SaysGained (row_in server.old) (row_in device.now) name.now (option_copied begins.entry) found batches moves) }
+    ensures rows { OnOk result (row_in server.new ≡ rows_behind_all (row_in server.old) batches) }
 {
     let found = request_read(alloc, request)?;
     gained(alloc, server, device, name, begins, &found, batches)
 }
 
-// ---- one exchange
+// ---- a walk
 
-// Adds what an exchange says behind these batches, and the set that its request would begin.
+// Before the first exchange.
+fn begun_walk(alloc: Global, batches: OwnedList<OwnedList<Change>>) -> Walk
+    ensures told { result.told ≡ record { moves = []; requests = []; begun = [] } }
+    ensures heard { result.heard ≡ false }
+    ensures answer { result.answer ≡ None }
+    ensures left { result.left.items ≡ batches }
+{
+    Walk {
+        told: Told {
+            moves: OwnedList::new(alloc),
+            requests: OwnedList::new(alloc),
+            begun: OwnedList::new(alloc),
+        },
+        heard: false,
+        answer: None,
+        left: batches.into_vec(),
+    }
+}
+
+// Behind the last: the batches that are left come after it.
+fn ended_walk(
+    alloc: Global,
+    walk: Walk,
+    server: &RowMap,
+    device: &mut RowMap,
+    name: &Text,
+    calling: &Calling,
+) -> Result<Told, AllocError>
+    ensures said { IfOk result (λ told. (said : List Move) × (told.moves ≡ walk.told.moves ++ said)
+        × SaysBatches calling.now (row_in server.now) (row_in device.old) name.now walk.answer walk.left.items said
+        × (told.begun ≡ walk.told.begun) × (row_in device.new ≡ rows_behind_all (row_in device.old) walk.left.items)) }
+    ensures requests { IfOk result (λ told. told.requests ≡ walk.told.requests) }
+{
+    let Walk {
+        mut told,
+        answer,
+        left,
+        ..
+    } = walk;
+    let said = committed(alloc, server, device, name, calling, &answer, left)?;
+    push_all(&mut told.moves, said)?;
+    Ok(told)
+}
+
+// Goes on by an exchange.
+fn push_exchange(
+    alloc: Global,
+    walk: &mut Walk,
+    server: &mut RowMap,
+    device: &mut RowMap,
+    name: &Text,
+    calling: &Calling,
+    exchange: Exchanged,
+) -> Result<(), AllocError>
+    ensures { OnOk result (GoesOn calling.now name.now (row_in server.old) (row_in device.old) walk.old exchange (row_in server.new) (row_in device.new) walk.new) }
+{
+    let request = request_read(alloc, exchange.request.as_slice())?;
+    push_turn(
+        alloc, walk, server, device, name, calling, &request, exchange,
+    )
+}
+
+// The same, by what its request is read as.
 fn push_turn(
+    alloc: Global,
+    walk: &mut Walk,
+    server: &mut RowMap,
+    device: &mut RowMap,
+    name: &Text,
+    calling: &Calling,
+    request: &Option<Request>,
+    exchange: Exchanged,
+) -> Result<(), AllocError>
+    ensures { IsReadAs exchange.request request.now
+        → OnOk result (GoesOn calling.now name.now (row_in server.old) (row_in device.old) walk.old exchange (row_in server.new) (row_in device.new) walk.new) }
+{
+    let syncs = asks_sync(request);
+    let first = take_front(walk.heard, syncs, &mut walk.left)?;
+    let Exchanged {
+        request: bytes,
+        answer,
+        batches,
+    } = exchange;
+    push_said(
+        alloc,
+        &mut walk.told,
+        server,
+        device,
+        name,
+        calling,
+        &walk.answer,
+        first,
+        request,
+        batches,
+    )?;
+    walk.told.requests.push(bytes)?;
+    walk.heard = syncs;
+    walk.answer = answer;
+    Ok(())
+}
+
+// Adds what these batches of the device say and then those by which the server answers, and the set that the request would begin.
+fn push_said(
     alloc: Global,
     told: &mut Told,
     server: &mut RowMap,
@@ -98,19 +196,19 @@ fn push_turn(
     name: &Text,
     calling: &Calling,
     answer: &Option<OwnedList<u8>>,
-    first: &[OwnedList<Change>],
+    first: Vec<OwnedList<Change>>,
     request: &Option<Request>,
-    exchange: &Exchanged,
+    batches: OwnedList<OwnedList<Change>>,
 ) -> Result<(), AllocError>
-    ensures { OnOk result ((said : List Move) × (begins : Option KeySet) × (told.new.moves ≡ told.old.moves ++ said)
+    ensures turn { OnOk result ((said : List Move) × (begins : Option KeySet) × (told.new.moves ≡ told.old.moves ++ said)
         × (told.new.begun ≡ told.old.begun ++ begins ∷ [])
-        × SaysTurn calling.now (row_in server.old) (row_in device.old) name.now answer.now first.now request.now exchange.now.batches said begins
+        × SaysTurn calling.now (row_in server.old) (row_in device.old) name.now answer.now first.items request.now batches said begins
         (row_in server.new) (row_in device.new)) }
+    ensures requests { OnOk result (told.new.requests ≡ told.old.requests) }
 {
     let said = committed(alloc, server, device, name, calling, answer, first)?;
     push_all(&mut told.moves, said)?;
     let begins = begun_in(alloc, calling, device, request)?;
-    let batches = exchange.batches.as_slice();
     let said = gained(
         alloc,
         server,
@@ -135,16 +233,18 @@ fn asks_sync(request: &Option<Request>) -> bool
 
 // ---- the batches before it
 
-// The batches that come before the next request, and those that come after it.
-fn split(
+// Takes those that come before the next request, and leaves those that come after it.
+fn take_front(
     heard: bool,
     syncs: bool,
-    batches: &[OwnedList<Change>],
-) -> (&[OwnedList<Change>], &[OwnedList<Change>])
-    ensures first { result.0.now ≡ front heard syncs batches.now }
-    ensures behind { result.1.now ≡ rest heard syncs batches.now }
+    left: &mut Vec<OwnedList<Change>>,
+) -> Result<Vec<OwnedList<Change>>, AllocError>
+    ensures front { IfOk result (λ first. first.items ≡ front heard syncs left.old.items) }
+    ensures rest { OnOk result (left.new.items ≡ rest heard syncs left.old.items) }
 {
-    batches.split_at(front_len(heard, syncs, batches))
+    let count = front_len(heard, syncs, left.as_slice());
+    let behind = left.split_off(count)?;
+    Ok(mem::replace(left, behind))
 }
 
 // How many come before it.

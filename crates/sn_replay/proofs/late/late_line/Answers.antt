@@ -31,9 +31,7 @@ returns-clause-told c =
     let told = c.in_ok-moves.ensures.moves in
     late_tells c.agains_tell.ensures c.each_fits.ensures c.keeps.ensures c.keeps_held.ensures c.steps_stay_sound.ensures script secret differ stage at.number at.settings
     name c.args.which c.args.replaying is_at kept meant c.in_ok-ends.field-0 came c.in_ok-moves.moves behind c.new.result c.server_mark-server_mark.result
-    (told.0, told.1, subst (λ bs. SaysGained (row_in c.args.replaying.seen.server) (mirrored c.args.replaying.seen.devices name) name kept.begins told.0 bs c.in_ok-moves.moves) c.as_slice-2.ensures told.2)
-    (c.in_ok-moves.ensures.server ∙ ap (rows_behind_all (row_in c.args.replaying.seen.server)) c.as_slice-2.ensures)
-    (c.in_ok-add_labels.ensures ∙ ap (labels_of false c.args.replaying.seen.labels) c.as_slice-3.ensures) refl c.in_ok-moves.ensures.devices refl c.new.ensures
+    told c.in_ok-moves.ensures.server (c.in_ok-add_labels.ensures ∙ ap (labels_of false c.args.replaying.seen.labels) c.as_slice-2.ensures) refl c.in_ok-moves.ensures.devices refl c.new.ensures
     (c.server_mark-server_mark.ensures secret came.leads.next _ came.stands)
 
 pub returns-in_default-clause-refused : goal.returns-in_default-clause-refused

@@ -17,8 +17,8 @@ returns-clause-moves c =
     let rows : row_in c.take-rows.result ≡ mirrored c.args.devices.now name = c.take-rows.ensures.own ∙ ap (mirrored c.args.devices.now) c.as_str.ensures in (
       told.0,
       subst (λ (b : Bytes). IsReadAs b told.0) c.as_slice-request.ensures told.1,
-      subst (λ (r : Rows). SaysGained server r name c.args.kept.now.begins told.0 c.args.batches.now moves) rows
-          (subst (λ (b : Option KeySet). SaysGained server (row_in c.take-rows.result) name b told.0 c.args.batches.now moves) c.as_ref.ensures.value told.2),
+      subst (λ (r : Rows). SaysGained server r name c.args.kept.now.begins told.0 c.args.batches moves) rows
+          (subst (λ (b : Option KeySet). SaysGained server (row_in c.take-rows.result) name b told.0 c.args.batches moves) c.as_ref.ensures.value told.2),
     )
 
 -- the rows were lent

@@ -1,8 +1,6 @@
-use Rattle.std.proofs.Common.{◌≡◌, List, None, false, ap, sym, subst, ◌∙◌}
-use Rattle.sn_recorder.specs.declared.exchanged.Exchanged.{Exchanged}
+use Rattle.std.proofs.Common.{◌≡◌, None, false, ap, sym, subst, ◌∙◌}
 use Rattle.sn_row_map.specs.RowMaps.{row_in}
 use Rattle.sn_rows.specs.Table.{Rows}
-use Rattle.sn_rows.specs.declared.change.Change.{Change}
 use Rattle.sn_telling.specs.Walking.{SaysWalk}
 use Rattle.sn_replay.specs.Mirrored.{mirrored}
 use Rattle.sn_replay.proofs.seen.told_of.Goals as goal
@@ -16,14 +14,10 @@ returns-clause-told c =
     c.take-rows.ensures.own ∙ ap (mirrored c.args.devices.now) c.as_str.ensures in
     let behind : row_in c.call_moves.new.device ≡ mirrored c.put.new.self name =
     sym (ap (mirrored c.put.new.self) (sym c.as_str-2.ensures) ∙ c.in_ok-put.ensures.own) in
-    subst (λ (rows : Rows). SaysWalk call name (row_in c.args.server.now) rows false None c.args.came.now.batches c.args.came.now.exchanged told.moves told.begun
+    subst (λ (rows : Rows). SaysWalk call name (row_in c.args.server.now) rows false None c.args.batches c.args.exchanged told.moves told.begun
     (row_in c.call_moves.new.server) (mirrored c.put.new.self name)) before
-    (subst (λ (rows : Rows). SaysWalk call name (row_in c.args.server.now) (row_in c.take-rows.result) false None c.args.came.now.batches c.args.came.now.exchanged
-    told.moves told.begun (row_in c.call_moves.new.server) rows) behind
-    (subst (λ (bs : List (List Change)). SaysWalk call name (row_in c.args.server.now) (row_in c.take-rows.result) false None bs c.args.came.now.exchanged
-    told.moves told.begun (row_in c.call_moves.new.server) (row_in c.call_moves.new.device)) c.as_slice-batches.ensures
-    (subst (λ (es : List Exchanged). SaysWalk call name (row_in c.args.server.now) (row_in c.take-rows.result) false None c.as_slice-batches.result.now es
-    told.moves told.begun (row_in c.call_moves.new.server) (row_in c.call_moves.new.device)) c.as_slice-exchanged.ensures c.in_ok-told.ensures)))
+    (subst (λ (rows : Rows). SaysWalk call name (row_in c.args.server.now) (row_in c.take-rows.result) false None c.args.batches c.args.exchanged
+    told.moves told.begun (row_in c.call_moves.new.server) rows) behind c.in_ok-told.ensures.walk)
 
 pub returns-clause-others : goal.returns-clause-others
 returns-clause-others c =

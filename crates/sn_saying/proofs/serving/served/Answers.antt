@@ -11,6 +11,6 @@ returns-in-Sync-clause-moves c =
     let device = row_in c.args.device.now in
     let name = c.args.name.now in
     let told = option_copied c.args.begins in
-    IfOk-weaker c.items_served.result _ (IsServing server device name told c.args.request.now c.args.changes.now)
-    (λ moves says. serving_sync server device name told c.args.request.now c.args.changes.now moves c.in-Sync.token c.in-Sync.items c.in-Sync.limit
+    IfOk-weaker c.items_served.result _ (IsServing server device name told c.args.request.now c.args.changes)
+    (λ moves says. serving_sync server device name told c.args.request.now c.args.changes moves c.in-Sync.token c.in-Sync.items c.in-Sync.limit
     c.in-Sync.sync_token c.in-Sync.cursor_token c.in-Sync.is says) c.items_served.ensures.moves
