@@ -1,13 +1,15 @@
 //! Reading the columns of values, kind by kind.
 
-ghost use Rattle.std.specs.Prelude.{◌≡◌, IfOk};
+ghost use Rattle.std.specs.Prelude.{◌≡◌, IfOk, [], ◌∷◌};
 ghost use Rattle.sn_rows.specs.Kinds.{value_kind};
-ghost use Rattle.sn_rows.specs.Columns.{value_columns, value_cells};
+ghost use Rattle.sn_rows.specs.Cells.{body, version};
+ghost use Rattle.sn_rows.specs.Columns.{body_of as body_cell, value_columns, value_cells};
 ghost use Rattle.sn_rows.specs.Reading.{Gives, spot, columns_at};
 ghost use Rattle.sn_rows.specs.declared.kind.RowKind.TheVariants as kind;
 ghost use Rattle.sn_rows.specs.declared.value.Value.TheVariants as value;
 
 use crate::at::At;
+use crate::body::RowBody;
 use crate::boxed::Boxed;
 use crate::device_rows::{LocalItem, OwnerRow, SetRow};
 use crate::error::RowError;
@@ -146,17 +148,37 @@ fn local_of<'a>(alloc: Global, at: At<'a>) -> Result<(Value, At<'a>), RowError>
     let (kind, at) = text_of(alloc, at, 1, 255)?;
     let (base, at) = base_of(at)?;
     let (stale, at) = flag_of(at)?;
-    let (body, at) = body_of(alloc, at)?;
-    let (latest, at) = body_of(alloc, at)?;
-    let (posted, at) = body_of(alloc, at)?;
+    let (versions, at) = versions_of(alloc, at)?;
     let row = LocalItem {
         uuid: Uuid::from_bytes(uuid),
         kind,
         base,
         stale,
+        body: versions.body,
+        latest: versions.latest,
+        posted: versions.posted,
+    };
+    Ok((Value::Local(Boxed::of(alloc, row)?), at))
+}
+
+// What a local item has of its versions.
+#[derive(Drop)]
+struct Versions {
+    body: Option<RowBody>,
+    latest: Option<RowBody>,
+    posted: Option<RowBody>,
+}
+
+fn versions_of<'a>(alloc: Global, at: At<'a>) -> Result<(Versions, At<'a>), RowError>
+    ensures { Gives (λ x. (body (body_cell x.0.body) ∷ body (body_cell x.0.latest) ∷ body (body_cell x.0.posted) ∷ [], spot x.1.place x.1.rest.now)) result (columns_at (version ∷ version ∷ version ∷ []) (spot at.entry.place at.entry.rest.now)) }
+{
+    let (body, at) = body_of(alloc, at)?;
+    let (latest, at) = body_of(alloc, at)?;
+    let (posted, at) = body_of(alloc, at)?;
+    let versions = Versions {
         body,
         latest,
         posted,
     };
-    Ok((Value::Local(Boxed::of(alloc, row)?), at))
+    Ok((versions, at))
 }

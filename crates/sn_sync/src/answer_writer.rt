@@ -4,6 +4,7 @@ ghost use Rattle.std.specs.Prelude.{◌≡◌, All, IfOk, OnOk, codes, string_by
 ghost use Rattle.serde_json.specs.Data.{Data, Items, array, member, no_members, object, string};
 ghost use Rattle.serde_json.specs.View.{view};
 ghost use Rattle.sn_sync.specs.Appended.{AppendsValue};
+ghost use Rattle.sn_sync.specs.declared.answer.More.TheVariants as further;
 ghost use Rattle.sn_sync.specs.Written.{AreConflictsData, AreItemsData, IsAnswerData, IsConflictData, IsItemData, WritesAnswer, error_data, synced_data};
 
 use crate::answer::{Answer, Conflict, More};
@@ -194,13 +195,39 @@ fn error_value(alloc: Global, tag: &str, more: &More) -> Result<Value, AllocErro
 {
     match more {
         More::Nothing => json!(in alloc; { "tag": tag }),
-        More::Name(name) => json!(in alloc; { "name": name.as_str(), "tag": tag }),
-        More::Number(number) => json!(in alloc; { "number": *number, "tag": tag }),
-        More::Uuid(uuid) => json!(in alloc; { "tag": tag, "uuid": uuid_text(alloc, *uuid)? }),
-        More::Both(number, uuid) => json!(in alloc; {
-            "number": *number,
-            "tag": tag,
-            "uuid": uuid_text(alloc, *uuid)?
-        }),
+        More::Name(name) => name_value(alloc, tag, name.as_str()),
+        More::Number(number) => number_value(alloc, tag, *number),
+        More::Uuid(uuid) => uuid_value(alloc, tag, *uuid),
+        More::Both(number, uuid) => both_value(alloc, tag, *number, *uuid),
     }
+}
+
+fn name_value(alloc: Global, tag: &str, name: &str) -> Result<Value, AllocError>
+    ensures { IfOk result (λ value. view value ≡ error_data tag.now (further.Name name.now)) }
+{
+    json!(in alloc; { "name": name, "tag": tag })
+}
+
+fn number_value(alloc: Global, tag: &str, number: u64) -> Result<Value, AllocError>
+    ensures { IfOk result (λ value. view value ≡ error_data tag.now (further.Number number)) }
+{
+    json!(in alloc; { "number": number, "tag": tag })
+}
+
+fn uuid_value(alloc: Global, tag: &str, uuid: Uuid) -> Result<Value, AllocError>
+    ensures { IfOk result (λ value. view value ≡ error_data tag.now (further.Uuid uuid)) }
+{
+    let uuid = uuid_text(alloc, uuid)?;
+    json!(in alloc; { "tag": tag, "uuid": uuid })
+}
+
+fn both_value(alloc: Global, tag: &str, number: u64, uuid: Uuid) -> Result<Value, AllocError>
+    ensures { IfOk result (λ value. view value ≡ error_data tag.now (further.Both number uuid)) }
+{
+    let uuid = uuid_text(alloc, uuid)?;
+    json!(in alloc; {
+        "number": number,
+        "tag": tag,
+        "uuid": uuid
+    })
 }
