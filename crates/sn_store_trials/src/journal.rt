@@ -46,17 +46,21 @@ fn run(alloc: Global, disk: MemDisk) -> (MemDisk, usize) {
     }
 }
 
-static PAYLOADS: [&[u8]; 2] = [b"one", b"two"];
+// What a list of so many of the batches `one` and `two` gives in three calls.
+static FIRST: [[Option<&[u8]>; 3]; 3] = [
+    [None, None, None],
+    [Some(b"one"), None, None],
+    [Some(b"one"), Some(b"two"), None],
+];
 
 // Whether these are the batches `one` and `two`, or so many of them.
 fn are_first(batches: &Batches, expected: usize) -> bool {
     let mut payloads = batches.payloads();
-    for payload in PAYLOADS.iter().take(expected) {
-        if payloads.next() != Some(*payload) {
-            return false;
-        }
+    let found = [payloads.next(), payloads.next(), payloads.next()];
+    match FIRST.get(expected) {
+        Some(first) => found == *first,
+        None => false,
     }
-    payloads.next().is_none()
 }
 
 // Whether a loading of the disk finds so many of the batches `one` and `two`, and no more.
@@ -100,16 +104,23 @@ fn leaves_its_batches(alloc: Global, calls: u64, image: CrashImage) -> bool {
     };
     let (mut disk, done) = run(alloc, stopping);
     let expected = batches_left(calls, image);
-    let stops = calls < 16;
-    let is_left = disk.has_stopped() == stops
-        && disk.faults() == stops as u64
-        && batches_in(disk.bytes(), Owner::Device) == Ok(expected as u64);
+    let is_left = is_left(&disk, calls < 16, expected);
     disk.set_stop(Stop::Never);
     is_left
-        && done <= expected
-        && expected <= done.saturating_add(1)
+        && is_last(done, expected)
         && holds_copied(alloc, &disk, expected)
         && finds_again(alloc, &disk, expected)
+}
+
+fn is_left(disk: &MemDisk, stops: bool, expected: usize) -> bool {
+    disk.has_stopped() == stops
+        && disk.faults() == stops as u64
+        && batches_in(disk.bytes(), Owner::Device) == Ok(expected as u64)
+}
+
+// Whether these are the batches that were done, or one more.
+fn is_last(done: usize, count: usize) -> bool {
+    done <= count && count <= done.saturating_add(1)
 }
 
 fn holds_copied(alloc: Global, disk: &MemDisk, expected: usize) -> bool {
@@ -167,7 +178,7 @@ fn fails_in_its_call(alloc: Global, call: u64) -> bool {
         Err(_) => usize::MAX,
     };
     let is_counted = disk.faults() == 1 && disk.wants() == 0;
-    is_counted && done <= count && count <= done.saturating_add(1) && holds(alloc, disk, count)
+    is_counted && is_last(done, count) && holds(alloc, disk, count)
 }
 
 // A listed call fails, whichever of the twenty it is, and the journal loads again.

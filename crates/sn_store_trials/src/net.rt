@@ -17,12 +17,19 @@ fn connection(alloc: Global, input: &[u8]) -> Result<(MemSource, MemSink), Alloc
     Ok((source, MemSink::new(alloc, 4096, Vec::new(alloc))))
 }
 
+fn connections(alloc: Global, inputs: &[&[u8]]) -> Result<Vec<(MemSource, MemSink)>, AllocError> {
+    let mut waiting = Vec::new(alloc);
+    for input in inputs {
+        waiting.push(connection(alloc, input)?)?;
+    }
+    Ok(waiting)
+}
+
 // Calls 0 and 3 fail: a bind, and the second accept.
 fn port_of_two(alloc: Global) -> Result<MemPort, AllocError> {
-    let mut waiting = Vec::new(alloc);
-    waiting.push(connection(alloc, b"one")?)?;
-    waiting.push(connection(alloc, b"two")?)?;
-    Ok(MemPort::new(alloc, waiting, 4711, [0u64, 3].to_vec(alloc)?))
+    let waiting = connections(alloc, &[b"one", b"two"])?;
+    let failing = [0u64, 3].to_vec(alloc)?;
+    Ok(MemPort::new(alloc, waiting, 4711, failing))
 }
 
 // Reads a byte of the next connection, and answers with a byte.
@@ -50,27 +57,37 @@ fn have_ended(port: &MemPort) -> bool {
     }
 }
 
-fn connects(alloc: Global) -> bool {
-    let Ok(mut port) = port_of_two(alloc) else {
-        return false;
-    };
+fn serves_two(port: &mut MemPort) -> bool {
     port.bind(80) == Err(Failed)
         && port.bind(0) == Ok(())
         && port.number() == 4711
-        && is_served(&mut port, b'o', b'1')
-        && is_refused(&mut port)
-        && is_served(&mut port, b't', b'2')
-        && is_refused(&mut port)
+        && is_served(port, b'o', b'1')
+        && is_refused(port)
+        && is_served(port, b't', b'2')
+        && is_refused(port)
         && port.faults() == 3
         && port.wants() == 0
-        && have_ended(&port)
+        && have_ended(port)
+}
+
+fn connects(alloc: Global) -> bool {
+    match port_of_two(alloc) {
+        Ok(mut port) => serves_two(&mut port),
+        Err(_) => false,
+    }
+}
+
+fn answers(alloc: Global, texts: &[&[u8]]) -> Result<Vec<Bytes>, AllocError> {
+    let mut answers = Vec::new(alloc);
+    for text in texts {
+        answers.push(Bytes::of(alloc, text)?)?;
+    }
+    Ok(answers)
 }
 
 // Call 2 fails, and so does each that the next answer doesn't fit, or for which none is left.
 fn link_of_two(alloc: Global) -> Result<MemLink, AllocError> {
-    let mut answers = Vec::new(alloc);
-    answers.push(Bytes::of(alloc, b"first")?)?;
-    answers.push(Bytes::of(alloc, b"second")?)?;
+    let answers = answers(alloc, &[b"first", b"second"])?;
     Ok(MemLink::new(alloc, answers, [2u64].to_vec(alloc)?))
 }
 
@@ -100,19 +117,23 @@ fn have_come(link: &MemLink) -> bool {
     }
 }
 
-fn asks(alloc: Global) -> bool {
-    let Ok(mut link) = link_of_two(alloc) else {
-        return false;
-    };
-    is_aimed(alloc, &mut link, "a:1")
-        && is_answered(alloc, &mut link, b"first")
-        && fails(alloc, &mut link, 100)
-        && fails(alloc, &mut link, 5)
-        && is_aimed(alloc, &mut link, "b:2")
-        && is_answered(alloc, &mut link, b"second")
-        && fails(alloc, &mut link, 6)
+fn exchanges(alloc: Global, link: &mut MemLink) -> bool {
+    is_aimed(alloc, link, "a:1")
+        && is_answered(alloc, link, b"first")
+        && fails(alloc, link, 100)
+        && fails(alloc, link, 5)
+        && is_aimed(alloc, link, "b:2")
+        && is_answered(alloc, link, b"second")
+        && fails(alloc, link, 6)
         && link.faults() == 3
-        && have_come(&link)
+        && have_come(link)
+}
+
+fn asks(alloc: Global) -> bool {
+    match link_of_two(alloc) {
+        Ok(mut link) => exchanges(alloc, &mut link),
+        Err(_) => false,
+    }
 }
 
 #[test]
