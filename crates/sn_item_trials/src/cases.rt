@@ -1,7 +1,7 @@
 //! Tests that are tables of cases: what they share is proved once.
 
 use std::alloc::Global;
-use std::test::Fail;
+use std::process::Abort;
 
 /// A row of a table.
 pub trait Case {
@@ -12,25 +12,14 @@ pub trait Case {
     fn holds(&self, alloc: Global) -> bool;
 }
 
-// The name of the first case that doesn't hold.
-fn first_wrong<C: Case>(alloc: Global, cases: &[C]) -> Option<&'static str> {
+/// Asserts each case of a table.
+pub fn each<C: Case>(rt: &impl Abort, alloc: Global, cases: &[C]) {
     for case in cases {
-        if !case.holds(alloc) {
-            return Some(case.name());
-        }
-    }
-    None
-}
-
-/// Fails by the first case that doesn't hold.
-pub fn each<C: Case>(alloc: Global, cases: &[C]) -> Result<(), Fail> {
-    match first_wrong(alloc, cases) {
-        Some(name) => Err(Fail::new(name)),
-        None => Ok(()),
+        so(rt, case.name(), case.holds(alloc));
     }
 }
 
-/// Fails by the name of what isn't so.
-pub fn so(name: &'static str, is_so: bool) -> Result<(), Fail> {
-    if is_so { Ok(()) } else { Err(Fail::new(name)) }
+/// Asserts what is told by its name.
+pub fn so(rt: &impl Abort, name: &str, is_so: bool) {
+    assert!(rt; is_so, "{name}");
 }

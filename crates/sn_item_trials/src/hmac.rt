@@ -3,7 +3,6 @@
 use crate::cases::{Case, each, so};
 use sn_hmac::{Mac256, Mac512, hmac_sha512};
 use std::alloc::Global;
-use std::test::Fail;
 
 struct Keyed {
     name: &'static str,
@@ -377,18 +376,17 @@ impl Keyed {
     }
 }
 
-#[test]
-fn of_texts_whole_and_cut(rt: HostRuntime) -> Result<(), Fail> {
-    each(rt.alloc(), &KEYED)
-}
-
 // RFC 4231, test case 5, which gives the first 16 bytes.
 static FIRST512: [u8; 16] = [
     0x41, 0x5f, 0xad, 0x62, 0x71, 0x58, 0x0a, 0x53, 0x1d, 0x41, 0x79, 0xbc, 0x89, 0x1d, 0x87, 0xa6,
 ];
 
+fn is_cut_short() -> bool {
+    hmac_sha512(&[0x0c; 20], b"Test With Truncation").starts_with(&FIRST512)
+}
+
 #[test]
-fn cut_short() -> Result<(), Fail> {
-    let mac = hmac_sha512(&[0x0c; 20], b"Test With Truncation");
-    so("RFC 4231, test case 5", mac.starts_with(&FIRST512))
+fn of_texts_whole_and_cut(rt: HostRuntime) {
+    each(&rt, rt.alloc(), &KEYED);
+    so(&rt, "RFC 4231, test case 5", is_cut_short());
 }

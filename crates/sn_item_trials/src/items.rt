@@ -5,7 +5,6 @@ use crate::given::{alice, counting, hash, iv, key, params, uuid};
 use sn_items::{ItemError, Words, open_text, seal_owned_text, seal_text};
 use sn_string::{Params, StringError, with_params};
 use std::alloc::{AllocError, Global};
-use std::test::Fail;
 use uuid::Uuid;
 
 mod items;
@@ -82,11 +81,6 @@ impl Drawn {
             && words.secret() == hash(self.secret)
             && words.iv() == iv(self.iv_again)
     }
-}
-
-#[test]
-fn draws(rt: HostRuntime) -> Result<(), Fail> {
-    each(rt.alloc(), &DRAWS)
 }
 
 struct Written {
@@ -268,11 +262,6 @@ fn is_plain(opened: &Result<String, ItemError>, expected: &str) -> bool {
     }
 }
 
-#[test]
-fn sealed_strings(rt: HostRuntime) -> Result<(), Fail> {
-    each(rt.alloc(), &WRITTEN)
-}
-
 // A string of the independent implementation under the key 00 01 .. 3f, and what its changes are refused as.
 const UUID: &str = "00000000-0000-4000-8000-000000000001";
 
@@ -298,17 +287,18 @@ fn sealed_with(alloc: Global, plain: String, params: &Params) -> Result<String, 
     )
 }
 
-fn is_sealed_in_place(alloc: Global, plain: String) -> bool {
-    match alice() {
-        Some(params) => is_text(&sealed_with(alloc, plain, &params), STRING),
-        None => false,
+fn is_sealed_in_place(alloc: Global, params: &Params) -> bool {
+    match PLAIN.to_string(alloc) {
+        Ok(plain) => is_text(&sealed_with(alloc, plain, params), STRING),
+        Err(_) => false,
     }
 }
 
-#[test]
-fn sealed_in_place(rt: HostRuntime) -> Result<(), Fail> {
-    let plain = PLAIN.to_string(rt.alloc())?;
-    so("a text", is_sealed_in_place(rt.alloc(), plain))
+fn seals_in_place(alloc: Global) -> bool {
+    match alice() {
+        Some(params) => is_sealed_in_place(alloc, &params),
+        None => false,
+    }
 }
 
 // A string, the uuid of the item that it is opened as, and what is told of it.
@@ -372,11 +362,6 @@ impl Case for Changed {
     }
 }
 
-#[test]
-fn changed_strings(rt: HostRuntime) -> Result<(), Fail> {
-    each(rt.alloc(), &CHANGED)
-}
-
 // The string with other parameters, where it opens.
 fn with_others(alloc: Global, params: &Params) -> Option<String> {
     match open_text(alloc, STRING, uuid(UUID), &counting(0), &counting(32)) {
@@ -400,6 +385,14 @@ fn is_hash_apart(alloc: Global) -> bool {
 }
 
 #[test]
-fn hash_covers_no_parameters(rt: HostRuntime) -> Result<(), Fail> {
-    so("other parameters", is_hash_apart(rt.alloc()))
+fn draws(rt: HostRuntime) {
+    each(&rt, rt.alloc(), &DRAWS);
+}
+
+#[test]
+fn strings(rt: HostRuntime) {
+    each(&rt, rt.alloc(), &WRITTEN);
+    each(&rt, rt.alloc(), &CHANGED);
+    so(&rt, "sealed in place", seals_in_place(rt.alloc()));
+    so(&rt, "with other parameters", is_hash_apart(rt.alloc()));
 }

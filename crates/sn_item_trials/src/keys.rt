@@ -6,7 +6,6 @@ use crate::given::params;
 use sn_keys::{derive, salt_text};
 use sn_string::{KeySet, Params};
 use std::alloc::{AllocError, Global};
-use std::test::Fail;
 
 struct Salted {
     password: &'static str,
@@ -95,6 +94,6 @@ fn are_kept(derived: &Result<KeySet, AllocError>, params: &Params) -> bool {
 }
 
 #[test]
-fn salts(rt: HostRuntime) -> Result<(), Fail> {
-    each(rt.alloc(), &SALTED)
+fn salts(rt: HostRuntime) {
+    each(&rt, rt.alloc(), &SALTED);
 }

@@ -4,7 +4,6 @@ use crate::cases::{Case, each, so};
 use sn_notes::{conflict_copy, note};
 use sn_string::uuid_of;
 use std::alloc::Global;
-use std::test::Fail;
 
 struct Copied {
     content: &'static str,
@@ -83,11 +82,6 @@ impl Copied {
     }
 }
 
-#[test]
-fn copies(rt: HostRuntime) -> Result<(), Fail> {
-    each(rt.alloc(), &COPIES)
-}
-
 fn is_noted(alloc: Global) -> bool {
     match note(alloc, "a", "b") {
         Ok(made) => made.as_str() == "{\"references\":[],\"text\":\"b\",\"title\":\"a\"}",
@@ -96,6 +90,7 @@ fn is_noted(alloc: Global) -> bool {
 }
 
 #[test]
-fn notes(rt: HostRuntime) -> Result<(), Fail> {
-    so("a note", is_noted(rt.alloc()))
+fn copies_and_a_note(rt: HostRuntime) {
+    each(&rt, rt.alloc(), &COPIES);
+    so(&rt, "a note", is_noted(rt.alloc()));
 }

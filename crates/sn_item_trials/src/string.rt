@@ -4,7 +4,6 @@ use crate::cases::so;
 use crate::given::alice;
 use sn_string::*;
 use std::alloc::{AllocError, Global};
-use std::test::Fail;
 use tables::{CIPHERTEXT, HASH, HASHED, IV, PARAMS, UUID, WHOLE};
 use uuid::Uuid;
 
@@ -26,9 +25,8 @@ fn are_written(alloc: Global) -> bool {
     }
 }
 
-#[test]
-fn writes_parameters(rt: HostRuntime) -> Result<(), Fail> {
-    so("parameters", are_written(rt.alloc()))
+fn reads_parts(alloc: Global) -> bool {
+    is_whole(alloc, &read(alloc, WHOLE))
 }
 
 fn are_of_whole(parts: &Parts<'_>) -> bool {
@@ -49,11 +47,6 @@ fn is_whole(alloc: Global, answer: &Result<Parts<'_>, StringError>) -> bool {
     }
 }
 
-#[test]
-fn reads_its_parts(rt: HostRuntime) -> Result<(), Fail> {
-    so("parts", is_whole(rt.alloc(), &read(rt.alloc(), WHOLE)))
-}
-
 // What the hash covers is written, and then the whole text around the hash.
 fn is_around_its_hash(alloc: Global, bytes: &[u8]) -> bool {
     match authenticated_text(alloc, UUID, IV, bytes, PARAMS) {
@@ -71,11 +64,6 @@ fn is_written(alloc: Global) -> bool {
         Ok(Some(bytes)) => is_around_its_hash(alloc, bytes.as_slice()),
         _ => false,
     }
-}
-
-#[test]
-fn writes_around_its_hash(rt: HostRuntime) -> Result<(), Fail> {
-    so("a text", is_written(rt.alloc()))
 }
 
 fn is_counting(alloc: Global, hash: &[u8; 32]) -> bool {
@@ -127,27 +115,6 @@ fn is_no_base64(alloc: Global) -> bool {
     matches!(base64_bytes(alloc, "Zm9vYmFyIR=="), Ok(None))
 }
 
-#[test]
-fn spells_digits(rt: HostRuntime) -> Result<(), Fail> {
-    so(
-        "a hash, a vector or a key",
-        spells_a_hash(rt.alloc()) && spells_an_iv() && spells_a_key(),
-    )
-}
-
-#[test]
-fn spells_uuids(rt: HostRuntime) -> Result<(), Fail> {
-    so("a uuid", spells_a_uuid(rt.alloc()))
-}
-
-#[test]
-fn spells_bytes(rt: HostRuntime) -> Result<(), Fail> {
-    so(
-        "base64",
-        spells_base64(rt.alloc()) && is_no_base64(rt.alloc()),
-    )
-}
-
 fn is_set(copy: &Result<KeySet, AllocError>, set: &KeySet) -> bool {
     match copy {
         Ok(copy) => copy.same(set),
@@ -175,11 +142,6 @@ fn copies_a_set(alloc: Global) -> bool {
     }
 }
 
-#[test]
-fn copies_sets(rt: HostRuntime) -> Result<(), Fail> {
-    so("a set", copies_a_set(rt.alloc()))
-}
-
 fn is_alice(text: &Text) -> bool {
     text.as_str() == "alice" && text.len() == 5 && !text.is_empty()
 }
@@ -198,17 +160,9 @@ fn copies_an_owned_text(alloc: Global, alice: &Text, bob: &Text) -> bool {
     }
 }
 
-fn are_copied_texts(alloc: Global, alice: &Text, bob: &Text) -> bool {
-    copies_an_owned_text(alloc, alice, bob) && is_copied(alloc, alice, alice)
-}
-
-#[test]
-fn copies_texts(rt: HostRuntime) -> Result<(), Fail> {
+fn copies_texts(alloc: Global) -> bool {
     let (alice, bob) = (Text::fixed("alice"), Text::fixed("bob"));
-    so(
-        "an owned text or a fixed one",
-        are_copied_texts(rt.alloc(), &alice, &bob),
-    )
+    copies_an_owned_text(alloc, &alice, &bob) && is_copied(alloc, &alice, &alice)
 }
 
 fn is_ab(bytes: &Bytes) -> bool {
@@ -232,11 +186,6 @@ fn copies_ab(alloc: Global) -> bool {
     }
 }
 
-#[test]
-fn copies_bytes(rt: HostRuntime) -> Result<(), Fail> {
-    so("bytes", copies_ab(rt.alloc()))
-}
-
 fn push_two(list: &mut OwnedList<Option<u32>>) -> Result<(), AllocError> {
     list.push(Some(7))?;
     list.push(None)
@@ -258,11 +207,6 @@ fn copies_a_list(alloc: Global) -> bool {
     push_two(&mut list).is_ok() && is_copied_list(alloc, &list)
 }
 
-#[test]
-fn copies_lists(rt: HostRuntime) -> Result<(), Fail> {
-    so("a list", copies_a_list(rt.alloc()))
-}
-
 fn twice<T: TryClone>(alloc: Global, value: &T) -> Result<T, AllocError> {
     value.try_clone(alloc)
 }
@@ -277,9 +221,27 @@ fn copies_arrays(alloc: Global) -> bool {
 }
 
 #[test]
-fn copies_values(rt: HostRuntime) -> Result<(), Fail> {
-    so(
-        "a number or an array",
-        copies_numbers(rt.alloc()) && copies_arrays(rt.alloc()),
-    )
+fn writes_and_reads(rt: HostRuntime) {
+    so(&rt, "parameters", are_written(rt.alloc()));
+    so(&rt, "parts", reads_parts(rt.alloc()));
+    so(&rt, "a text around its hash", is_written(rt.alloc()));
+}
+
+#[test]
+fn spells_bytes(rt: HostRuntime) {
+    so(&rt, "a hash", spells_a_hash(rt.alloc()));
+    so(&rt, "a vector or a key", spells_an_iv() && spells_a_key());
+    so(&rt, "a uuid", spells_a_uuid(rt.alloc()));
+    so(&rt, "base64", spells_base64(rt.alloc()));
+    so(&rt, "no base64", is_no_base64(rt.alloc()));
+}
+
+#[test]
+fn copies(rt: HostRuntime) {
+    so(&rt, "a set", copies_a_set(rt.alloc()));
+    so(&rt, "texts", copies_texts(rt.alloc()));
+    so(&rt, "bytes", copies_ab(rt.alloc()));
+    so(&rt, "a list", copies_a_list(rt.alloc()));
+    so(&rt, "numbers", copies_numbers(rt.alloc()));
+    so(&rt, "arrays", copies_arrays(rt.alloc()));
 }

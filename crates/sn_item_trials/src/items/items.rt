@@ -6,7 +6,6 @@ use crate::given::{alice, counting, hash, uuid};
 use sn_items::{ItemError, Sealed, Which, Words, is_object, open_item, seal_item};
 use sn_string::{KeySet, Params, Text};
 use std::alloc::{AllocError, Global};
-use std::test::Fail;
 
 const UUID: &str = "00000000-0000-4000-8000-000000000001";
 
@@ -263,11 +262,6 @@ fn is_content(answer: &Result<String, (Which, ItemError)>, expected: &str) -> bo
     }
 }
 
-#[test]
-fn sealed_items(rt: HostRuntime) -> Result<(), Fail> {
-    each(rt.alloc(), &SEALED)
-}
-
 fn refusal_of_key(error: &ItemError) -> &'static str {
     match error {
         ItemError::Form(_) => "enc form",
@@ -321,11 +315,6 @@ impl Refused {
             Err((Which::Content, error)) => refusal_of_content(error) == self.refusal,
         }
     }
-}
-
-#[test]
-fn refused_items(rt: HostRuntime) -> Result<(), Fail> {
-    each(rt.alloc(), &REFUSED)
 }
 
 // A text, and whether `serde_json` reads it as an object.
@@ -396,6 +385,8 @@ impl Case for Judged {
 }
 
 #[test]
-fn object_texts(rt: HostRuntime) -> Result<(), Fail> {
-    each(rt.alloc(), &OBJECTS)
+fn sealed_or_refused(rt: HostRuntime) {
+    each(&rt, rt.alloc(), &SEALED);
+    each(&rt, rt.alloc(), &REFUSED);
+    each(&rt, rt.alloc(), &OBJECTS);
 }

@@ -1,10 +1,11 @@
 //! Texts that a table spells, and the answer that it says.
 
 use super::tables::{CIPHERTEXT, HASH, IV, PARAMETERS, PARAMS, PARTS, TEXTS, UUID, VERSION};
+use crate::cases::so;
 use base64::engine::general_purpose::STANDARD;
 use sn_string::{Parts, StringError, read};
 use std::alloc::{AllocError, Global};
-use std::test::Fail;
+use std::process::Abort;
 
 // The parts of the text that reads, in front of the params part, as a row names them.
 static USUAL: [(&str, &str); 5] = [
@@ -111,60 +112,41 @@ fn told(answer: &Result<Parts<'_>, StringError>) -> (&'static str, usize) {
     }
 }
 
-fn is_answered(alloc: Global, changes: &str, name: &str, place: usize) -> bool {
-    match text_of(alloc, changes) {
-        Ok(text) => told(&read(alloc, text.as_str())) == (name, place),
-        Err(_) => false,
-    }
-}
-
-// What differs from the text that reads, the answer's name, and its place.
-fn words_of(row: &str) -> Option<(&str, &str, usize)> {
-    let (row, place) = row.rsplit_once('|')?;
-    let (changes, name) = row.rsplit_once('|')?;
-    Some((changes, name, place.parse::<usize>().ok()?))
-}
-
-fn holds(alloc: Global, row: &str) -> bool {
-    match words_of(row) {
-        Some((changes, name, place)) => is_answered(alloc, changes, name, place),
+// `name|place`.
+fn is_spelled(told: (&str, usize), expected: &str) -> bool {
+    match expected.split_once('|') {
+        Some((name, place)) => name == told.0 && place.parse::<usize>() == Ok(told.1),
         None => false,
     }
 }
 
-// How many rows there are, each of which holds, or the first that doesn't.
-fn held<'t>(alloc: Global, table: &'t str) -> Result<u32, &'t str> {
+fn is_answered(alloc: Global, changes: &str, expected: &str) -> bool {
+    match text_of(alloc, changes) {
+        Ok(text) => is_spelled(told(&read(alloc, text.as_str())), expected),
+        Err(_) => false,
+    }
+}
+
+fn holds(alloc: Global, row: &str) -> bool {
+    match row.split_once('|') {
+        Some((changes, expected)) => is_answered(alloc, changes, expected),
+        None => false,
+    }
+}
+
+// Asserts each row of a table that has so many.
+fn each_row(rt: &impl Abort, alloc: Global, table: &str, count: u32) {
     let mut rows = 0u32;
     for row in table.lines() {
-        if !row.is_empty() {
-            if !holds(alloc, row) {
-                return Err(row);
-            }
-            rows = rows.saturating_add(1);
-        }
+        so(rt, row, row.is_empty() || holds(alloc, row));
+        rows = rows.saturating_add(u32::from(!row.is_empty()));
     }
-    Ok(rows)
-}
-
-fn all_hold(alloc: Global, table: &'static str, count: u32) -> Result<(), Fail> {
-    match held(alloc, table) {
-        Ok(rows) if rows == count => Ok(()),
-        Ok(_) => Err(Fail::new("the count of rows")),
-        Err(row) => Err(Fail::new(row)),
-    }
+    so(rt, "the count of rows", rows == count);
 }
 
 #[test]
-fn whole_texts(rt: HostRuntime) -> Result<(), Fail> {
-    all_hold(rt.alloc(), TEXTS, 18)
-}
-
-#[test]
-fn other_parts(rt: HostRuntime) -> Result<(), Fail> {
-    all_hold(rt.alloc(), PARTS, 72)
-}
-
-#[test]
-fn other_parameters(rt: HostRuntime) -> Result<(), Fail> {
-    all_hold(rt.alloc(), PARAMETERS, 56)
+fn reads_or_refuses(rt: HostRuntime) {
+    each_row(&rt, rt.alloc(), TEXTS, 18);
+    each_row(&rt, rt.alloc(), PARTS, 72);
+    each_row(&rt, rt.alloc(), PARAMETERS, 56);
 }
