@@ -1,11 +1,12 @@
 //! Ciphertexts from outside: SP 800-38A, F.2.5, which gives the first 64 bytes of its case, and others that an
 //! independent AES gives.
 
-use sn_aes::Aes256Enc;
-use sn_cbc::{CbcError, seal, seal_owned, unseal, unseal_owned};
-use std::alloc::Global;
+use crate::cases::{Case, each, so};
+use sn_aes::{Aes256Dec, Aes256Enc};
+use sn_cbc::{CbcError, seal_owned, unseal, unseal_owned};
+use std::alloc::{AllocError, Global};
 
-struct Case {
+struct Sealed {
     name: &'static str,
     key: [u8; 32],
     iv: [u8; 16],
@@ -13,8 +14,8 @@ struct Case {
     bytes: &'static [u8],
 }
 
-static CASES: [Case; 9] = [
-    Case {
+static SEALED: [Sealed; 9] = [
+    Sealed {
         name: "SP 800-38A, F.2.5",
         key: [
             0x60, 0x3d, 0xeb, 0x10, 0x15, 0xca, 0x71, 0xbe, 0x2b, 0x73, 0xae, 0xf0, 0x85, 0x7d,
@@ -41,7 +42,7 @@ static CASES: [Case; 9] = [
             0xd6, 0xb2, 0xe0, 0xc2, 0xa7, 0x2b, 0x4d, 0x80, 0xe6, 0x44,
         ],
     },
-    Case {
+    Sealed {
         name: "length 0",
         key: [
             0xa7, 0xf5, 0x5d, 0x2c, 0x86, 0x5d, 0xa1, 0xa1, 0xa4, 0x74, 0x00, 0xe2, 0x85, 0x0f,
@@ -58,7 +59,7 @@ static CASES: [Case; 9] = [
             0xd2, 0x05,
         ],
     },
-    Case {
+    Sealed {
         name: "length 1",
         key: [
             0x0e, 0x6f, 0x21, 0xe2, 0x3e, 0x58, 0x3e, 0x8d, 0x22, 0xdc, 0x79, 0x95, 0xde, 0x1b,
@@ -75,7 +76,7 @@ static CASES: [Case; 9] = [
             0x40, 0x55,
         ],
     },
-    Case {
+    Sealed {
         name: "length 15",
         key: [
             0x11, 0x6c, 0x61, 0xce, 0xa3, 0x00, 0x4b, 0xb1, 0x6b, 0xeb, 0x4e, 0x8e, 0x3f, 0xdc,
@@ -95,7 +96,7 @@ static CASES: [Case; 9] = [
             0xcd, 0xa4,
         ],
     },
-    Case {
+    Sealed {
         name: "length 16",
         key: [
             0x81, 0xe4, 0xb0, 0x30, 0xe4, 0x1a, 0x7c, 0x57, 0x75, 0xd0, 0x42, 0xdf, 0x52, 0x16,
@@ -116,7 +117,7 @@ static CASES: [Case; 9] = [
             0xfe, 0x5c, 0x98, 0xb3,
         ],
     },
-    Case {
+    Sealed {
         name: "length 17",
         key: [
             0xcf, 0x07, 0xc4, 0xf8, 0x06, 0x2b, 0x4c, 0x49, 0x92, 0x87, 0x9a, 0x35, 0x30, 0x14,
@@ -137,7 +138,7 @@ static CASES: [Case; 9] = [
             0x27, 0x18, 0xff, 0x3f,
         ],
     },
-    Case {
+    Sealed {
         name: "length 31",
         key: [
             0x55, 0x7e, 0x6f, 0x0b, 0xa2, 0x1b, 0xbb, 0xc4, 0x70, 0xca, 0xa4, 0xa0, 0xcc, 0xe9,
@@ -159,7 +160,7 @@ static CASES: [Case; 9] = [
             0xd1, 0x6e, 0xb9, 0x6f,
         ],
     },
-    Case {
+    Sealed {
         name: "length 32",
         key: [
             0x8d, 0x14, 0x29, 0x26, 0xd3, 0x08, 0x66, 0x97, 0xcb, 0xf0, 0xc7, 0x5e, 0x0d, 0xfd,
@@ -182,7 +183,7 @@ static CASES: [Case; 9] = [
             0x5f, 0x86, 0xf2, 0x0f, 0x75, 0x83,
         ],
     },
-    Case {
+    Sealed {
         name: "length 33",
         key: [
             0xb7, 0x6e, 0xc9, 0xec, 0xca, 0x2e, 0xe2, 0x4a, 0xd3, 0x07, 0xe1, 0x52, 0xc8, 0xd8,
@@ -207,51 +208,43 @@ static CASES: [Case; 9] = [
     },
 ];
 
-fn opens_owned(case: &Case, bytes: Vec<u8>) -> bool {
-    match unseal_owned(&case.key, &case.iv, bytes) {
-        Ok(opened) => opened.as_slice() == case.plain,
+impl Case for Sealed {
+    fn name(&self) -> &'static str {
+        self.name
+    }
+
+    fn holds(&self, alloc: Global) -> bool {
+        self.is_sealed(alloc) && self.is_opened(alloc)
+    }
+}
+
+impl Sealed {
+    fn is_sealed(&self, alloc: Global) -> bool {
+        match Vec::from_slice(alloc, self.plain) {
+            Ok(plain) => is_text(seal_owned(&self.key, &self.iv, plain), self.bytes),
+            Err(_) => false,
+        }
+    }
+
+    fn is_opened(&self, alloc: Global) -> bool {
+        match Vec::from_slice(alloc, self.bytes) {
+            Ok(bytes) => is_opened(unseal_owned(&self.key, &self.iv, bytes), self.plain),
+            Err(_) => false,
+        }
+    }
+}
+
+fn is_text(answer: Result<Vec<u8>, AllocError>, expected: &[u8]) -> bool {
+    match answer {
+        Ok(text) => text.as_slice() == expected,
         Err(_) => false,
     }
 }
 
-fn opens(alloc: Global, case: &Case) -> bool {
-    match unseal(alloc, &case.key, &case.iv, case.bytes) {
-        Ok(opened) => opened.as_slice() == case.plain,
+fn is_opened(answer: Result<Vec<u8>, CbcError>, expected: &[u8]) -> bool {
+    match answer {
+        Ok(text) => text.as_slice() == expected,
         Err(_) => false,
-    }
-}
-
-fn seals_and_opens(alloc: Global, case: &Case) -> bool {
-    let Ok(sealed) = seal(alloc, &case.key, &case.iv, case.plain) else {
-        return false;
-    };
-    let is_sealed = sealed.as_slice() == case.bytes;
-    let is_opened = opens_owned(case, sealed);
-    is_sealed && is_opened
-}
-
-#[test]
-fn texts_both_ways(rt: HostRuntime) {
-    for case in &CASES {
-        assert!(rt; seals_and_opens(rt.alloc(), case), "{}", case.name);
-        assert!(rt; opens(rt.alloc(), case), "{}", case.name);
-    }
-}
-
-fn seals_in_place(alloc: Global, case: &Case) -> bool {
-    let Ok(owned) = Vec::from_slice(alloc, case.plain) else {
-        return false;
-    };
-    match seal_owned(&case.key, &case.iv, owned) {
-        Ok(sealed) => sealed.as_slice() == case.bytes,
-        Err(_) => false,
-    }
-}
-
-#[test]
-fn sealed_in_place(rt: HostRuntime) {
-    for case in &CASES {
-        assert!(rt; seals_in_place(rt.alloc(), case), "{}", case.name);
     }
 }
 
@@ -262,82 +255,148 @@ fn is_error(answer: Result<Vec<u8>, CbcError>, expected: CbcError) -> bool {
     }
 }
 
+static KEY: [u8; 32] = [1; 32];
+
 // Under a key of ones, and the vector of this byte.
 fn is_refused(alloc: Global, iv: u8, bytes: &[u8], expected: CbcError) -> bool {
-    let Ok(owned) = Vec::from_slice(alloc, bytes) else {
-        return false;
-    };
-    let key = [1; 32];
     let iv = [iv; 16];
-    let is_refused = is_error(unseal(alloc, &key, &iv, bytes), expected);
-    is_error(unseal_owned(&key, &iv, owned), expected) && is_refused
+    is_error(unseal(alloc, &KEY, &iv, bytes), expected)
+        && is_refused_owned(alloc, &iv, bytes, expected)
 }
 
-static NO_WHOLE_BLOCKS: [&[u8]; 5] = [&[], &[3], &[3; 15], &[3; 17], &[3; 33]];
-
-#[test]
-fn no_whole_blocks(rt: HostRuntime) {
-    for bytes in &NO_WHOLE_BLOCKS {
-        let length = bytes.len();
-        assert!(rt;
-            is_refused(rt.alloc(), 2, bytes, CbcError::Length { length }),
-            "{length}"
-        );
-    }
-}
-
-// Blocks of text that don't end in padding.
-static BLOCKS: [[u8; 16]; 4] = [
-    [0; 16],
-    [17; 16],
-    [2, 2, 2, 2, 2, 2, 2, 2, 2, 2, 2, 2, 2, 2, 3, 2],
-    [
-        15, 16, 16, 16, 16, 16, 16, 16, 16, 16, 16, 16, 16, 16, 16, 16,
-    ],
-];
-
-// The vector is 0, so that the ciphertext of one block is the cipher's block.
-fn is_refused_block(alloc: Global, text: &[u8; 16]) -> bool {
-    let bytes = Aes256Enc::new(&[1; 32]).encrypt(text);
-    is_refused(alloc, 0, &bytes, CbcError::Padding)
-}
-
-// A block of padding alone.
-fn opens_empty(alloc: Global) -> bool {
-    let bytes = Aes256Enc::new(&[1; 32]).encrypt(&[16; 16]);
-    match unseal(alloc, &[1; 32], &[0; 16], &bytes) {
-        Ok(opened) => opened.is_empty(),
+fn is_refused_owned(alloc: Global, iv: &[u8; 16], bytes: &[u8], expected: CbcError) -> bool {
+    match Vec::from_slice(alloc, bytes) {
+        Ok(owned) => is_error(unseal_owned(&KEY, iv, owned), expected),
         Err(_) => false,
     }
 }
 
-#[test]
-fn one_block_of_text(rt: HostRuntime) {
-    for text in &BLOCKS {
-        assert!(rt; is_refused_block(rt.alloc(), text), "{text:?}");
-    }
-    assert!(rt; opens_empty(rt.alloc()));
+struct NoWholeBlocks {
+    name: &'static str,
+    bytes: &'static [u8],
 }
 
-static MESSAGES: [(CbcError, &str); 3] = [
-    (
-        CbcError::Length { length: 15 },
-        "15 bytes are no positive number of whole blocks",
-    ),
-    (CbcError::Padding, "the text doesn't end in padding"),
-    (CbcError::Memory, "out of memory"),
+static NO_WHOLE_BLOCKS: [NoWholeBlocks; 5] = [
+    NoWholeBlocks {
+        name: "no byte",
+        bytes: &[],
+    },
+    NoWholeBlocks {
+        name: "1 byte",
+        bytes: &[3],
+    },
+    NoWholeBlocks {
+        name: "15 bytes",
+        bytes: &[3; 15],
+    },
+    NoWholeBlocks {
+        name: "17 bytes",
+        bytes: &[3; 17],
+    },
+    NoWholeBlocks {
+        name: "33 bytes",
+        bytes: &[3; 33],
+    },
 ];
 
-fn is_told(alloc: Global, error: CbcError, message: &str) -> bool {
-    match format!(in alloc; "{error}") {
-        Ok(text) => text.as_str() == message,
-        Err(_) => false,
+impl Case for NoWholeBlocks {
+    fn name(&self) -> &'static str {
+        self.name
+    }
+
+    fn holds(&self, alloc: Global) -> bool {
+        let length = self.bytes.len();
+        is_refused(alloc, 2, self.bytes, CbcError::Length { length })
     }
 }
 
-#[test]
-fn messages(rt: HostRuntime) {
-    for (error, message) in &MESSAGES {
-        assert!(rt; is_told(rt.alloc(), *error, message), "{message}");
+// A block of text that doesn't end in padding.
+struct NoPadding {
+    name: &'static str,
+    text: [u8; 16],
+}
+
+static NO_PADDING: [NoPadding; 4] = [
+    NoPadding {
+        name: "zeros",
+        text: [0; 16],
+    },
+    NoPadding {
+        name: "a count of 17",
+        text: [17; 16],
+    },
+    NoPadding {
+        name: "another byte before a count of 2",
+        text: [2, 2, 2, 2, 2, 2, 2, 2, 2, 2, 2, 2, 2, 2, 3, 2],
+    },
+    NoPadding {
+        name: "another byte at the front of 16",
+        text: [
+            15, 16, 16, 16, 16, 16, 16, 16, 16, 16, 16, 16, 16, 16, 16, 16,
+        ],
+    },
+];
+
+impl Case for NoPadding {
+    fn name(&self) -> &'static str {
+        self.name
     }
+
+    // The vector is 0, so that the ciphertext of one block is the cipher's block.
+    fn holds(&self, alloc: Global) -> bool {
+        let bytes = Aes256Enc::new(&KEY).encrypt(&self.text);
+        Aes256Dec::new(&KEY).decrypt(&bytes) == self.text
+            && is_refused(alloc, 0, &bytes, CbcError::Padding)
+    }
+}
+
+struct Message {
+    error: CbcError,
+    text: &'static str,
+}
+
+static MESSAGES: [Message; 3] = [
+    Message {
+        error: CbcError::Length { length: 15 },
+        text: "15 bytes are no positive number of whole blocks",
+    },
+    Message {
+        error: CbcError::Padding,
+        text: "the text doesn't end in padding",
+    },
+    Message {
+        error: CbcError::Memory,
+        text: "out of memory",
+    },
+];
+
+impl Case for Message {
+    fn name(&self) -> &'static str {
+        self.text
+    }
+
+    fn holds(&self, alloc: Global) -> bool {
+        match format!(in alloc; "{}", self.error) {
+            Ok(text) => text.as_str() == self.text,
+            Err(_) => false,
+        }
+    }
+}
+
+fn opens_padding(alloc: Global) -> bool {
+    let bytes = Aes256Enc::new(&KEY).encrypt(&[16; 16]);
+    is_opened(unseal(alloc, &KEY, &[0; 16], &bytes), &[])
+}
+
+#[test]
+fn sealed_in_place(rt: HostRuntime) {
+    each(&rt, rt.alloc(), &SEALED);
+}
+
+#[test]
+fn opened_or_refused(rt: HostRuntime) {
+    so(&rt, "a block of padding alone", opens_padding(rt.alloc()));
+    each(&rt, rt.alloc(), &NO_WHOLE_BLOCKS);
+    each(&rt, rt.alloc(), &NO_PADDING);
+    each(&rt, rt.alloc(), &MESSAGES);
 }

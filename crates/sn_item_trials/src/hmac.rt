@@ -1,8 +1,10 @@
 //! HMACs from outside: RFC 4231's test cases, and others that Python's `hmac` gives for random keys and texts.
 
-use sn_hmac::{Mac256, Mac512, hmac_sha256, hmac_sha512};
+use crate::cases::{Case, each, so};
+use sn_hmac::{Mac256, Mac512, hmac_sha512};
+use std::alloc::Global;
 
-struct Case {
+struct Keyed {
     name: &'static str,
     key: &'static [u8],
     text: &'static [u8],
@@ -10,8 +12,8 @@ struct Case {
     mac512: [u8; 64],
 }
 
-static CASES: [Case; 12] = [
-    Case {
+static KEYED: [Keyed; 12] = [
+    Keyed {
         name: "RFC 4231, test case 1",
         key: &[0x0b; 20],
         text: b"Hi There",
@@ -28,7 +30,7 @@ static CASES: [Case; 12] = [
             0x2e, 0x69, 0x6c, 0x20, 0x3a, 0x12, 0x68, 0x54,
         ],
     },
-    Case {
+    Keyed {
         name: "RFC 4231, test case 2",
         key: b"Jefe",
         text: b"what do ya want for nothing?",
@@ -45,7 +47,7 @@ static CASES: [Case; 12] = [
             0x63, 0x6e, 0x07, 0x0a, 0x38, 0xbc, 0xe7, 0x37,
         ],
     },
-    Case {
+    Keyed {
         name: "RFC 4231, test case 3",
         key: &[0xaa; 20],
         text: &[0xdd; 50],
@@ -62,7 +64,7 @@ static CASES: [Case; 12] = [
             0x74, 0x27, 0x88, 0x59, 0xe1, 0x32, 0x92, 0xfb,
         ],
     },
-    Case {
+    Keyed {
         name: "RFC 4231, test case 4",
         key: &[
             0x01, 0x02, 0x03, 0x04, 0x05, 0x06, 0x07, 0x08, 0x09, 0x0a, 0x0b, 0x0c, 0x0d, 0x0e,
@@ -82,7 +84,7 @@ static CASES: [Case; 12] = [
             0xe2, 0xad, 0xeb, 0xeb, 0x10, 0xa2, 0x98, 0xdd,
         ],
     },
-    Case {
+    Keyed {
         name: "RFC 4231, test case 6",
         key: &[0xaa; 131],
         text: b"Test Using Larger Than Block-Size Key - Hash Key First",
@@ -99,7 +101,7 @@ static CASES: [Case; 12] = [
             0x8b, 0x91, 0x5a, 0x98, 0x5d, 0x78, 0x65, 0x98,
         ],
     },
-    Case {
+    Keyed {
         name: "RFC 4231, test case 7",
         key: &[0xaa; 131],
         text: b"This is a test using a larger than block-size key and a larger than block-size data. The key needs to be hashed before being used by the HMAC algorithm.",
@@ -116,7 +118,7 @@ static CASES: [Case; 12] = [
             0x65, 0xc9, 0x74, 0x40, 0xfa, 0x8c, 0x6a, 0x58,
         ],
     },
-    Case {
+    Keyed {
         name: "empty key, empty text",
         key: b"",
         text: b"",
@@ -133,7 +135,7 @@ static CASES: [Case; 12] = [
             0x7b, 0x0c, 0xb2, 0x22, 0x47, 0x22, 0x5d, 0x47,
         ],
     },
-    Case {
+    Keyed {
         name: "key of 64 bytes, text of 64",
         key: &[
             0x03, 0x9d, 0x6a, 0xb0, 0xb0, 0x36, 0x3d, 0xd7, 0x9c, 0xe8, 0x2f, 0x5e, 0xfb, 0xbd,
@@ -162,7 +164,7 @@ static CASES: [Case; 12] = [
             0xdd, 0x2b, 0x30, 0x31, 0x34, 0x71, 0x08, 0x5d,
         ],
     },
-    Case {
+    Keyed {
         name: "key of 65 bytes, text of 129",
         key: &[
             0xa1, 0x20, 0x77, 0xcf, 0x22, 0x60, 0x87, 0x90, 0xca, 0x4b, 0x07, 0xc4, 0xf8, 0x44,
@@ -196,7 +198,7 @@ static CASES: [Case; 12] = [
             0x49, 0x42, 0x63, 0xf3, 0xa8, 0x1a, 0x98, 0xae,
         ],
     },
-    Case {
+    Keyed {
         name: "key of 128 bytes, text of 111",
         key: &[
             0x5b, 0x26, 0x05, 0xfd, 0x27, 0x05, 0x4c, 0x91, 0x36, 0x7b, 0xf5, 0x99, 0xeb, 0x1a,
@@ -233,7 +235,7 @@ static CASES: [Case; 12] = [
             0xe9, 0x53, 0xa6, 0xf1, 0xcf, 0x85, 0x43, 0x19,
         ],
     },
-    Case {
+    Keyed {
         name: "key of 129 bytes, text of 128",
         key: &[
             0x2b, 0xa3, 0xc0, 0x68, 0xae, 0x03, 0xa3, 0x65, 0x3c, 0xcc, 0x5e, 0x2b, 0xc5, 0x2b,
@@ -272,7 +274,7 @@ static CASES: [Case; 12] = [
             0x60, 0xb4, 0xc2, 0x12, 0x31, 0xfc, 0x05, 0xaf,
         ],
     },
-    Case {
+    Keyed {
         name: "key of 200 bytes, text of 300",
         key: &[
             0xd7, 0x7b, 0x05, 0x8b, 0x0b, 0x4e, 0x43, 0xf2, 0xed, 0xdc, 0x27, 0xd0, 0xae, 0x3d,
@@ -330,65 +332,61 @@ static CASES: [Case; 12] = [
     },
 ];
 
-fn is_mac(case: &Case) -> bool {
-    hmac_sha256(case.key, case.text) == case.mac256
-        && hmac_sha512(case.key, case.text) == case.mac512
-}
-
-#[test]
-fn of_a_whole_text(rt: HostRuntime) {
-    for case in &CASES {
-        assert!(rt; is_mac(case), "{}", case.name);
+impl Case for Keyed {
+    fn name(&self) -> &'static str {
+        self.name
     }
-}
 
-fn mac256_of_pieces(case: &Case, size: usize) -> [u8; 32] {
-    let mut mac = Mac256::new(case.key);
-    for piece in case.text.chunks(size.max(1)) {
-        mac = mac.copy();
-        mac.update(piece);
+    fn holds(&self, _alloc: Global) -> bool {
+        hmac_sha512(self.key, self.text) == self.mac512 && self.is_mac_of_pieces()
     }
-    mac.finish()
-}
-
-fn mac512_of_pieces(case: &Case, size: usize) -> [u8; 64] {
-    let mut mac = Mac512::new(case.key);
-    for piece in case.text.chunks(size.max(1)) {
-        mac = mac.copy();
-        mac.update(piece);
-    }
-    mac.finish()
-}
-
-fn is_mac_of_pieces(case: &Case, size: usize) -> bool {
-    mac256_of_pieces(case, size) == case.mac256 && mac512_of_pieces(case, size) == case.mac512
 }
 
 static SIZES: [usize; 7] = [1, 7, 55, 64, 65, 128, 300];
 
-// In pieces of each of these sizes, and each time of a copy that is taken after the first piece.
-#[test]
-fn of_a_cut_text(rt: HostRuntime) {
-    for case in &CASES {
+impl Keyed {
+    // In pieces of each of these sizes, and each time of a copy that is taken before the piece.
+    fn is_mac_of_pieces(&self) -> bool {
         for size in &SIZES {
-            assert!(rt; is_mac_of_pieces(case, *size), "{} by {size}", case.name);
+            if self.mac256_of_pieces(*size) != self.mac256
+                || self.mac512_of_pieces(*size) != self.mac512
+            {
+                return false;
+            }
         }
+        true
+    }
+
+    fn mac256_of_pieces(&self, size: usize) -> [u8; 32] {
+        let mut mac = Mac256::new(self.key);
+        for piece in self.text.chunks(size.max(1)) {
+            mac = mac.copy();
+            mac.update(piece);
+        }
+        mac.finish()
+    }
+
+    fn mac512_of_pieces(&self, size: usize) -> [u8; 64] {
+        let mut mac = Mac512::new(self.key);
+        for piece in self.text.chunks(size.max(1)) {
+            mac = mac.copy();
+            mac.update(piece);
+        }
+        mac.finish()
     }
 }
 
 // RFC 4231, test case 5, which gives the first 16 bytes.
-static FIRST256: [u8; 16] = [
-    0xa3, 0xb6, 0x16, 0x74, 0x73, 0x10, 0x0e, 0xe0, 0x6e, 0x0c, 0x79, 0x6c, 0x29, 0x55, 0x55, 0x2b,
-];
-
 static FIRST512: [u8; 16] = [
     0x41, 0x5f, 0xad, 0x62, 0x71, 0x58, 0x0a, 0x53, 0x1d, 0x41, 0x79, 0xbc, 0x89, 0x1d, 0x87, 0xa6,
 ];
 
+fn is_cut_short() -> bool {
+    hmac_sha512(&[0x0c; 20], b"Test With Truncation").starts_with(&FIRST512)
+}
+
 #[test]
-fn cut_short(rt: HostRuntime) {
-    let key = [0x0c; 20];
-    let text = b"Test With Truncation";
-    assert!(rt; hmac_sha256(&key, text).starts_with(&FIRST256));
-    assert!(rt; hmac_sha512(&key, text).starts_with(&FIRST512));
+fn of_texts_whole_and_cut(rt: HostRuntime) {
+    each(&rt, rt.alloc(), &KEYED);
+    so(&rt, "RFC 4231, test case 5", is_cut_short());
 }

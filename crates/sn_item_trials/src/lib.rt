@@ -3,9 +3,11 @@
 #![tactic(auto)]
 
 #[cfg(test)]
-mod aes;
+mod cases;
 #[cfg(test)]
 mod cbc;
+#[cfg(test)]
+mod given;
 #[cfg(test)]
 mod hmac;
 #[cfg(test)]
@@ -14,7 +16,5 @@ mod items;
 mod keys;
 #[cfg(test)]
 mod notes;
-#[cfg(test)]
-mod pbkdf;
 #[cfg(test)]
 mod string;

@@ -1,53 +1,54 @@
 //! Copies and a note that were worked out by hand.
 
+use crate::cases::{Case, each, so};
 use sn_notes::{conflict_copy, note};
 use sn_string::uuid_of;
-use std::alloc::{AllocError, Global};
+use std::alloc::Global;
 
-struct CopyCase {
+struct Copied {
     content: &'static str,
     // What its copy begins with, before the member `conflict_of`; none where it is its own copy.
     front: Option<&'static str>,
 }
 
-static COPIES: [CopyCase; 10] = [
-    CopyCase {
+static COPIES: [Copied; 10] = [
+    Copied {
         content: "{}",
         front: Some("{"),
     },
-    CopyCase {
+    Copied {
         content: "{ }",
         front: Some("{ "),
     },
-    CopyCase {
+    Copied {
         content: "{\"title\":\"a\"}",
         front: Some("{\"title\":\"a\","),
     },
-    CopyCase {
+    Copied {
         content: "{\"a\":1} ",
         front: Some("{\"a\":1,"),
     },
-    CopyCase {
+    Copied {
         content: "{\"conflict_of\":\"x\"}",
         front: Some("{\"conflict_of\":\"x\","),
     },
-    CopyCase {
+    Copied {
         content: "{\"a\":{}\t}\r\n",
         front: Some("{\"a\":{}\t,"),
     },
-    CopyCase {
+    Copied {
         content: "{\"a\":\"{\"}",
         front: Some("{\"a\":\"{\","),
     },
-    CopyCase {
+    Copied {
         content: "[]",
         front: None,
     },
-    CopyCase {
+    Copied {
         content: "",
         front: None,
     },
-    CopyCase {
+    Copied {
         content: "{}\u{c}",
         front: None,
     },
@@ -55,19 +56,30 @@ static COPIES: [CopyCase; 10] = [
 
 const MEMBER: &str = "\"conflict_of\":\"00000000-0000-4000-8000-000000000001\"}";
 
-// The case's own content, or its front and the member that names the item.
-fn expected(alloc: Global, case: &CopyCase) -> Result<String, AllocError> {
-    match case.front {
-        Some(front) => format!(in alloc; "{front}{MEMBER}"),
-        None => case.content.to_string(alloc),
+impl Case for Copied {
+    fn name(&self) -> &'static str {
+        self.content
+    }
+
+    fn holds(&self, alloc: Global) -> bool {
+        self.is_copied(alloc) == Some(true)
     }
 }
 
-fn is_copied(alloc: Global, case: &CopyCase) -> Option<bool> {
-    let uuid = uuid_of("00000000-0000-4000-8000-000000000001")?;
-    let expected = expected(alloc, case).ok()?;
-    let copy = conflict_copy(alloc, case.content, uuid).ok()?;
-    Some(copy.as_str() == expected.as_str())
+impl Copied {
+    fn is_copied(&self, alloc: Global) -> Option<bool> {
+        let uuid = uuid_of("00000000-0000-4000-8000-000000000001")?;
+        let copy = conflict_copy(alloc, self.content, uuid).ok()?;
+        Some(self.is_expected(copy.as_str()))
+    }
+
+    // Its own content, or its front and the member that names the item.
+    fn is_expected(&self, copy: &str) -> bool {
+        match self.front {
+            Some(front) => copy.strip_prefix(front) == Some(MEMBER),
+            None => copy == self.content,
+        }
+    }
 }
 
 fn is_noted(alloc: Global) -> bool {
@@ -78,13 +90,7 @@ fn is_noted(alloc: Global) -> bool {
 }
 
 #[test]
-fn copies(rt: HostRuntime) {
-    for case in &COPIES {
-        assert!(rt;
-            is_copied(rt.alloc(), case) == Some(true),
-            "{}",
-            case.content
-        );
-    }
-    assert!(rt; is_noted(rt.alloc()));
+fn copies_and_a_note(rt: HostRuntime) {
+    each(&rt, rt.alloc(), &COPIES);
+    so(&rt, "a note", is_noted(rt.alloc()));
 }

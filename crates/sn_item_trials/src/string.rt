@@ -1,154 +1,17 @@
 //! What the clauses mean at written texts.
 
-use base64::engine::general_purpose::STANDARD;
+use crate::cases::so;
+use crate::given::alice;
 use sn_string::*;
 use std::alloc::{AllocError, Global};
-use std::test::Fail;
-use tables::{
-    CIPHERTEXT, HASH, HASHED, IV, PARAMETERS, PARAMS, PARTS, TEXTS, UUID, VERSION, WHOLE,
-};
+use tables::{CIPHERTEXT, HASH, HASHED, IV, PARAMS, UUID, WHOLE};
 use uuid::Uuid;
 
+mod rows;
 mod tables;
 
-// A text in parts. Its params part is the base64 of its JSON, where there is one.
-#[derive(Drop)]
-struct Pieces {
-    version: String,
-    hash: String,
-    uuid: String,
-    iv: String,
-    ciphertext: String,
-    params: String,
-}
-
-fn pieces_that_read(alloc: Global) -> Result<Pieces, AllocError> {
-    Ok(Pieces {
-        version: VERSION.to_string(alloc)?,
-        hash: HASH.to_string(alloc)?,
-        uuid: UUID.to_string(alloc)?,
-        iv: IV.to_string(alloc)?,
-        ciphertext: CIPHERTEXT.to_string(alloc)?,
-        params: PARAMS.to_string(alloc)?,
-    })
-}
-
-fn text_of(alloc: Global, pieces: &Pieces) -> Result<String, AllocError> {
-    let version = pieces.version.as_str();
-    let hash = pieces.hash.as_str();
-    let uuid = pieces.uuid.as_str();
-    let iv = pieces.iv.as_str();
-    let ciphertext = pieces.ciphertext.as_str();
-    let params = pieces.params.as_str();
-    format!(in alloc; "{version}:{hash}:{uuid}:{iv}:{ciphertext}:{params}")
-}
-
-fn put(alloc: Global, pieces: &mut Pieces, part: &str, piece: String) -> Result<(), AllocError> {
-    match part {
-        "version" => pieces.version = piece,
-        "hash" => pieces.hash = piece,
-        "uuid" => pieces.uuid = piece,
-        "iv" => pieces.iv = piece,
-        "ciphertext" => pieces.ciphertext = piece,
-        "json" => pieces.params = STANDARD.encode(alloc, piece.as_bytes())?,
-        _ => pieces.params = piece,
-    }
-    Ok(())
-}
-
-fn push_times(text: &mut String, unit: &str, count: usize) -> Result<(), AllocError> {
-    for _ in 0..count {
-        text.push_str(unit)?;
-    }
-    Ok(())
-}
-
-// `before*unit*3*after` written out.
-fn written_out(alloc: Global, piece: &str) -> Option<String> {
-    let mut words = piece.split('*');
-    let mut text = words.next()?.to_string(alloc).ok()?;
-    while let Some(unit) = words.next() {
-        let count = words.next()?.parse::<usize>().ok()?;
-        push_times(&mut text, unit, count).ok()?;
-        text.push_str(words.next()?).ok()?;
-    }
-    Some(text)
-}
-
-fn change(alloc: Global, pieces: &mut Pieces, change: &str) -> Option<()> {
-    let (part, piece) = change.split_once('=')?;
-    let piece = written_out(alloc, piece)?;
-    put(alloc, pieces, part, piece).ok()
-}
-
-fn changed(alloc: Global, changes: &str) -> Option<String> {
-    if let Some(whole) = changes.strip_prefix("whole=") {
-        return whole.to_string(alloc).ok();
-    }
-    let mut pieces = pieces_that_read(alloc).ok()?;
-    for one in changes.split(';') {
-        change(alloc, &mut pieces, one)?;
-    }
-    text_of(alloc, &pieces).ok()
-}
-
-// The name of the answer, and its place or count.
-fn answer(alloc: Global, text: &str) -> (&'static str, usize) {
-    match read(alloc, text) {
-        Ok(_) => ("Ok", 0),
-        Err(StringError::Parts { count }) => ("Parts", count),
-        Err(StringError::Version { place }) => ("Version", place),
-        Err(StringError::Hash { place }) => ("Hash", place),
-        Err(StringError::Uuid { place }) => ("Uuid", place),
-        Err(StringError::Iv { place }) => ("Iv", place),
-        Err(StringError::Ciphertext { place }) => ("Ciphertext", place),
-        Err(StringError::Params { place }) => ("Params", place),
-        Err(StringError::Memory) => ("Memory", 0),
-    }
-}
-
-fn is_answered(alloc: Global, row: &str) -> Option<bool> {
-    let (row, place) = row.rsplit_once('|')?;
-    let (changes, name) = row.rsplit_once('|')?;
-    let place = place.parse::<usize>().ok()?;
-    let text = changed(alloc, changes)?;
-    Some(answer(alloc, text.as_str()) == (name, place))
-}
-
-static TABLES: [&str; 3] = [TEXTS, PARTS, PARAMETERS];
-
-fn count_of(table: &str) -> u32 {
-    let mut rows = 0u32;
-    for row in table.lines() {
-        if !row.is_empty() {
-            rows = rows.saturating_add(1);
-        }
-    }
-    rows
-}
-
-#[test]
-fn reads_or_refuses(rt: HostRuntime) {
-    for table in &TABLES {
-        for row in table.lines() {
-            assert!(rt;
-                row.is_empty() || is_answered(rt.alloc(), row) == Some(true),
-                "{row}"
-            );
-        }
-    }
-    let two = count_of(TEXTS).saturating_add(count_of(PARTS));
-    assert_eq!(rt; two.saturating_add(count_of(PARAMETERS)), 146);
-}
-
-fn alice(alloc: Global) -> Option<Params> {
-    let identifier = Text::of(alloc, "alice").ok()?;
-    let pw_nonce = Text::of(alloc, "6e").ok()?;
-    Params::new(identifier, 1, pw_nonce)
-}
-
 // Whether a text was written, and is this one.
-fn is_text(written: Result<String, AllocError>, expected: &str) -> bool {
+fn is_text(written: &Result<String, AllocError>, expected: &str) -> bool {
     match written {
         Ok(text) => text.as_str() == expected,
         Err(_) => false,
@@ -156,56 +19,62 @@ fn is_text(written: Result<String, AllocError>, expected: &str) -> bool {
 }
 
 fn are_written(alloc: Global) -> bool {
-    match alice(alloc) {
-        Some(params) => is_text(params_text(alloc, &params), PARAMS),
+    match alice() {
+        Some(params) => is_text(&params_text(alloc, &params), PARAMS),
         None => false,
     }
 }
 
-#[test]
-fn writes_parameters(rt: HostRuntime) {
-    assert!(rt; are_written(rt.alloc()));
+fn reads_parts(alloc: Global) -> bool {
+    is_whole(alloc, &read(alloc, WHOLE))
 }
 
-fn reads_parts(alloc: Global) -> bool {
-    match read(alloc, WHOLE) {
-        Ok(parts) => {
-            parts.hash == HASH
-                && parts.uuid == UUID
-                && parts.iv == IV
-                && parts.ciphertext == CIPHERTEXT
-                && parts.params_text == PARAMS
-                && is_text(authenticated(alloc, &parts), HASHED)
+fn are_of_whole(parts: &Parts<'_>) -> bool {
+    let texts = [
+        parts.hash,
+        parts.uuid,
+        parts.iv,
+        parts.ciphertext,
+        parts.params_text,
+    ];
+    texts == [HASH, UUID, IV, CIPHERTEXT, PARAMS]
+}
+
+fn is_whole(alloc: Global, answer: &Result<Parts<'_>, StringError>) -> bool {
+    match answer {
+        Ok(parts) => are_of_whole(parts) && is_text(&authenticated(alloc, parts), HASHED),
+        Err(_) => false,
+    }
+}
+
+// What the hash covers is written, and then the whole text around the hash.
+fn is_around_its_hash(alloc: Global, bytes: &[u8]) -> bool {
+    match authenticated_text(alloc, UUID, IV, bytes, PARAMS) {
+        Ok(hashed) => {
+            hashed.as_str() == HASHED
+                && is_hash(HASH)
+                && is_text(&with_hash(alloc, hashed, HASH, PARAMS), WHOLE)
         }
         Err(_) => false,
     }
 }
 
-#[test]
-fn reads_its_parts(rt: HostRuntime) {
-    assert!(rt; reads_parts(rt.alloc()));
+fn is_written(alloc: Global) -> bool {
+    match base64_bytes(alloc, CIPHERTEXT) {
+        Ok(Some(bytes)) => is_around_its_hash(alloc, bytes.as_slice()),
+        _ => false,
+    }
 }
 
-#[test]
-fn writes_around_its_hash(rt: HostRuntime) -> Result<(), Fail> {
-    if !is_hash(HASH) {
-        return Err(Fail::from("hash"));
-    }
-    let bytes = base64_bytes(rt.alloc(), CIPHERTEXT)?.ok_or("base64")?;
-    let hashed = authenticated_text(rt.alloc(), UUID, IV, &bytes, PARAMS)?;
-    assert_eq!(rt; hashed.as_str(), HASHED);
-    let whole = with_hash(rt.alloc(), hashed, HASH, PARAMS)?;
-    assert_eq!(rt; whole.as_str(), WHOLE);
-    Ok(())
+fn is_counting(alloc: Global, hash: &[u8; 32]) -> bool {
+    hash[31] == 31
+        && hash_digits(hash).ends_with(b"1f")
+        && is_text(&hex_text(alloc, &hash[8..12]), "08090a0b")
 }
 
 fn spells_a_hash(alloc: Global) -> bool {
     match hash_bytes("000102030405060708090a0b0c0d0e0f101112131415161718191a1b1c1d1e1f") {
-        Some(hash) => {
-            hash[31] == 31
-                && hash_digits(&hash).ends_with(b"1f")
-                && is_text(hex_text(alloc, &hash[8..12]), "08090a0b")
-        }
+        Some(hash) => is_counting(alloc, &hash),
         None => false,
     }
 }
@@ -217,22 +86,17 @@ fn spells_an_iv() -> bool {
     }
 }
 
-fn spells_a_key(alloc: Global) -> bool {
-    match written_out(alloc, "*7f*64*") {
-        Some(digits) => key_bytes(digits.as_str()) == Some([0x7f; 64]),
-        None => false,
-    }
+fn spells_a_key() -> bool {
+    key_bytes(
+        "7f7f7f7f7f7f7f7f7f7f7f7f7f7f7f7f7f7f7f7f7f7f7f7f7f7f7f7f7f7f7f7f7f7f7f7f7f7f7f7f7f7f7f7f7f7f7f7f7f7f7f7f7f7f7f7f7f7f7f7f7f7f7f7f",
+    ) == Some([0x7f; 64])
 }
 
+const ANY_UUID: &str = "f81d4fae-7dec-11d0-a765-00a0c91e6bf6";
+
 fn spells_a_uuid(alloc: Global) -> bool {
-    match uuid_of("f81d4fae-7dec-11d0-a765-00a0c91e6bf6") {
-        Some(uuid) => {
-            uuid.as_bytes()[0] == 0xf8
-                && is_text(
-                    uuid_text(alloc, uuid),
-                    "f81d4fae-7dec-11d0-a765-00a0c91e6bf6",
-                )
-        }
+    match uuid_of(ANY_UUID) {
+        Some(uuid) => uuid.as_bytes()[0] == 0xf8 && is_text(&uuid_text(alloc, uuid), ANY_UUID),
         None => false,
     }
 }
@@ -241,56 +105,64 @@ fn spells_base64(alloc: Global) -> bool {
     match base64_bytes(alloc, "Zm9vYmFyIQ==") {
         Ok(Some(bytes)) => {
             bytes.as_slice() == b"foobar!".as_slice()
-                && is_text(base64_text(alloc, b"foobar!"), "Zm9vYmFyIQ==")
+                && is_text(&base64_text(alloc, b"foobar!"), "Zm9vYmFyIQ==")
         }
         _ => false,
     }
 }
 
-#[test]
-fn spells_bytes(rt: HostRuntime) {
-    assert!(rt; spells_a_hash(rt.alloc()));
-    assert!(rt; spells_an_iv());
-    assert!(rt; spells_a_key(rt.alloc()));
-    assert!(rt; spells_a_uuid(rt.alloc()));
-    assert!(rt; spells_base64(rt.alloc()));
-    assert!(rt; matches!(base64_bytes(rt.alloc(), "Zm9vYmFyIR=="), Ok(None)));
+fn is_no_base64(alloc: Global) -> bool {
+    matches!(base64_bytes(alloc, "Zm9vYmFyIR=="), Ok(None))
 }
 
-fn twice<T: TryClone>(alloc: Global, value: &T) -> Result<T, AllocError> {
-    value.try_clone(alloc)
+fn is_set(copy: &Result<KeySet, AllocError>, set: &KeySet) -> bool {
+    match copy {
+        Ok(copy) => copy.same(set),
+        Err(_) => false,
+    }
 }
 
-fn copies_a_set(alloc: Global) -> Option<bool> {
-    let set = KeySet {
-        params: alice(alloc)?,
+fn is_copied_set(alloc: Global, set: &KeySet) -> bool {
+    is_set(&set.try_clone(alloc), set)
+}
+
+fn set_of(params: Params) -> KeySet {
+    KeySet {
+        params,
         pw: [1; 32],
         mk: [2; 32],
         ak: [3; 32],
-    };
-    Some(twice(alloc, &set).ok()?.same(&set))
+    }
 }
 
-#[test]
-fn copies_sets(rt: HostRuntime) {
-    assert!(rt; copies_a_set(rt.alloc()) == Some(true));
+fn copies_a_set(alloc: Global) -> bool {
+    match alice() {
+        Some(params) => is_copied_set(alloc, &set_of(params)),
+        None => false,
+    }
 }
 
 fn is_alice(text: &Text) -> bool {
     text.as_str() == "alice" && text.len() == 5 && !text.is_empty()
 }
 
-fn copies_two_texts(alloc: Global) -> Option<bool> {
-    let fixed = twice(alloc, &Text::fixed("alice")).ok()?;
-    let text = Text::of(alloc, "alice").ok()?;
-    let owned = twice(alloc, &text).ok()?;
-    let are_alike = owned.same(&fixed) && !owned.same(&Text::fixed("bob"));
-    Some(is_alice(&owned) && is_alice(&fixed) && are_alike)
+fn is_copied(alloc: Global, text: &Text, same: &Text) -> bool {
+    match text.try_clone(alloc) {
+        Ok(copy) => is_alice(&copy) && copy.same(same),
+        Err(_) => false,
+    }
 }
 
-#[test]
-fn copies_texts(rt: HostRuntime) {
-    assert!(rt; copies_two_texts(rt.alloc()) == Some(true));
+fn copies_an_owned_text(alloc: Global, alice: &Text, bob: &Text) -> bool {
+    match Text::of(alloc, "alice") {
+        Ok(text) => is_copied(alloc, &text, alice) && !text.same(bob),
+        Err(_) => false,
+    }
+}
+
+fn copies_texts(alloc: Global) -> bool {
+    let (alice, bob) = (Text::fixed("alice"), Text::fixed("bob"));
+    copies_an_owned_text(alloc, &alice, &bob) && is_copied(alloc, &alice, &alice)
 }
 
 fn is_ab(bytes: &Bytes) -> bool {
@@ -300,28 +172,43 @@ fn is_ab(bytes: &Bytes) -> bool {
         && bytes.same(bytes)
 }
 
-fn copies_two_bytes(alloc: Global) -> Option<bool> {
-    let bytes = Bytes::of(alloc, b"ab").ok()?;
-    let copy = twice(alloc, &bytes).ok()?;
-    Some(is_ab(&Bytes::of_vec(copy.into_vec())))
+fn are_copied(alloc: Global, bytes: &Bytes) -> bool {
+    match bytes.try_clone(alloc) {
+        Ok(copy) => is_ab(&Bytes::of_vec(copy.into_vec())),
+        Err(_) => false,
+    }
 }
 
-#[test]
-fn copies_bytes(rt: HostRuntime) {
-    assert!(rt; copies_two_bytes(rt.alloc()) == Some(true));
+fn copies_ab(alloc: Global) -> bool {
+    match Bytes::of(alloc, b"ab") {
+        Ok(bytes) => are_copied(alloc, &bytes),
+        Err(_) => false,
+    }
 }
 
-fn copies_a_list(alloc: Global) -> Option<bool> {
-    let mut many = OwnedList::new(alloc);
-    many.push(Some(7u32)).ok()?;
-    many.push(None).ok()?;
-    let many = OwnedList::of_vec(twice(alloc, &many).ok()?.into_vec());
-    Some(many.as_slice() == [Some(7u32), None].as_slice() && many.len() == 2 && !many.is_empty())
+fn push_two(list: &mut OwnedList<Option<u32>>) -> Result<(), AllocError> {
+    list.push(Some(7))?;
+    list.push(None)
 }
 
-#[test]
-fn copies_lists(rt: HostRuntime) {
-    assert!(rt; copies_a_list(rt.alloc()) == Some(true));
+fn has_two(list: &OwnedList<Option<u32>>) -> bool {
+    list.as_slice() == [Some(7u32), None].as_slice() && list.len() == 2 && !list.is_empty()
+}
+
+fn is_copied_list(alloc: Global, list: &OwnedList<Option<u32>>) -> bool {
+    match list.try_clone(alloc) {
+        Ok(copy) => has_two(&OwnedList::of_vec(copy.into_vec())),
+        Err(_) => false,
+    }
+}
+
+fn copies_a_list(alloc: Global) -> bool {
+    let mut list = OwnedList::new(alloc);
+    push_two(&mut list).is_ok() && is_copied_list(alloc, &list)
+}
+
+fn twice<T: TryClone>(alloc: Global, value: &T) -> Result<T, AllocError> {
+    value.try_clone(alloc)
 }
 
 fn copies_numbers(alloc: Global) -> bool {
@@ -334,7 +221,27 @@ fn copies_arrays(alloc: Global) -> bool {
 }
 
 #[test]
-fn copies_values(rt: HostRuntime) {
-    assert!(rt; copies_numbers(rt.alloc()));
-    assert!(rt; copies_arrays(rt.alloc()));
+fn writes_and_reads(rt: HostRuntime) {
+    so(&rt, "parameters", are_written(rt.alloc()));
+    so(&rt, "parts", reads_parts(rt.alloc()));
+    so(&rt, "a text around its hash", is_written(rt.alloc()));
+}
+
+#[test]
+fn spells_bytes(rt: HostRuntime) {
+    so(&rt, "a hash", spells_a_hash(rt.alloc()));
+    so(&rt, "a vector or a key", spells_an_iv() && spells_a_key());
+    so(&rt, "a uuid", spells_a_uuid(rt.alloc()));
+    so(&rt, "base64", spells_base64(rt.alloc()));
+    so(&rt, "no base64", is_no_base64(rt.alloc()));
+}
+
+#[test]
+fn copies(rt: HostRuntime) {
+    so(&rt, "a set", copies_a_set(rt.alloc()));
+    so(&rt, "texts", copies_texts(rt.alloc()));
+    so(&rt, "bytes", copies_ab(rt.alloc()));
+    so(&rt, "a list", copies_a_list(rt.alloc()));
+    so(&rt, "numbers", copies_numbers(rt.alloc()));
+    so(&rt, "arrays", copies_arrays(rt.alloc()));
 }

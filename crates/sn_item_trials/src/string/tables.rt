@@ -1,7 +1,7 @@
 //! Texts with the answer that the grammar gives, worked out by hand. A row has what differs from
 //! the text that reads, the name of the refusal or `Ok`, and its place or count. What differs is
 //! `part=piece` or several of them with `;` between; `whole` stands for the whole text, `json` for
-//! what the params part is the base64 of, and `before*unit*3*after` for three units between two ends.
+//! what the params part is the base64 of, and `before*unit^3*after` for three units between two ends.
 
 /// A text that reads, in its six parts.
 pub const VERSION: &str = "003";
@@ -111,18 +111,18 @@ ciphertext=A;uuid=|Uuid|69
 ciphertext=;iv=0|Iv|106
 params=;ciphertext=A|Ciphertext|139
 ciphertext=AAAAAAAAAAAAAAAAAAAAAAAAAAAAAAAAAAAAAAAAAAA=;params=|Params|184
-ciphertext=*A*64*|Ok|0
-ciphertext=*A*60*|Ciphertext|139
-ciphertext=*A*4092*|Ciphertext|139
-ciphertext=*A*4096*|Ok|0
-ciphertext=*A*4096*AAAAAAAAAAAAAAAAAAAAAA==|Ok|0
-ciphertext=*A*4096*AAAAAAAAAAAAAAAAAAAAAB==|Ciphertext|139
-ciphertext=*A*4096*AAAA|Ciphertext|139
-ciphertext=*A*4094*==AAAAAAAAAAAAAAAAAAAAAA==|Ciphertext|139
-ciphertext=*A*4095*=AAAAAAAAAAAAAAAAAAAAAA==|Ciphertext|139
-ciphertext=*A*8192*|Ok|0
-ciphertext=*A*8192*AA==|Ciphertext|139
-ciphertext=*A*8192*A|Ciphertext|139
+ciphertext=*A^64*|Ok|0
+ciphertext=*A^60*|Ciphertext|139
+ciphertext=*A^4092*|Ciphertext|139
+ciphertext=*A^4096*|Ok|0
+ciphertext=*A^4096*AAAAAAAAAAAAAAAAAAAAAA==|Ok|0
+ciphertext=*A^4096*AAAAAAAAAAAAAAAAAAAAAB==|Ciphertext|139
+ciphertext=*A^4096*AAAA|Ciphertext|139
+ciphertext=*A^4094*==AAAAAAAAAAAAAAAAAAAAAA==|Ciphertext|139
+ciphertext=*A^4095*=AAAAAAAAAAAAAAAAAAAAAA==|Ciphertext|139
+ciphertext=*A^8192*|Ok|0
+ciphertext=*A^8192*AA==|Ciphertext|139
+ciphertext=*A^8192*A|Ciphertext|139
 "#;
 
 /// Other parameters. Of members with one name the last counts; a part has at most 8,192 characters;
@@ -168,20 +168,20 @@ json="003"|Params|164
 json=null|Params|164
 json= |Params|164
 json={}|Params|164
-json={"identifier":"*x*254*","pw_cost":1,"pw_nonce":"6e","version":"003"}|Ok|0
-json={"identifier":"*x*255*","pw_cost":1,"pw_nonce":"6e","version":"003"}|Params|164
-json={"identifier":"*é*127*","pw_cost":1,"pw_nonce":"6e","version":"003"}|Ok|0
-json={"identifier":"*é*127*x","pw_cost":1,"pw_nonce":"6e","version":"003"}|Params|164
-json={"identifier":"*\u00e9*127*","pw_cost":1,"pw_nonce":"6e","version":"003"}|Ok|0
-json={"identifier":"alice","pw_cost":1,"pw_nonce":"*x*256*","version":"003"}|Ok|0
-json={"identifier":"alice","pw_cost":1,"pw_nonce":"*x*257*","version":"003"}|Params|164
-json={"identifier":"alice","pw_cost":1,"pw_nonce":"*é*128*","version":"003"}|Ok|0
-json={"identifier":"alice","pw_cost":1,"pw_nonce":"*é*128*x","version":"003"}|Params|164
-json={"identifier":"alice","pw_cost":1,* *6078*"pw_nonce":"6e","version":"003"}|Ok|0
-json={"identifier":"alice","pw_cost":1,* *6079*"pw_nonce":"6e","version":"003"}|Params|164
-json={"identifier":"alice","pw_cost":1,* *6077*"pw_nonce":"6e","version":"003"}|Ok|0
-json={"a":*[*1**]*1*,"identifier":"alice","pw_cost":1,"pw_nonce":"6e","version":"003"}|Ok|0
-json={"a":*[*125**]*125*,"identifier":"alice","pw_cost":1,"pw_nonce":"6e","version":"003"}|Ok|0
-json={"a":*[*126**]*126*,"identifier":"alice","pw_cost":1,"pw_nonce":"6e","version":"003"}|Ok|0
-json={"a":*[*127**]*127*,"identifier":"alice","pw_cost":1,"pw_nonce":"6e","version":"003"}|Params|164
+json={"identifier":"*x^254*","pw_cost":1,"pw_nonce":"6e","version":"003"}|Ok|0
+json={"identifier":"*x^255*","pw_cost":1,"pw_nonce":"6e","version":"003"}|Params|164
+json={"identifier":"*é^127*","pw_cost":1,"pw_nonce":"6e","version":"003"}|Ok|0
+json={"identifier":"*é^127*x","pw_cost":1,"pw_nonce":"6e","version":"003"}|Params|164
+json={"identifier":"*\u00e9^127*","pw_cost":1,"pw_nonce":"6e","version":"003"}|Ok|0
+json={"identifier":"alice","pw_cost":1,"pw_nonce":"*x^256*","version":"003"}|Ok|0
+json={"identifier":"alice","pw_cost":1,"pw_nonce":"*x^257*","version":"003"}|Params|164
+json={"identifier":"alice","pw_cost":1,"pw_nonce":"*é^128*","version":"003"}|Ok|0
+json={"identifier":"alice","pw_cost":1,"pw_nonce":"*é^128*x","version":"003"}|Params|164
+json={"identifier":"alice","pw_cost":1,* ^6078*"pw_nonce":"6e","version":"003"}|Ok|0
+json={"identifier":"alice","pw_cost":1,* ^6079*"pw_nonce":"6e","version":"003"}|Params|164
+json={"identifier":"alice","pw_cost":1,* ^6077*"pw_nonce":"6e","version":"003"}|Ok|0
+json={"a":*[^1**]^1*,"identifier":"alice","pw_cost":1,"pw_nonce":"6e","version":"003"}|Ok|0
+json={"a":*[^125**]^125*,"identifier":"alice","pw_cost":1,"pw_nonce":"6e","version":"003"}|Ok|0
+json={"a":*[^126**]^126*,"identifier":"alice","pw_cost":1,"pw_nonce":"6e","version":"003"}|Ok|0
+json={"a":*[^127**]^127*,"identifier":"alice","pw_cost":1,"pw_nonce":"6e","version":"003"}|Params|164
 "#;
