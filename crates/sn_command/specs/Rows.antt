@@ -1,5 +1,5 @@
 -- What the table of commands declares, a row at a time.
-use Rattle.std.specs.Prelude.{List, fold}
+use Rattle.std.specs.Prelude.{fold}
 use Rattle.clap.specs.Simple.{App, Shape, new_app, with_rule, with_subcommand}
 use Rattle.sn_command.specs.Syntax.{option_rule}
 use Rattle.sn_command.specs.declared.commands.CommandRow.{CommandRow}

@@ -81,21 +81,9 @@ fn with_options<'a>(
 {
     let mut command = start;
     for row in rows {
-        command = with_option(alloc, command, row)?;
+        command = command.arg(option(alloc, row))?;
     }
     Ok(command)
-}
-
-fn with_option<'a>(
-    alloc: Global,
-    command: Command<'a>,
-    row: &OptionRow,
-) -> Result<Command<'a>, AllocError>
-    requires { (fields_of command).has_globals ≡ false }
-    ensures app { IfOk result (λ more. app_of more ≡ with_option_row (app_of command.entry) row.now) }
-    ensures local { IfOk result (λ more. (fields_of more).has_globals ≡ false) }
-{
-    command.arg(option(alloc, row))
 }
 
 fn option<'a>(alloc: Global, row: &OptionRow) -> Arg<'a>
