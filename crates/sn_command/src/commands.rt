@@ -198,26 +198,24 @@ const LIST: CommandRow = CommandRow {
     options: &[STORE, CHOSEN_UUID],
 };
 
-const COMMANDS: [CommandRow; 14] = [
-    SEAL,
-    OPEN,
-    SHOW,
-    REPLAY,
-    GEN,
-    SERVE,
-    REGISTER,
-    SIGN_IN,
-    SYNC,
-    CHANGE_PASSWORD,
-    PUT,
-    EDIT,
-    DELETE,
-    LIST,
-];
-
 /// The commands, in the order in which help shows them.
-pub fn command_rows() -> &'static [CommandRow]
-    ensures { fold with_command_row sn_top result.now ≡ sn_app }
+pub fn command_rows() -> [&'static CommandRow; 14]
+    ensures { fold with_command_row sn_top result ≡ sn_app }
 {
-    &COMMANDS
+    [
+        &SEAL,
+        &OPEN,
+        &SHOW,
+        &REPLAY,
+        &GEN,
+        &SERVE,
+        &REGISTER,
+        &SIGN_IN,
+        &SYNC,
+        &CHANGE_PASSWORD,
+        &PUT,
+        &EDIT,
+        &DELETE,
+        &LIST,
+    ]
 }

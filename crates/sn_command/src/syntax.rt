@@ -1,6 +1,6 @@
 // The program's command line, as `clap` takes it.
 ghost use Rattle.std.specs.Prelude.{◌≡◌, IfOk, false, fold};
-ghost use Rattle.clap.specs.Simple.{app_of, shape_of};
+ghost use Rattle.clap.specs.Simple.{app_of, shape_of, with_subcommand};
 ghost use Rattle.clap.specs.Walk.{rule_of};
 ghost use Rattle.clap.specs.declared.builder.command.Command.TheViews.{out-Command as fields_of};
 ghost use Rattle.sn_command.specs.Rows.{shape_of_row, with_command_row, with_option_row};
@@ -20,7 +20,7 @@ const AFTER: &str =
 pub fn sn<'a>(alloc: Global) -> Result<Command<'a>, AllocError>
     ensures { IfOk result (λ command. app_of command ≡ sn_app) }
 {
-    with_commands(alloc, top(alloc)?, command_rows())
+    with_commands(alloc, top(alloc)?, &command_rows())
 }
 
 // The name is also that in the usage lines of the commands, since no word names the program.
@@ -41,7 +41,7 @@ fn top<'a>(alloc: Global) -> Result<Command<'a>, AllocError>
 fn with_commands<'a>(
     alloc: Global,
     start: Command<'a>,
-    rows: &[CommandRow],
+    rows: &[&CommandRow],
 ) -> Result<Command<'a>, AllocError>
     ensures { IfOk result (λ command. app_of command ≡ fold with_command_row (app_of start.entry) rows.now) }
 {
@@ -57,7 +57,7 @@ fn with_command<'a>(
     command: Command<'a>,
     row: &CommandRow,
 ) -> Result<Command<'a>, AllocError>
-    ensures { IfOk result (λ more. app_of more ≡ with_command_row (app_of command.entry) row.now) }
+    ensures { IfOk result (λ more. app_of more ≡ with_subcommand (app_of command.entry) (shape_of_row row.now)) }
 {
     command.subcommand(declared(alloc, row)?)
 }

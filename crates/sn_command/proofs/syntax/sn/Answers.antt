@@ -6,7 +6,7 @@ use Rattle.sn_command.proofs.syntax.sn.Goals as goal
 
 pub returns : goal.returns
 returns c =
-    let rows = c.command_rows.result.now in
+    let rows = c.command_rows.result in
     let whole : fold with_command_row (app_of c.in_ok-top.field-0) rows ≡ sn_app =
     ap (λ (a : App). fold with_command_row a rows) c.in_ok-top.ensures ∙ c.command_rows.ensures in
     subst (λ (a : App). IfOk c.with_commands.result (λ command. app_of command ≡ a)) whole c.with_commands.ensures
