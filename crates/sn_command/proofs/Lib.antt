@@ -5,4 +5,5 @@ pub mod Givens
 pub mod Numerals
 pub mod OneDevice
 pub mod OneLine
+pub mod RowFolds
 pub mod ServerLemmas

@@ -3,6 +3,7 @@ pub mod Commands
 pub mod DeviceLines
 pub mod Given
 pub mod Named
+pub mod Rows
 pub mod Servers
 pub mod Syntax
 pub mod Words

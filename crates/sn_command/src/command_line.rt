@@ -4,7 +4,7 @@ ghost use Rattle.std.specs.Prelude.{◌≡◌, ◌≢◌, ℕ, List, codes, Some
 ghost use Rattle.sn_string.specs.Bounds.{IsIdentifier, IsCost, IsNonce};
 ghost use Rattle.sn_command.specs.CommandLine.{SealLine, OpenLine, GenLine, ServeLine, IsSealLine, IsOpenLine, IsGenLine, IsServeLine, GivesItem, GivesParams};
 ghost use Rattle.sn_command.specs.Commands.{IsCommand, IsLineError};
-ghost use Rattle.sn_command.specs.Given.{IsGivenBy};
+ghost use Rattle.sn_command.specs.Given.{IsGivenBy, IsNotTaken};
 ghost use Rattle.sn_command.specs.Syntax.{value_of};
 ghost use Rattle.sn_command.specs.Words.{texts};
 
@@ -88,10 +88,20 @@ pub fn command_of<'a>(alloc: Global, words: &'a [String]) -> Result<Command<'a>,
             Some(command) => Ok(command),
             None => Err(LineError::Usage),
         },
-        Err(NotTaken::Help(text)) => Ok(Command::Help(text)),
-        Err(NotTaken::Version(text)) => Ok(Command::Version(text)),
-        Err(NotTaken::Fault) => Err(LineError::Usage),
-        Err(NotTaken::Memory) => Err(LineError::Memory),
+        Err(error) => asked(error),
+    }
+}
+
+// What words that give no command ask for, or why they are refused.
+fn asked<'a>(error: NotTaken) -> Result<Command<'a>, LineError>
+    ensures command { (words : List (List ℕ)) → IsNotTaken words error → IfOk result (IsCommand words) }
+    ensures none { (words : List (List ℕ)) → IsNotTaken words error → IfErr result (IsLineError words) }
+{
+    match error {
+        NotTaken::Help(text) => Ok(Command::Help(text)),
+        NotTaken::Version(text) => Ok(Command::Version(text)),
+        NotTaken::Fault => Err(LineError::Usage),
+        NotTaken::Memory => Err(LineError::Memory),
     }
 }
 

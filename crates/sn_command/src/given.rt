@@ -21,7 +21,7 @@ pub struct Given<'a> {
 }
 
 /// Why the words give no command.
-#[derive(Debug, Drop)]
+#[derive(Drop)]
 pub enum NotTaken {
     /// They ask for help; its text.
     Help(Error),

@@ -2,6 +2,7 @@
 #![tactic(auto)]
 
 mod command_line;
+mod commands;
 mod cost;
 mod device_line;
 mod given;

@@ -30,7 +30,5 @@ pub fn whole_number(text: &str) -> Option<u32>
 fn begins_with_nonzero_digit(text: &str) -> bool
     ensures { IsTrue result ↔ ((48 < slice_index text.now 0) × (slice_index text.now 0 < 58)) }
 {
-    text.as_bytes()
-        .first()
-        .is_some_and(|digit| (b'1'..=b'9').contains(digit))
+    matches!(text.as_bytes().first(), Some(b'1'..=b'9'))
 }
