@@ -5,7 +5,7 @@ ghost use Rattle.std.specs.Option.{option_copied};
 ghost use Rattle.sn_laws.specs.Lookups.{account_for, greatest, held_by, is_account, is_device, is_draft};
 ghost use Rattle.sn_laws.specs.Moves.{accepted, after, changed_where, edited, joined, posted_under, registered, sent_content, version_of, without};
 
-use crate::clones::copies;
+use crate::clones::{copies, push_copy};
 use crate::ideal::{Account, Body, Content, Device, Draft, Ideal, Posted, Version};
 use crate::lookups::{
     account_of, account_with, device_named, draft_at, greatest_held, is_at, is_called,
@@ -27,7 +27,7 @@ fn registered(
     ensures { IfOk result (λ next. next ≡ registered accounts.now identifier.now set.now) }
 {
     let mut sets = OwnedList::new(alloc);
-    sets.push(set.try_clone(alloc)?)?;
+    push_copy(alloc, &mut sets, set)?;
     let mut next = copies(alloc, accounts)?;
     next.push(Account {
         identifier: identifier.try_clone(alloc)?,
@@ -165,7 +165,7 @@ fn with_posted(
         if is_at(draft, device, uuid) {
             next.push(posted(alloc, draft, number)?)?;
         } else {
-            next.push(draft.try_clone(alloc)?)?;
+            push_copy(alloc, &mut next, draft)?;
         }
     }
     Ok(next)
@@ -260,7 +260,7 @@ fn without_draft(
     let mut next = OwnedList::new(alloc);
     for draft in drafts {
         if !is_at(draft, device, uuid) {
-            next.push(draft.try_clone(alloc)?)?;
+            push_copy(alloc, &mut next, draft)?;
         }
     }
     Ok(next)
