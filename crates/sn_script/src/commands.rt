@@ -87,10 +87,8 @@ fn make_entry(
     password: &str,
     fates: OwnedList<Fate>,
 ) -> Result<Entry, AllocError>
-    ensures device { IfOk result (λ e. e.device ≡ device.now) }
-    ensures identifier { IfOk result (λ e. e.identifier ≡ identifier.now) }
-    ensures password { IfOk result (λ e. e.password ≡ password.now) }
-    ensures fates { IfOk result (λ e. e.fates ≡ fates) }
+    ensures { IfOk result (λ e. e
+        ≡ record { device = device.now; identifier = identifier.now; password = password.now; fates = fates }) }
 {
     Ok(Entry {
         device: Text::of(alloc, device)?,
