@@ -1,6 +1,6 @@
 // Copies of states.
 
-ghost use Rattle.std.specs.Prelude.{◌≡◌, IfOk};
+ghost use Rattle.std.specs.Prelude.{◌≡◌, ◌∷◌, ◌++◌, [], IfOk, OnOk};
 
 use crate::ideal::{Account, Body, Content, Device, Draft, Ideal, Posted, Version};
 use sn_string::{OwnedList, TryClone};
@@ -87,13 +87,24 @@ impl TryClone for Ideal {
     }
 }
 
+/// One more element, the same as this value.
+pub fn push_copy<T: TryClone + Drop>(
+    alloc: Global,
+    values: &mut OwnedList<T>,
+    value: &T,
+) -> Result<(), AllocError>
+    ensures { OnOk result (values.new ≡ values.old ++ value.now ∷ []) }
+{
+    values.push(value.try_clone(alloc)?)
+}
+
 /// A list of the same elements.
 pub fn copies<T: TryClone + Drop>(alloc: Global, values: &[T]) -> Result<OwnedList<T>, AllocError>
     ensures { IfOk result (λ copy. copy ≡ values.now) }
 {
     let mut copy = OwnedList::new(alloc);
     for value in values {
-        copy.push(value.try_clone(alloc)?)?;
+        push_copy(alloc, &mut copy, value)?;
     }
     Ok(copy)
 }

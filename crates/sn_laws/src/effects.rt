@@ -1,11 +1,11 @@
 // What each move does.
 
-ghost use Rattle.std.specs.Prelude.{◌≡◌, List, [], ◌∷◌, ◌++◌, Option, Some, None, IfOk, find};
+ghost use Rattle.std.specs.Prelude.{◌≡◌, List, [], ◌∷◌, ◌++◌, Option, Some, None, IfOk, OnOk, find};
 ghost use Rattle.std.specs.Option.{option_copied};
 ghost use Rattle.sn_laws.specs.Lookups.{account_for, greatest, held_by, is_account, is_device, is_draft};
 ghost use Rattle.sn_laws.specs.Moves.{accepted, after, changed_where, edited, joined, posted_under, registered, sent_content, version_of, without};
 
-use crate::clones::copies;
+use crate::clones::{copies, push_copy};
 use crate::ideal::{Account, Body, Content, Device, Draft, Ideal, Posted, Version};
 use crate::lookups::{
     account_of, account_with, device_named, draft_at, greatest_held, is_at, is_called,
@@ -27,7 +27,7 @@ fn registered(
     ensures { IfOk result (λ next. next ≡ registered accounts.now identifier.now set.now) }
 {
     let mut sets = OwnedList::new(alloc);
-    sets.push(set.try_clone(alloc)?)?;
+    push_copy(alloc, &mut sets, set)?;
     let mut next = copies(alloc, accounts)?;
     next.push(Account {
         identifier: identifier.try_clone(alloc)?,
@@ -165,7 +165,7 @@ fn with_posted(
         if is_at(draft, device, uuid) {
             next.push(posted(alloc, draft, number)?)?;
         } else {
-            next.push(draft.try_clone(alloc)?)?;
+            push_copy(alloc, &mut next, draft)?;
         }
     }
     Ok(next)
@@ -200,6 +200,18 @@ fn version(alloc: Global, draft: &Draft, stamp: u64, number: u64) -> Result<Vers
     })
 }
 
+fn push_version(
+    alloc: Global,
+    versions: &mut OwnedList<Version>,
+    draft: &Draft,
+    stamp: u64,
+    number: u64,
+) -> Result<(), AllocError>
+    ensures { OnOk result (versions.new ≡ versions.old ++ version_of stamp number draft.now ∷ []) }
+{
+    versions.push(version(alloc, draft, stamp, number)?)
+}
+
 fn with_version(
     alloc: Global,
     accounts: &[Account],
@@ -214,8 +226,7 @@ fn with_version(
     for other in accounts {
         let mut changed = other.try_clone(alloc)?;
         if is_same_account(other, account) {
-            let version = version(alloc, draft, stamp, number)?;
-            changed.versions.push(version)?;
+            push_version(alloc, &mut changed.versions, draft, stamp, number)?;
         }
         next.push(changed)?;
     }
@@ -249,7 +260,7 @@ fn without_draft(
     let mut next = OwnedList::new(alloc);
     for draft in drafts {
         if !is_at(draft, device, uuid) {
-            next.push(draft.try_clone(alloc)?)?;
+            push_copy(alloc, &mut next, draft)?;
         }
     }
     Ok(next)

@@ -4,6 +4,7 @@ ghost use Rattle.std.specs.Prelude.{◌≡◌, IfOk};
 ghost use Rattle.sn_laws.specs.Lookups.{is_draft};
 ghost use Rattle.sn_laws.specs.Moves.{changed_where, copied, forked, renamed, settled_at};
 
+use crate::clones::push_copy;
 use crate::ideal::{Content, Draft};
 use crate::lookups::is_at;
 use sn_notes::conflict_copy;
@@ -73,7 +74,7 @@ pub fn with_fork(
         if is_at(draft, device, uuid) {
             next.push(forked(alloc, draft, other)?)?;
         } else {
-            next.push(draft.try_clone(alloc)?)?;
+            push_copy(alloc, &mut next, draft)?;
         }
     }
     Ok(next)

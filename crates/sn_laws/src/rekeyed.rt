@@ -5,7 +5,7 @@ ghost use Rattle.std.specs.Option.{option_copied};
 ghost use Rattle.sn_laws.specs.Lookups.{is_account, is_device, is_draft, last_of};
 ghost use Rattle.sn_laws.specs.Moves.{again, changed_where, resealed, rewrapped, unposted, without, without_number};
 
-use crate::clones::copies;
+use crate::clones::{copies, push_copy};
 use crate::ideal::{Account, Body, Device, Draft, Posted, Version};
 use crate::lookups::{is_at, is_called, is_named, is_same_account, last_version};
 use sn_string::{KeySet, OwnedList, Text, TryClone};
@@ -136,7 +136,7 @@ pub fn with_another_set(
     for account in accounts {
         let mut changed = account.try_clone(alloc)?;
         if is_named(account, identifier) {
-            changed.sets.push(set.try_clone(alloc)?)?;
+            push_copy(alloc, &mut changed.sets, set)?;
         }
         next.push(changed)?;
     }

@@ -71,6 +71,13 @@ two_words f [] d h = absurd (omega (arith, h))
 two_words f (x ∷ []) d h = absurd (omega (arith, h))
 two_words f (x ∷ y ∷ xs) d h = ap (λ ys. f x ∷ f y ∷ map f ys) (sym (rest_is 2 (x ∷ y ∷ xs)))
 
+pub three_words : {A : Type 0} (f : A → Word) (words : List A) (d : A) → 3 ≤ length words
+    → map f words ≡ f (get_or words 0 d) ∷ f (get_or words 1 d) ∷ f (get_or words 2 d) ∷ map f (take (length words - 3) (drop 3 words))
+three_words f [] d h = absurd (omega (arith, h))
+three_words f (x ∷ []) d h = absurd (omega (arith, h))
+three_words f (x ∷ y ∷ []) d h = absurd (omega (arith, h))
+three_words f (x ∷ y ∷ z ∷ xs) d h = ap (λ ys. f x ∷ f y ∷ f z ∷ map f ys) (sym (rest_is 3 (x ∷ y ∷ z ∷ xs)))
+
 pub both_words : {A : Type 0} (f : A → Word) (words : List A) (d : A) → length words ≡ 2
     → map f words ≡ f (get_or words 0 d) ∷ f (get_or words 1 d) ∷ []
 both_words f [] d h = absurd (omega (arith, h))

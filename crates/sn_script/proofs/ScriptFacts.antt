@@ -1,10 +1,11 @@
 -- The lines of a script so far.
-use Rattle.std.proofs.Common.{arith, ◌≡◌, ◌<◌, ◌+◌, ℕ, zero, suc, List, [], ◌∷◌, ◌++◌, length, Some, slice_get, ap, sym, ◌∙◌, subst, refl, map, take, get_or, Option, None, add-one, Bool, true, false, IsTrue, ◌↔◌}
+use Rattle.std.proofs.Common.{rules, arith, ◌≡◌, ◌<◌, ◌+◌, ℕ, zero, suc, List, [], ◌∷◌, ◌++◌, codes, length, Some, slice_get, ap, sym, ◌∙◌, subst, refl, map, take, get_or, Option, None, add-one, Result, Ok, Err, IfOk}
 use Rattle.std.specs.Option.{MatchOption}
-use Rattle.sn_script.specs.Grammar.{Word, parts, IsLine}
+use Rattle.sn_script.specs.Grammar.{Word, parts, IsLine, IsReading}
 use Rattle.sn_script.specs.Scripts.{AreLinesFrom, IsLineAt, IsFirstWrong, MayStandAt, lines_of}
 use Rattle.sn_script.specs.declared.script.Line.{Line}
-use Rattle.sn_script.proofs.LineFacts.{one_line}
+use Rattle.sn_script.specs.declared.script.Line.TheVariants as line
+use Rattle.sn_script.proofs.LineFacts.{begins, command, one_line}
 use Rattle.sn_script.proofs.Lists.{get_map, get_take, map-take, one_more_text, size_front}
 
 -- the lines of texts are one list
@@ -60,13 +61,25 @@ pub line_found : (place : ℕ) (text : Word) (o : Option Line) (l : Line) → Ma
 line_found place text o l h e =
     let M : Option Line → Type 0 = λ p. MatchOption p ((m : Line) → ¬ (IsLineAt place text m)) (IsLineAt place text) in subst M e h
 
--- a line that may not stand at its place leaves the text without one
-pub stands_nowhere : (place : ℕ) (text : Word) (l : Line) (b : Bool) → IsLine (parts 32 text) l → (IsTrue b ↔ MayStandAt place l) → b ≡ false
-    → (m : Line) → ¬ (IsLineAt place text m)
-stands_nowhere place text l b h decides none m is =
-    let same : m ≡ l = one_line (parts 32 text) m l is.0 h in
-    let t : b ≡ true = decides.1 (subst (MayStandAt place) same is.1) in
-    absurd (cc)
+-- a seed behind the first line stands nowhere
+pub no_later_seed : (place : ℕ) (w : Word) (rest : List Word) (l : Line) → 0 < place → w ≡ codes "seed" → IsLine (w ∷ rest) l → ¬ (MayStandAt place l)
+no_later_seed zero w rest l late e is may = absurd (omega (arith, late))
+no_later_seed (suc place) w rest (line.Seed bytes) late e is may = may
+no_later_seed (suc place) w rest l late e is may =
+    let same : codes "seed" ≡ command l = sym e ∙ begins (w ∷ rest) l is in absurd (search (rules, same))
+
+-- every other line may stand anywhere
+pub may_stand : (place : ℕ) (w : Word) (rest : List Word) (l : Line) → ¬ ((0 < place) × (w ≡ codes "seed")) → IsLine (w ∷ rest) l → MayStandAt place l
+may_stand zero w rest l never is = tt
+may_stand (suc place) w rest (line.Seed bytes) never is = absurd (never (omega arith, begins (w ∷ rest) (line.Seed bytes) is))
+may_stand (suc place) w rest l never is = tt
+
+pub stands : {E : Type 0} (place : ℕ) (w : Word) (rest : List Word) (r : Result (Option Line) E) → ¬ ((0 < place) × (w ≡ codes "seed"))
+    → IfOk r (IsReading (w ∷ rest))
+    → IfOk r (λ found. MatchOption found ((l : Line) → ¬ (IsLine (w ∷ rest) l × MayStandAt place l)) (λ l. IsLine (w ∷ rest) l × MayStandAt place l))
+stands place w rest (Ok None) never none = λ l is. none l is.0
+stands place w rest (Ok (Some l)) never is = (is, may_stand place w rest l never is)
+stands place w rest (Err e) never h = h
 
 -- a text that is no line is the first
 pub first_wrong : {A : Type 0} (f : A → Word) (text : List ℕ) (texts : List A) (lines : List Line) (place : ℕ) (d : A) → map f texts ≡ lines_of text

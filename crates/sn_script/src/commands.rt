@@ -1,7 +1,7 @@
 // The lines, one function a command. Each takes the words behind the command's.
-ghost use Rattle.std.specs.Prelude.{◌≡◌, ◌≤◌, ◌∷◌, List, ℕ, codes, map, IfNone, IfOk, IfSome, MatchOption};
+ghost use Rattle.std.specs.Prelude.{◌≡◌, ◌≤◌, ◌∷◌, ◌↔◌, List, ℕ, codes, map, IfNone, IfOk, IfSome, IsTrue, MatchOption};
 ghost use Rattle.std.specs.Fmt.{decimal};
-ghost use Rattle.sn_script.specs.Grammar.{IsEntry, IsLine, IsReading};
+ghost use Rattle.sn_script.specs.Grammar.{IsEntry, IsLine, IsReading, IsShort};
 ghost use Rattle.sn_script.specs.declared.script.Fate.{Fate};
 ghost use Rattle.sn_script.specs.declared.script.Line.{Line};
 
@@ -74,27 +74,44 @@ struct Entry {
     fates: OwnedList<Fate>,
 }
 
+fn are_short(identifier: &str, password: &str) -> bool
+    ensures { IsTrue result ↔ (IsShort identifier.now × IsShort password.now) }
+{
+    is_short(identifier) && is_short(password)
+}
+
+fn make_entry(
+    alloc: Global,
+    device: &str,
+    identifier: &str,
+    password: &str,
+    fates: OwnedList<Fate>,
+) -> Result<Entry, AllocError>
+    ensures { IfOk result (λ e. e
+        ≡ record { device = device.now; identifier = identifier.now; password = password.now; fates = fates }) }
+{
+    Ok(Entry {
+        device: Text::of(alloc, device)?,
+        identifier: Text::of(alloc, identifier)?,
+        password: Text::of(alloc, password)?,
+        fates,
+    })
+}
+
 fn entry_of(alloc: Global, words: &[&str]) -> Result<Option<Entry>, AllocError>
     ensures { IfOk result (λ found. MatchOption found
         ((device identifier password : List ℕ) (fates : List Fate) → ¬ (IsEntry (map (λ w. w.now) words.now) device identifier password fates))
         (λ e. IsEntry (map (λ w. w.now) words.now) e.device e.identifier e.password e.fates)) }
 {
-    match words {
-        [device, identifier, password, rest @ ..] => {
-            if !is_name(device) || !is_short(identifier) || !is_short(password) {
-                return Ok(None);
-            }
-            match losses(alloc, rest)? {
-                Some(fates) => Ok(Some(Entry {
-                    device: Text::of(alloc, device)?,
-                    identifier: Text::of(alloc, identifier)?,
-                    password: Text::of(alloc, password)?,
-                    fates,
-                })),
-                None => Ok(None),
-            }
-        }
-        _ => Ok(None),
+    let [device, identifier, password, rest @ ..] = words else {
+        return Ok(None);
+    };
+    if !is_name(device) || !are_short(identifier, password) {
+        return Ok(None);
+    }
+    match losses(alloc, rest)? {
+        Some(fates) => Ok(Some(make_entry(alloc, device, identifier, password, fates)?)),
+        None => Ok(None),
     }
 }
 

@@ -1,5 +1,5 @@
 // Fates: words that say what is lost, or where a disk stops.
-ghost use Rattle.std.specs.Prelude.{◌≡◌, ◌==◌, ◌↔◌, ◌&&◌, ◌||◌, List, ℕ, codes, map, nat_le, position, IfOk, IsTrue, MatchOption};
+ghost use Rattle.std.specs.Prelude.{◌≡◌, ◌==◌, ◌↔◌, ◌&&◌, ◌||◌, ◌∷◌, [], List, ℕ, codes, map, nat_le, position, IfOk, IsTrue, MatchOption};
 ghost use Rattle.sn_script.specs.Grammar.{is_hex_digit, AreLosses, IsCount, IsDiskStop, IsFate, IsImage, IsLoss, IsNamed, IsNumber, IsPlace, IsStop};
 ghost use Rattle.sn_script.specs.declared.script.Fate.{Fate};
 ghost use Rattle.sn_script.specs.declared.script.Ordinal.{Ordinal};
@@ -15,15 +15,20 @@ fn is_hex_digit(c: u8) -> bool
     is_digit(c) || (97 <= c && c <= 102)
 }
 
-fn is_image(word: &[u8]) -> bool
-    ensures { IsTrue result ↔ IsImage word.now }
+// A sign that the disk holds this byte at every unsynced place.
+fn is_filled(word: &[u8]) -> bool
+    ensures { IsTrue result ↔ ((high : ℕ) × (low : ℕ) × (word.now ≡ 120 ∷ high ∷ low ∷ []) × IsTrue (is_hex_digit high) × IsTrue (is_hex_digit low)) }
 {
     match word {
-        [b'o', b'l', b'd'] => true,
-        [b'n', b'e', b'w'] => true,
         [b'x', high, low] => is_hex_digit(*high) && is_hex_digit(*low),
         _ => false,
     }
+}
+
+fn is_image(word: &[u8]) -> bool
+    ensures { IsTrue result ↔ IsImage word.now }
+{
+    word == b"old".as_slice() || word == b"new".as_slice() || is_filled(word)
 }
 
 fn colon(word: &[u8]) -> Option<usize>

@@ -1,5 +1,5 @@
 // Single lines.
-ghost use Rattle.std.specs.Prelude.{◌≡◌, List, ℕ, map, MatchOption, IfOk, IsTrue, ◌↔◌};
+ghost use Rattle.std.specs.Prelude.{◌≡◌, ◌<◌, ◌∷◌, ◌↔◌, List, ℕ, codes, map, MatchOption, IfOk, IsTrue};
 ghost use Rattle.sn_script.specs.Grammar.{parts, IsLine, IsReading};
 ghost use Rattle.sn_script.specs.Scripts.{IsLineAt, MayStandAt};
 ghost use Rattle.sn_script.specs.declared.script.Line.{Line};
@@ -17,36 +17,76 @@ fn words_of<'a>(alloc: Global, text: &'a str) -> Result<Vec<&'a str>, AllocError
     text.split(' ').collect(alloc)
 }
 
-fn line_of(alloc: Global, words: &[&str]) -> Result<Option<Line>, AllocError>
-    ensures { IfOk result (IsReading (map (λ w. w.now) words.now)) }
+// The line of an item or of an account's password, where the command is none of the others.
+fn item_line(alloc: Global, command: &str, rest: &[&str]) -> Result<Option<Line>, AllocError>
+    requires no_seed { ¬ (command.now ≡ codes "seed") }
+    requires no_cost { ¬ (command.now ≡ codes "cost") }
+    requires no_clock { ¬ (command.now ≡ codes "clock") }
+    requires no_show { ¬ (command.now ≡ codes "show") }
+    requires no_register { ¬ (command.now ≡ codes "register") }
+    requires no_sign_in { ¬ (command.now ≡ codes "signin") }
+    requires no_sync { ¬ (command.now ≡ codes "sync") }
+    requires no_passwd { ¬ (command.now ≡ codes "passwd") }
+    ensures { IfOk result (IsReading (command.now ∷ map (λ w. w.now) rest.now)) }
 {
-    match words {
-        [] => Ok(None),
-        [command, rest @ ..] => match *command {
-            "seed" => Ok(seed_line(rest)),
-            "cost" => Ok(cost_line(rest)),
-            "clock" => Ok(clock_line(rest)),
-            "register" => register_line(alloc, rest),
-            "signin" => sign_in_line(alloc, rest),
-            "put" => put_line(alloc, rest),
-            "edit" => edit_line(alloc, rest),
-            "del" => delete_line(alloc, rest),
-            "sync" => sync_line(alloc, rest),
-            "passwd" => passwd_line(alloc, rest),
-            "late" => late_line(alloc, rest),
-            "show" => Ok(show_line(rest)),
-            _ => Ok(None),
-        },
+    match command {
+        "put" => put_line(alloc, rest),
+        "edit" => edit_line(alloc, rest),
+        "del" => delete_line(alloc, rest),
+        "late" => late_line(alloc, rest),
+        _ => Ok(None),
+    }
+}
+
+// The line of a device, where the command sets nothing.
+fn device_line(alloc: Global, command: &str, rest: &[&str]) -> Result<Option<Line>, AllocError>
+    requires no_seed { ¬ (command.now ≡ codes "seed") }
+    requires no_cost { ¬ (command.now ≡ codes "cost") }
+    requires no_clock { ¬ (command.now ≡ codes "clock") }
+    requires no_show { ¬ (command.now ≡ codes "show") }
+    ensures { IfOk result (IsReading (command.now ∷ map (λ w. w.now) rest.now)) }
+{
+    match command {
+        "register" => register_line(alloc, rest),
+        "signin" => sign_in_line(alloc, rest),
+        "sync" => sync_line(alloc, rest),
+        "passwd" => passwd_line(alloc, rest),
+        _ => item_line(alloc, command, rest),
+    }
+}
+
+fn command_line(alloc: Global, command: &str, rest: &[&str]) -> Result<Option<Line>, AllocError>
+    ensures { IfOk result (IsReading (command.now ∷ map (λ w. w.now) rest.now)) }
+{
+    match command {
+        "seed" => Ok(seed_line(rest)),
+        "cost" => Ok(cost_line(rest)),
+        "clock" => Ok(clock_line(rest)),
+        "show" => Ok(show_line(rest)),
+        _ => device_line(alloc, command, rest),
     }
 }
 
 // Only the first line may be a seed.
-fn may_stand_at(place: usize, line: &Line) -> bool
-    ensures { IsTrue result ↔ MayStandAt place line.now }
+fn is_later_seed(place: usize, command: &str) -> bool
+    ensures { IsTrue result ↔ ((0 < place) × (command.now ≡ codes "seed")) }
 {
-    match line {
-        Line::Seed(_) => place == 0,
-        _ => true,
+    0 < place && command == "seed"
+}
+
+fn line_of(alloc: Global, place: usize, words: &[&str]) -> Result<Option<Line>, AllocError>
+    ensures { IfOk result (λ found. MatchOption found
+        ((l : Line) → ¬ (IsLine (map (λ w. w.now) words.now) l × MayStandAt place l))
+        (λ l. IsLine (map (λ w. w.now) words.now) l × MayStandAt place l)) }
+{
+    match words {
+        [] => Ok(None),
+        [command, rest @ ..] => {
+            if is_later_seed(place, command) {
+                return Ok(None);
+            }
+            command_line(alloc, command, rest)
+        }
     }
 }
 
@@ -55,14 +95,5 @@ pub fn line_at(alloc: Global, place: usize, text: &str) -> Result<Option<Line>, 
     ensures { IfOk result (λ found. MatchOption found ((l : Line) → ¬ (IsLineAt place text.now l)) (IsLineAt place text.now)) }
 {
     let words = words_of(alloc, text)?;
-    match line_of(alloc, words.as_slice())? {
-        Some(line) => {
-            if may_stand_at(place, &line) {
-                Ok(Some(line))
-            } else {
-                Ok(None)
-            }
-        }
-        None => Ok(None),
-    }
+    line_of(alloc, place, words.as_slice())
 }
