@@ -12,6 +12,7 @@ ghost use Rattle.sn_row_map.specs.RowMaps.{row_in};
 ghost use Rattle.sn_table.specs.Tables.{table_rows};
 ghost use Rattle.sn_drafts.specs.Making.{DrawsNone, MayEdit, PutsBoth, PutsDraft, RefusesEdit};
 ghost use Rattle.sn_drafts.specs.Refusing.{MayRefuse, Prepares};
+ghost use Rattle.sn_sets.specs.declared.sets.Sets.{Sets};
 ghost use Rattle.sn_sets.specs.Seals.{IsLater, Seals};
 ghost use Rattle.sn_local.specs.Index.{Indexes};
 ghost use Rattle.sn_device.specs.Draws.{DrawsFresh};
@@ -231,6 +232,22 @@ pub fn changes_to_delete<D: Disk>(
     ensures err { (words : ChaCha) → IfErr result (MayRefuse (RunsDelete uuid (row_in (table_rows table.now)) words)) }
 {
     let _sets = held_sets(alloc, table)?;
+    delete_under(alloc, table, index, uuid)
+}
+
+// The same on a device that has an account.
+fn delete_under<D: Disk>(
+    alloc: Global,
+    table: &Table<D>,
+    index: &Index,
+    uuid: Uuid,
+) -> Result<Vec<Change>, ClientError>
+    requires indexed { Indexes index.now (row_in (table_rows table.now)) }
+    requires holds { (owner : OwnerRow) × (sets : Sets) × HasSets (row_in (table_rows table.now)) owner sets }
+    ensures step { IfOk result (λ changes. Deletes (row_in (table_rows table.now)) uuid changes.items) }
+    ensures runs { (words : ChaCha) → IfOk result (λ changes. Prepares (RunsDelete uuid (row_in (table_rows table.now)) words) (deletes uuid) changes.items nothing words) }
+    ensures err { (words : ChaCha) → IfErr result (MayRefuse (RunsDelete uuid (row_in (table_rows table.now)) words)) }
+{
     let Some((number, item)) = find(table, index, uuid) else {
         return Err(ClientError::NoItem { uuid });
     };
