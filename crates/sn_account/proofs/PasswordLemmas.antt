@@ -3,7 +3,7 @@ use Rattle.std.proofs.Common.{◌≡◌, ◌∙◌, ◌≤◌, ◌<◌, ℕ, suc
 use Rattle.std.specs.Prelude.{codes}
 use Rattle.std.proofs.Math.Nat.{eq-or-lt_of_le}
 use Rattle.sn_keys.specs.Keys.{check_value}
-use Rattle.sn_rows.specs.Table.{Puts, Rows}
+use Rattle.sn_rows.specs.Table.{Rows}
 use Rattle.sn_rows.specs.declared.change.Change.{Change}
 use Rattle.sn_rows.specs.declared.key.Key.TheVariants as key
 use Rattle.sn_rows.specs.declared.server_rows.AccountRow.{AccountRow}
@@ -16,7 +16,7 @@ use Rattle.sn_sync.specs.declared.answer.Answer.TheVariants as answer
 use Rattle.sn_sync.specs.declared.answer.More.TheVariants as more
 use Rattle.sn_account.specs.Lookups.{Bytes, HasAccount, HasGeneration, HasStore}
 use Rattle.sn_account.specs.declared.accounts.Ruled.{Ruled}
-use Rattle.sn_account.specs.Rules.{ChangesKeys, ChangesPassword, IsPresent, IsUsed, NoneBehind, Replaces}
+use Rattle.sn_account.specs.Rules.{ChangesKeys, ChangesPassword, IsPresent, IsUsed, NoneBehind, PutsAccount, PutsGeneration, Replaces}
 use Rattle.sn_account.specs.Sessions.{IsSession, account_uuid, session_token}
 use Rattle.sn_account.specs.Sound.{IsSound, most_generations}
 
@@ -80,35 +80,21 @@ had_none_more rows n nonce i earlier here g low below had =
 
 pub replaces : (rows : Rows) (store held : StoreRow) (n : ℕ) (a : AccountRow) (pw : Bytes) (cost : ℕ) (nonce : Bytes) (next : ℕ)
     → HasStore rows store → HasStore rows held → next ≡ suc a.generation
-    → (first : Change) (account : AccountRow) → Puts first (key.Account n) (value.Account account)
-    → (account.identifier ≡ a.identifier) × (account.generation ≡ next) × (account.check ≡ check_value pw)
-    → (second : Change) (generation : GenerationRow) → Puts second (key.Generation n next) (value.Generation generation)
-    → (generation.pw_cost ≡ cost) × (generation.pw_nonce ≡ nonce)
-    → (changes : List Change) → changes ≡ first ∷ second ∷ [] → (token identifier uuid : Bytes) → token ≡ session_token held.secret n next
-    → identifier ≡ a.identifier → uuid ≡ account_uuid n → Replaces store n a pw cost nonce changes (answer.Account token identifier uuid)
-replaces rows store held n a pw cost nonce next has stands next_is first account puts_account account_is second generation puts_generation
-    generation_is changes changes_are token identifier uuid token_is identifier_is uuid_is =
+    → (first second : Change) → PutsAccount first n a.identifier next (check_value pw) → PutsGeneration second n next cost nonce
+    → (changes : List Change) → changes ≡ first ∷ second ∷ []
+    → (given : Answer) → given ≡ answer.Account (session_token held.secret n next) a.identifier (account_uuid n)
+    → Replaces store n a pw cost nonce changes given
+replaces rows store held n a pw cost nonce next has stands next_is first second puts_account puts_generation changes changes_are given given_is =
     let secret : held.secret ≡ store.secret = ap (λ (s : StoreRow). s.secret) (one_store rows held store stands has) in
-    let t : token ≡ session_token store.secret n (suc a.generation) =
-    token_is ∙ ap (λ (s : Bytes). session_token s n next) secret ∙ ap (λ (g : ℕ). session_token store.secret n g) next_is in
     record {
       account = first;
-      account_puts = record {
-        row = account;
-        puts = puts_account;
-        identifier_is = account_is.0;
-        generation_is = account_is.1 ∙ next_is;
-        check_is = account_is.2;
-      };
+      account_puts = subst (λ (g : ℕ). PutsAccount first n a.identifier g (check_value pw)) next_is puts_account;
       generation = second;
-      generation_puts = record {
-        row = generation;
-        puts = subst (λ (g : ℕ). Puts second (key.Generation n g) (value.Generation generation)) next_is puts_generation;
-        cost_is = generation_is.0;
-        nonce_is = generation_is.1;
-      };
+      generation_puts = subst (λ (g : ℕ). PutsGeneration second n g cost nonce) next_is puts_generation;
       changes_are = changes_are;
-      answers = cc;
+      answers = given_is
+          ∙ ap (λ (s : Bytes). answer.Account (session_token s n next) a.identifier (account_uuid n)) secret
+          ∙ ap (λ (g : ℕ). answer.Account (session_token store.secret n g) a.identifier (account_uuid n)) next_is;
     }
 
 -- ---- a change of the keys

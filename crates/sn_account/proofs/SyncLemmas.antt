@@ -1,5 +1,5 @@
 -- A sync that is served.
-use Rattle.std.proofs.Common.{◌≡◌, ◌≢◌, ◌∙◌, ℕ, ◌≤◌, List, [], ◌∷◌, ◌++◌, length, Bool, true, false, Option, Some, None, Result, Ok, Err, IfOk, inl, inr, refl, sym, ap, subst, arith}
+use Rattle.std.proofs.Common.{◌≡◌, ◌≢◌, ◌∙◌, ℕ, ◌≤◌, List, [], ◌∷◌, ◌++◌, length, Bool, true, false, Option, Some, None, Result, Ok, Err, IfNone, IfOk, IfSome, inl, inr, refl, sym, ap, subst, arith}
 use Rattle.std.specs.Prelude.{◌↔◌, if◌then◌else◌}
 use Rattle.std.proofs.lemmas.Bool.{false_from_ne_true}
 use Rattle.sn_rows.specs.Facts.{put_here, put_or_not}
@@ -177,6 +177,17 @@ pub serves_ok : {E : Type 0} (rows : Rows) (store : StoreRow) (n : ℕ) (present
 serves_ok rows store n present items limit sync cursor now t p (Ok r) sound has is taken page reply =
     serves rows store n present items limit sync cursor now t p r sound has is taken page reply
 serves_ok rows store n present items limit sync cursor now t p (Err e) sound has is taken page reply = tt
+
+-- what is found is as said, and what is said of nothing
+pub some_found : {A E : Type 0} (r : Result (Option A) E) (P Q : A → Type 0) → ((a : A) → P a → Q a) → IfOk r (λ found. IfSome found P) → IfOk r (λ found. IfSome found Q)
+some_found (Ok (Some a)) P Q f h = f a h
+some_found (Ok None) P Q f h = h
+some_found (Err e) P Q f h = h
+
+pub none_found : {A E : Type 0} (r : Result (Option A) E) (P Q : Type 0) → (P → Q) → IfOk r (λ found. IfNone found P) → IfOk r (λ found. IfNone found Q)
+none_found (Ok (Some a)) P Q f h = h
+none_found (Ok None) P Q f h = f h
+none_found (Err e) P Q f h = h
 
 -- ---- the order of refusals
 

@@ -1,18 +1,19 @@
 //! Registration, parameters and sign-in.
 
-ghost use Rattle.std.specs.Prelude.{◌≡◌, ◌↔◌, ◌<◌, ◌≤◌, ◌^◌, [], codes, IfNone, IfOk, IfSome, IsTrue, MatchOption};
+ghost use Rattle.std.specs.Prelude.{◌≡◌, ◌↔◌, ◌<◌, ◌≤◌, ◌^◌, ◌∷◌, [], codes, IfNone, IfOk, IfSome, IsTrue, MatchOption};
 ghost use Rattle.sn_account.specs.Lookups.{Bytes, HasAccount, HasStore, IsNamed, IsUnknown};
 ghost use Rattle.sn_account.specs.Rules.{BeginsAccount, IsPresent, PutsAccount, PutsCount, PutsGeneration, Registers, SignsIn, TellsParams};
 ghost use Rattle.sn_account.specs.Sessions.{account_uuid, session_token};
 ghost use Rattle.sn_account.specs.Sound.{IsSound, most_accounts};
 ghost use Rattle.sn_account.specs.States.{IsUnmarked, state_rows};
 ghost use Rattle.sn_keys.specs.Keys.{check_value};
+ghost use Rattle.sn_rows.specs.declared.change.Change.{Change};
 ghost use Rattle.sn_rows.specs.declared.server_rows.AccountRow.{AccountRow};
 ghost use Rattle.sn_rows.specs.declared.server_rows.StoreRow.{StoreRow};
 ghost use Rattle.sn_sync.specs.declared.answer.Answer.TheVariants as answer;
 ghost use Rattle.sn_sync.specs.declared.answer.More.TheVariants as more;
 
-use crate::changes::{put_account, put_generation, put_store};
+use crate::changes::{put_account, put_generation, put_store, two_changes};
 use crate::refusals::refused;
 use crate::sessions::{account_uuid, session_token};
 use crate::state::State;
@@ -86,14 +87,31 @@ fn begin(
     ensures { IfOk result (λ ruled. BeginsAccount store.now params.now pw.now ruled.changes ruled.answer) }
 {
     let number = store.accounts + 1;
-    let account = first_account(alloc, number, params, pw)?;
-    let generation = first_generation(alloc, number, params)?;
-    let mut changes = OwnedList::new(alloc);
-    changes.push(account)?;
-    changes.push(generation)?;
-    changes.push(count_change(store))?;
+    let changes = first_changes(alloc, store, number, params, pw)?;
     let answer = admitted(alloc, &store.secret, number, 1, &params.identifier)?;
     Ok(Ruled { changes, answer })
+}
+
+// The changes that put a new account.
+fn first_changes(
+    alloc: Global,
+    store: &StoreRow,
+    number: u64,
+    params: &Params,
+    pw: &[u8; 32],
+) -> Result<OwnedList<Change>, AllocError>
+    requires { store.now.accounts < most_accounts }
+    ensures { IfOk result (λ changes. (account generation count : Change)
+        × PutsAccount account number params.now.identifier 1 (check_value pw.now)
+        × PutsGeneration generation number 1 params.now.pw_cost params.now.pw_nonce
+        × PutsCount count store.now
+        × (changes ≡ account ∷ generation ∷ count ∷ [])) }
+{
+    let account = first_account(alloc, number, params, pw)?;
+    let generation = first_generation(alloc, number, params)?;
+    let mut changes = two_changes(alloc, account, generation)?;
+    changes.push(count_change(store))?;
+    Ok(changes)
 }
 
 // The change that puts a new account.

@@ -1,11 +1,12 @@
 //! Changes that put one row.
 
-ghost use Rattle.std.specs.Prelude.{IfOk};
+ghost use Rattle.std.specs.Prelude.{◌≡◌, ◌∷◌, [], IfOk};
 ghost use Rattle.sn_rows.specs.declared.key.Key.TheVariants as key;
 ghost use Rattle.sn_rows.specs.declared.value.Value.TheVariants as value;
 ghost use Rattle.sn_rows.specs.Table.{Puts};
 
 use sn_rows::{AccountRow, Boxed, Change, GenerationRow, ItemRow, Key, Row, StoreRow, Value};
+use sn_string::OwnedList;
 use std::alloc::{AllocError, Global};
 use uuid::Uuid;
 
@@ -44,4 +45,18 @@ pub(crate) fn put_item(uuid: Uuid, row: ItemRow) -> Change
         key: Key::Item(uuid),
         value: Value::Item(row),
     })
+}
+
+// Two changes, in order.
+pub(crate) fn two_changes(
+    alloc: Global,
+    first: Change,
+    second: Change,
+) -> Result<OwnedList<Change>, AllocError>
+    ensures { IfOk result (λ changes. changes ≡ first ∷ second ∷ []) }
+{
+    let mut changes = OwnedList::new(alloc);
+    changes.push(first)?;
+    changes.push(second)?;
+    Ok(changes)
 }

@@ -1,12 +1,13 @@
 //! The change of a password.
 
-ghost use Rattle.std.specs.Prelude.{◌≡◌, ◌≢◌, ◌<◌, ◌≤◌, ◌↔◌, ℕ, [], codes, false, IfNone, IfOk, IfSome, IsTrue, Some};
+ghost use Rattle.std.specs.Prelude.{◌≡◌, ◌≢◌, ◌<◌, ◌≤◌, ◌↔◌, ◌∷◌, ℕ, [], codes, false, IfNone, IfOk, IfSome, IsTrue, Some};
 ghost use Rattle.sn_account.specs.Lookups.{Bytes, HasAccount, HasGeneration, HasStore};
-ghost use Rattle.sn_account.specs.Rules.{Carries, CarriesText, ChangesKeys, ChangesPassword, IsBehind, IsLeastBehind, IsPresent, IsUsed, NoneBehind, Replaces};
+ghost use Rattle.sn_account.specs.Rules.{Carries, CarriesText, ChangesKeys, ChangesPassword, IsBehind, IsLeastBehind, IsPresent, IsUsed, NoneBehind, PutsAccount, PutsGeneration, Replaces};
 ghost use Rattle.sn_account.specs.Sound.{IsSound, most_generations};
 ghost use Rattle.sn_account.specs.States.{IsUnmarked, state_rows};
 ghost use Rattle.sn_keys.specs.Keys.{check_value};
 ghost use Rattle.sn_rows.specs.Table.{Rows};
+ghost use Rattle.sn_rows.specs.declared.change.Change.{Change};
 ghost use Rattle.sn_rows.specs.declared.key.Key.TheVariants.{Item};
 ghost use Rattle.sn_rows.specs.declared.server_rows.GenerationRow.{GenerationRow};
 ghost use Rattle.sn_rows.specs.declared.server_rows.StoreRow.{StoreRow};
@@ -16,13 +17,13 @@ ghost use Rattle.sn_sync.specs.declared.answer.Answer.TheVariants as answer;
 ghost use Rattle.sn_sync.specs.declared.answer.More.TheVariants as more;
 ghost use Rattle.sn_string.specs.declared.reader.StringError.TheVariants.{Memory};
 
-use crate::accounts::{Ruled, has_password, present_params};
-use crate::changes::{put_account, put_generation};
+use crate::accounts::{Ruled, admitted, has_password, present_params};
+use crate::changes::{put_account, put_generation, two_changes};
 use crate::refusals::refused;
-use crate::sessions::{account_uuid, session, session_token};
+use crate::sessions::session;
 use crate::state::State;
 use sn_keys::check_of;
-use sn_rows::{AccountRow, GenerationRow, ItemRow, Key, RowKind, Value};
+use sn_rows::{AccountRow, Change, GenerationRow, ItemRow, Key, RowKind, Value};
 use sn_string::{OwnedList, Params, StringError, Text, TryClone, read};
 use sn_sync::{Answer, More};
 use std::alloc::{AllocError, Global};
@@ -278,51 +279,74 @@ fn replace_keys(
         unreachable!();
     };
     let generation = account.generation + 1;
-    let account_row = next_account(alloc, account, generation, pw)?;
-    let account_change = put_account(alloc, number, account_row)?;
-    let generation_row = next_generation(alloc, cost, nonce)?;
-    let token = session_token(alloc, &store.secret, number, generation)?;
-    let identifier = account.identifier.try_clone(alloc)?;
-    let mut changes = OwnedList::new(alloc);
-    changes.push(account_change)?;
-    changes.push(put_generation(number, generation, generation_row))?;
-    let uuid = account_uuid(number);
-    let answer = Answer::Account {
-        token,
-        identifier,
-        uuid,
-    };
+    let changes = key_changes(alloc, number, account, generation, pw, cost, nonce)?;
+    let answer = admitted(
+        alloc,
+        &store.secret,
+        number,
+        generation,
+        &account.identifier,
+    )?;
     Ok(Ruled { changes, answer })
 }
 
-// The account's row with these keys.
-fn next_account(
+// The changes that put an account's keys of a generation.
+fn key_changes(
     alloc: Global,
+    number: u64,
     account: &AccountRow,
     generation: u64,
     pw: &[u8; 32],
-) -> Result<AccountRow, AllocError>
-    ensures { IfOk result (λ row. (row.identifier ≡ account.now.identifier) × (row.generation ≡ generation)
-        × (row.check ≡ check_value pw.now)) }
+    cost: u32,
+    nonce: &Text,
+) -> Result<OwnedList<Change>, AllocError>
+    requires cost { IsCost cost }
+    requires nonce { IsNonce nonce.now }
+    ensures { IfOk result (λ changes. (first second : Change)
+        × PutsAccount first number account.now.identifier generation (check_value pw.now)
+        × PutsGeneration second number generation cost nonce.now
+        × (changes ≡ first ∷ second ∷ [])) }
+{
+    let first = next_account(alloc, number, account, generation, pw)?;
+    let second = next_generation(alloc, number, generation, cost, nonce)?;
+    two_changes(alloc, first, second)
+}
+
+// The change that puts the account's row with these keys.
+fn next_account(
+    alloc: Global,
+    number: u64,
+    account: &AccountRow,
+    generation: u64,
+    pw: &[u8; 32],
+) -> Result<Change, AllocError>
+    ensures { IfOk result (λ change. PutsAccount change number account.now.identifier generation (check_value pw.now)) }
 {
     let identifier = account.identifier.try_clone(alloc)?;
     let check = check_of(pw);
-    Ok(AccountRow {
+    let row = AccountRow {
         identifier,
         generation,
         check,
-    })
+    };
+    put_account(alloc, number, row)
 }
 
-// The row of a generation with these parameters.
-fn next_generation(alloc: Global, cost: u32, nonce: &Text) -> Result<GenerationRow, AllocError>
+// The change that puts a generation with these parameters.
+fn next_generation(
+    alloc: Global,
+    number: u64,
+    generation: u64,
+    cost: u32,
+    nonce: &Text,
+) -> Result<Change, AllocError>
     requires cost { IsCost cost }
     requires nonce { IsNonce nonce.now }
-    ensures { IfOk result (λ row. (row.pw_cost ≡ cost) × (row.pw_nonce ≡ nonce.now)) }
+    ensures { IfOk result (λ change. PutsGeneration change number generation cost nonce.now) }
 {
     let nonce = nonce.try_clone(alloc)?;
     match GenerationRow::new(cost, nonce) {
-        Some(row) => Ok(row),
+        Some(row) => Ok(put_generation(number, generation, row)),
         None => unreachable!(),
     }
 }

@@ -1,13 +1,17 @@
 //! The rule of a sync.
 
-ghost use Rattle.std.specs.Prelude.{◌≡◌, ◌≤◌, All, IfOk, codes};
+ghost use Rattle.std.specs.Prelude.{◌≡◌, ◌≤◌, All, IfNone, IfOk, IfSome, codes};
+ghost use Rattle.sn_account.specs.Incoming.{RunsOut, TakesAll};
 ghost use Rattle.sn_account.specs.Lookups.{HasAccount, HasStore};
-ghost use Rattle.sn_account.specs.Rules.{Refuses};
+ghost use Rattle.sn_account.specs.Rules.{IsPresent, Refuses};
 ghost use Rattle.sn_account.specs.Sound.{IsSound};
 ghost use Rattle.sn_account.specs.States.{IsUnmarked, state_rows};
-ghost use Rattle.sn_account.specs.Syncs.{NoneLong, Serves, ServesBounded, Syncs};
+ghost use Rattle.sn_account.specs.Syncs.{NoneLong, Serves, ServesBounded, Syncs, start};
+ghost use Rattle.sn_account.specs.Taking.{progress};
 ghost use Rattle.sn_rows.specs.declared.server_rows.AccountRow.{AccountRow};
 ghost use Rattle.sn_rows.specs.declared.server_rows.StoreRow.{StoreRow};
+ghost use Rattle.sn_string.specs.Bounds.{last_stamp};
+ghost use Rattle.sn_string.specs.declared.params.Params.{Params};
 ghost use Rattle.sn_sync.specs.Laws.{FitsSent};
 ghost use Rattle.sn_sync.specs.declared.answer.More.TheVariants as more;
 
@@ -20,6 +24,7 @@ use crate::refusals::refused;
 use crate::replies::reply;
 use crate::sessions::session;
 use crate::state::State;
+use crate::taken::Taken;
 use crate::tokens::{above, is_first, stamp_of};
 use sn_string::Text;
 use sn_sync::{Item, More};
@@ -114,8 +119,7 @@ fn serve(
         ruled.changes ruled.answer) }
 {
     let store = store_of(state);
-    let present = present_params(alloc, state, number)?;
-    let Some(taken) = take_all(alloc, state, store.last, number, &present, now, items)? else {
+    let Some(taken) = taken_of(alloc, state, store.last, number, now, items)? else {
         let more = More::Number(store.last);
         return Ok(unchanged(alloc, refused(409, "stamps-used", more)));
     };
@@ -128,4 +132,30 @@ fn serve(
         limit,
     )?;
     reply(alloc, store, taken, page)
+}
+
+// Takes the items, under the parameters of the account's present keys.
+fn taken_of(
+    alloc: Global,
+    state: &State,
+    last: u64,
+    number: u64,
+    now: u64,
+    items: &[Item],
+) -> Result<Option<Taken>, AllocError>
+    requires unmarked { IsUnmarked state.now }
+    requires sound { IsSound (state_rows state.now) }
+    requires last { last ≤ last_stamp }
+    requires there { (account : AccountRow) × HasAccount (state_rows state.now) number account }
+    requires within { All FitsSent items.now }
+    requires short { NoneLong items.now }
+    ensures some { (store : StoreRow) → store.last ≡ last → IfOk result (λ found. IfSome found (λ taken.
+        (present : Params) × IsPresent (state_rows state.now) number present
+        × TakesAll present now number (start (state_rows state.now) store) items.now (progress (state_rows state.now) taken))) }
+    ensures none { (store : StoreRow) → store.last ≡ last → IfOk result (λ found. IfNone found
+        ((present : Params) × IsPresent (state_rows state.now) number present
+        × RunsOut present now number (start (state_rows state.now) store) items.now)) }
+{
+    let present = present_params(alloc, state, number)?;
+    take_all(alloc, state, last, number, &present, now, items)
 }

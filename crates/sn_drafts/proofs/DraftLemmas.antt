@@ -11,15 +11,16 @@ use Rattle.sn_rows.specs.declared.device_rows.OwnerRow.{OwnerRow}
 use Rattle.sn_rows.specs.declared.key.Key.TheVariants as key
 use Rattle.sn_rows.specs.declared.value.Value.TheVariants as value
 use Rattle.sn_sets.specs.declared.sets.Sets.{Sets}
+use Rattle.sn_drafts.specs.Making.{DrawsNone, PutsBoth, PutsDraft, RefusesEdit}
 use Rattle.sn_drafts.specs.Refusing.{MayRefuse, Prepares, none_more}
 use Rattle.sn_sets.specs.Seals.{Seals}
-use Rattle.sn_device.specs.Draws.{DrawsFresh, DrawsNoFresh}
+use Rattle.sn_device.specs.Draws.{DrawsFresh}
 use Rattle.sn_device.specs.Listing.{IsDeleted, Shows}
 use Rattle.sn_device.specs.Runs.{Act, CommitsOnce, Halt, IsGone, PutsItem, RunsDelete, RunsEdit, RunsPut, WithContent, WithItem, a_uuid, nothing, refused}
 use Rattle.sn_device.specs.Sending.{PutsColumns}
 use Rattle.sn_device.specs.States.{Bytes, HasItem, HasOwner, HasSets, IsFree, columns, owner_columns}
 use Rattle.sn_device.specs.Steps.{Deletes, Edits, IsContent, IsUnknown, PutsNew, PutsOwner, deletes, drafted, edits, puts, with_next}
-use Rattle.sn_device.specs.Taking.{last_number, new_columns}
+use Rattle.sn_device.specs.Taking.{last_number}
 use Rattle.sn_device.specs.declared.error.ClientError.{ClientError}
 use Rattle.sn_device.specs.declared.error.ClientError.TheVariants as refusal
 use Rattle.sn_drafts.proofs.LookLemmas.{RefusesShown, of_account, of_closed, of_content, of_gone, of_shown}
@@ -47,13 +48,14 @@ module _ (rows : Rows) (words : ChaCha) (kind text : Bytes) (owner : OwnerRow) (
   put_full next content is full =
       put_item (refusal.NumbersUsed next) content (inl (is ∙ full, (refl, ap (λ (n : ℕ). refused (refusal.NumbersUsed n)) (sym is))))
 
-  pub put_drawn : (drawn : Bytes) → IsContent text → owner.next ≢ last_number → DrawsNoFresh rows words drawn → MayRefuse (RunsPut kind text rows words) (refusal.NoFreshUuid drawn)
-  put_drawn drawn content room none = put_item (refusal.NoFreshUuid drawn) content (inr (room, inl (drawn, none, (refl, refl))))
+  pub put_drawn : (why : ClientError) → IsContent text → owner.next ≢ last_number → DrawsNone rows words why → MayRefuse (RunsPut kind text rows words) why
+  put_drawn why content room (drawn, none, is) =
+      put_item why content (inr (room, inl (drawn, none, (refl, ap (λ (e : ClientError). refused e) is))))
 
-  pub put_made : (uuid : Bytes) (rest left : ChaCha) (strings : RowStrings) (item counted : Change) (changes : List Change) → IsContent text → owner.next ≢ last_number
-      → DrawsFresh rows words uuid rest → Seals rest sets.present uuid text strings left → PutsColumns item owner.next (new_columns uuid kind strings)
-      → PutsOwner counted (with_next (owner.next + 1) (owner_columns owner)) → changes ≡ item ∷ counted ∷ [] → PutsNew rows words uuid kind text changes left
-  put_made uuid rest left strings item counted changes content room fresh seals putting counts are = record {
+  pub put_made : (uuid : Bytes) (rest left : ChaCha) (strings : RowStrings) (changes : List Change) → IsContent text → owner.next ≢ last_number
+      → DrawsFresh rows words uuid rest → Seals rest sets.present uuid text strings left → PutsBoth owner uuid kind strings changes
+      → PutsNew rows words uuid kind text changes left
+  put_made uuid rest left strings changes content room fresh seals both = record {
     content = content;
     owner = owner;
     sets = sets;
@@ -63,11 +65,12 @@ module _ (rows : Rows) (words : ChaCha) (kind text : Bytes) (owner : OwnerRow) (
     fresh = fresh;
     strings = strings;
     seals = seals;
-    item = item;
-    item_is = putting;
-    counted = counted;
-    counted_is = subst (λ (n : ℕ). PutsOwner counted (with_next n (owner_columns owner))) (let next : owner.next + 1 ≡ suc owner.next = omega arith in next) counts;
-    changes_are = are;
+    item = both.item;
+    item_is = both.item_is;
+    counted = both.counted;
+    counted_is = subst (λ (n : ℕ). PutsOwner both.counted (with_next n (owner_columns owner)))
+        (let next : owner.next + 1 ≡ suc owner.next = omega arith in next) both.counted_is;
+    changes_are = both.changes_are;
   }
 
 pub put_runs : (kind text : Bytes) (rows : Rows) (words left : ChaCha) (uuid : Bytes) (changes : List Change) → PutsNew rows words uuid kind text changes left
@@ -89,18 +92,22 @@ module _ (rows : Rows) (words : ChaCha) (uuid text : Bytes) (owner : OwnerRow) (
   edit_gone why gone = of_holds why (of_gone rows sets uuid (λ shown. WithContent text (CommitsOnce rows words (edits uuid text) nothing)) why gone)
 
   module _ (number : ℕ) (local : LocalItem) (has : HasItem rows uuid number local) (stands : ¬ (IsDeleted local)) where
-    pub edit_closed : (why : ClientError) → RefusesShown sets local why → MayRefuse (RunsEdit uuid text rows words) why
+    edit_closed : (why : ClientError) → RefusesShown sets local why → MayRefuse (RunsEdit uuid text rows words) why
     edit_closed why refuses =
         of_holds why (of_closed rows sets uuid (λ shown. WithContent text (CommitsOnce rows words (edits uuid text) nothing)) number local why has stands refuses)
 
-    pub edit_content : (shown : Bytes) (why : ClientError) → Shows sets local shown → MayRefuse (WithContent text none_more) why → MayRefuse (RunsEdit uuid text rows words) why
+    edit_content : (shown : Bytes) (why : ClientError) → Shows sets local shown → MayRefuse (WithContent text none_more) why → MayRefuse (RunsEdit uuid text rows words) why
     edit_content shown why shows may =
         of_holds why (of_shown rows sets uuid (λ s. WithContent text (CommitsOnce rows words (edits uuid text) nothing)) number local shown why has stands shows
         (of_content text (CommitsOnce rows words (edits uuid text) nothing) why may))
 
-    pub edit_made : (left : ChaCha) (strings : RowStrings) (change : Change) (changes : List Change) → IsContent text → Seals words sets.present uuid text strings left
-        → PutsColumns change number (drafted (Some (row.Sealed strings)) (columns local)) → changes ≡ change ∷ [] → Edits rows words uuid text changes left
-    edit_made left strings change changes content seals putting are = record {
+    pub edit_refused : (why : ClientError) → RefusesEdit sets local text why → MayRefuse (RunsEdit uuid text rows words) why
+    edit_refused why (inl refuses) = edit_closed why refuses
+    edit_refused why (inr (shown, shows, may)) = edit_content shown why shows may
+
+    pub edit_made : (left : ChaCha) (strings : RowStrings) (changes : List Change) → IsContent text → Seals words sets.present local.uuid text strings left
+        → PutsDraft number local strings changes → Edits rows words uuid text changes left
+    edit_made left strings changes content seals draft = record {
       content = content;
       owner = owner;
       sets = sets;
@@ -110,10 +117,10 @@ module _ (rows : Rows) (words : ChaCha) (uuid text : Bytes) (owner : OwnerRow) (
       stands = has;
       undeleted = stands;
       strings = strings;
-      seals = seals;
-      change = change;
-      change_is = putting;
-      changes_are = are;
+      seals = subst (λ (u : Bytes). Seals words sets.present u text strings left) has.1 seals;
+      change = draft.change;
+      change_is = draft.change_is;
+      changes_are = draft.changes_are;
     }
 
     pub edit_runs : (left : ChaCha) (changes : List Change) (shown : Bytes) → Shows sets local shown → Edits rows words uuid text changes left

@@ -1,14 +1,14 @@
 //! Reading items.
 
-ghost use Rattle.std.specs.Prelude.{◌≡◌, ◌↔◌, ◌≢◌, IfErr, IfOk, IfNone, IfSome, IsTrue, codes};
+ghost use Rattle.std.specs.Prelude.{◌≡◌, ◌↔◌, ◌≢◌, IfErr, IfOk, IfNone, IfSome, IsTrue, codes, false};
 ghost use Rattle.serde_json.specs.Data.{Items, array};
 ghost use Rattle.serde_json.specs.Find.{get};
 ghost use Rattle.sn_json.specs.Views.{items_view, view};
-ghost use Rattle.sn_sync.specs.Items.{AreItems, IsDeleted, IsItem, RefusesDeleted, RefusesItem, RefusesItems, RefusesKept, RefusesList, SaysCreated, SaysItems, SaysUpdated, sent, stored};
-ghost use Rattle.sn_sync.specs.Members.{IsObject};
+ghost use Rattle.sn_sync.specs.Items.{AreItems, IsDeleted, IsItem, RefusesCreated, RefusesDeleted, RefusesItem, RefusesItems, RefusesKept, RefusesList, RefusesPlace, SaysCreated, SaysItems, SaysKind, SaysUpdated, sent, stored};
+ghost use Rattle.sn_sync.specs.Members.{IsObject, SaysFlag, SaysTextOrEmpty};
 ghost use Rattle.sn_sync.specs.Refusals.{Caused, Lacks};
 ghost use Rattle.sn_sync.specs.Stamps.{IsStampOrNone};
-ghost use Rattle.sn_sync.specs.Standings.{standing_of};
+ghost use Rattle.sn_sync.specs.Standings.{IsPlace, RefusesRest, standing_of};
 
 use crate::error::SyncError;
 use crate::item::{Body, Item};
@@ -18,12 +18,20 @@ use crate::members::{
 use sn_json::{Node, Nodes};
 use sn_string::{OwnedList, Text};
 use std::alloc::Global;
+use uuid::Uuid;
 
 // Where an item stands: in a request, and given back unsaved, or among the account's versions.
 #[derive(Clone, Copy)]
 enum Standing {
     Sent,
     Stored,
+}
+
+// The version that an item names, and its uuid.
+#[derive(Drop)]
+struct Place {
+    updated_at: Option<Text>,
+    uuid: Uuid,
 }
 
 /// An item of a request, or one that an answer gives back unsaved. `outer` is the member in which it stands.
@@ -134,8 +142,7 @@ fn deleted_item(alloc: Global, standing: Standing, value: Node<'_, '_>) -> Resul
 {
     let kind = kind_in(alloc, value, 0)?;
     let created = created_in(alloc, standing, value)?;
-    let updated_at = updated_in(alloc, standing, value)?;
-    let uuid = uuid_in(value, "uuid")?;
+    let Place { updated_at, uuid } = place_in(alloc, standing, value)?;
     Ok(Item {
         uuid,
         kind,
@@ -153,19 +160,62 @@ fn kept_item(alloc: Global, standing: Standing, value: Node<'_, '_>) -> Result<I
 {
     let content = text_or_empty_in(alloc, value, "content")?;
     let kind = kind_in(alloc, value, 1)?;
+    kept_with(alloc, standing, value, content, kind)
+}
+
+// The item of this content and this type.
+fn kept_with(
+    alloc: Global,
+    standing: Standing,
+    value: Node<'_, '_>,
+    content: Text,
+    kind: Text,
+) -> Result<Item, SyncError>
+    requires object { IsObject (view value) }
+    requires kept { ¬ (IsDeleted (view value)) }
+    requires content { SaysTextOrEmpty (get (codes "content") (view value)) content }
+    requires kind { SaysKind 1 (get (codes "content_type") (view value)) kind }
+    ensures ok { IfOk result (IsItem (standing_of standing) (view value.entry)) }
+    ensures err { IfErr result (Caused (RefusesCreated (standing_of standing) (view value.entry)
+        (RefusesRest (standing_of standing) (view value.entry)))) }
+{
     let created = created_in(alloc, standing, value)?;
+    let (enc, place) = rest_in(alloc, standing, value)?;
+    Ok(Item {
+        uuid: place.uuid,
+        kind,
+        created,
+        updated_at: place.updated_at,
+        body: Body::Strings { content, enc },
+    })
+}
+
+// The item key, and where the item stands.
+fn rest_in(
+    alloc: Global,
+    standing: Standing,
+    value: Node<'_, '_>,
+) -> Result<(Text, Place), SyncError>
+    requires kept { ¬ (IsDeleted (view value)) }
+    ensures ok { IfOk result (λ rest. SaysFlag (get (codes "deleted") (view value.entry)) false
+        × SaysTextOrEmpty (get (codes "enc_item_key") (view value.entry)) rest.0
+        × IsPlace (standing_of standing) (view value.entry) rest.1) }
+    ensures err { IfErr result (Caused (RefusesRest (standing_of standing) (view value.entry))) }
+{
     // It is known not to be true, and still may be no flag.
     flag_in(value, "deleted")?;
     let enc = text_or_empty_in(alloc, value, "enc_item_key")?;
+    let place = place_in(alloc, standing, value)?;
+    Ok((enc, place))
+}
+
+fn place_in(alloc: Global, standing: Standing, value: Node<'_, '_>) -> Result<Place, SyncError>
+    ensures ok { IfOk result (IsPlace (standing_of standing) (view value.entry)) }
+    ensures err { IfErr result (Caused (RefusesPlace (standing_of standing) (view value.entry))) }
+{
     let updated_at = updated_in(alloc, standing, value)?;
     let uuid = uuid_in(value, "uuid")?;
-    Ok(Item {
-        uuid,
-        kind,
-        created,
-        updated_at,
-        body: Body::Strings { content, enc },
-    })
+    Ok(Place { updated_at, uuid })
 }
 
 // Only the account's items have a first acceptance.

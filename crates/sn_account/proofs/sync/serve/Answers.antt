@@ -18,7 +18,7 @@ returns-in_default c = λ store has.
       c.unchanged.ensures.changes,
       c.unchanged.ensures.answer ∙ c.refused.ensures ∙ ap (λ (s : StoreRow). answer.Refused 409 (codes "stamps-used") (more.Number s.last)) same,
     ) in
-    (c.in_ok-present.present, c.in_ok-present.ensures, inl (runs, refuses))
+    (runs.0, runs.1, inl (runs.2, refuses))
 
 pub returns : goal.returns
 returns c = λ store has.
@@ -27,5 +27,5 @@ returns c = λ store has.
     let taken = rw c.in-Some.is at (c.in_ok-taken.ensures.some store last) in
     let page = rw (c.above.ensures, c.is_first.ensures) at c.in_ok-page.ensures in
     let R : StoreRow → Type 0 = λ s. IfOk c.reply.result (IsReply s c.in-Some.taken c.in_ok-page.page) in
-    serves_ok (state_rows c.args.state.now) store c.args.number c.in_ok-present.present c.args.items.now c.args.limit c.args.sync c.args.cursor c.args.now
-    c.in-Some.taken c.in_ok-page.page c.reply.result c.requires.sound has c.in_ok-present.ensures taken page (subst R same c.reply.ensures)
+    serves_ok (state_rows c.args.state.now) store c.args.number taken.0 c.args.items.now c.args.limit c.args.sync c.args.cursor c.args.now
+    c.in-Some.taken c.in_ok-page.page c.reply.result c.requires.sound has taken.1 taken.2 page (subst R same c.reply.ensures)
