@@ -1,6 +1,6 @@
 """Runs the checks of this folder, as many files at once as there are processors, and closes with a line that counts them.
 
-A file runs in a process of its own, so that the peak memory that a check reads is of its own children. What some files
+A file, or a check of the longest file, runs in a process of its own, so that the peak memory that a check reads is of its own children. What some files
 need, the proved functions that no command shows, is built as a shared library meanwhile, by `bench/library`, where there
 is a C compiler and SN_LIBRARY isn't set.
 """
@@ -22,8 +22,9 @@ HERE = pathlib.Path(__file__).resolve().parent
 NOTHING_SKIPPED = bool(os.environ.get("SN_NOTHING_SKIPPED"))
 MAY_BE_SKIPPED = {("test_serve", "BehindAProxy")}
 
-# The files that take longest begin first.
+# The files that take longest begin first, and the checks of the longest run side by side.
 LONGEST = ("test_stops", "test_passwd", "test_serve", "test_device")
+APART = ("test_passwd",)
 
 
 class Result(unittest.TextTestResult):
@@ -99,11 +100,19 @@ def run_apart(name, library):
     return subprocess.run(command, cwd=HERE, env=environment, stdout=subprocess.PIPE, stderr=subprocess.STDOUT, text=True).stdout
 
 
+def apart(name):
+    """The names that are run in a process each: those of a file's checks where it takes longest, and else the name itself."""
+    if name not in APART:
+        return [name]
+    return [test.id() for checks in unittest.defaultTestLoader.loadTestsFromName(name) for test in checks]
+
+
 def run_all(names):
     """Runs the checks of these names side by side."""
     began, counts = time.time(), [0, 0, 0]
     builds = shutil.which("cc") and "SN_LIBRARY" not in os.environ and any(map(needs_library, names))
     order = sorted(names, key=lambda name: (needs_library(name), name not in LONGEST))
+    order = [each for name in order for each in apart(name)]
     with tempfile.TemporaryDirectory(prefix="sn-checks-") as folder, concurrent.futures.ThreadPoolExecutor((os.cpu_count() or 1) + 1) as lanes:
         library = lanes.submit(build_library, folder) if builds else None
         for done in concurrent.futures.as_completed([lanes.submit(run_apart, name, library) for name in order]):
