@@ -1,8 +1,8 @@
 """Runs the checks of this folder, as many files at once as there are processors, and closes with a line that counts them.
 
-A file, or a check of the longest file, runs in a process of its own, so that the peak memory that a check reads is of its own children. What some files
-need, the proved functions that no command shows, is built as a shared library meanwhile, by `bench/library`, where there
-is a C compiler and SN_LIBRARY isn't set.
+A file, or a check of the longest file, runs in a process of its own, so that the peak memory that a check reads is of its
+own children. What some files need, the proved functions that no command shows, is built as a shared library meanwhile, by
+`bench/library`, where there is a C compiler and SN_LIBRARY isn't set.
 """
 
 import concurrent.futures
