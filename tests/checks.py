@@ -102,9 +102,10 @@ def run_apart(name, library):
 
 def apart(name):
     """The names that are run in a process each: those of a file's checks where it takes longest, and else the name itself."""
-    if name not in APART:
-        return [name]
-    return [test.id() for checks in unittest.defaultTestLoader.loadTestsFromName(name) for test in checks]
+    loader = unittest.TestLoader()
+    checks = loader.loadTestsFromName(name) if name in APART else ()
+    # A file that can't be loaded is run whole, and fails there.
+    return [name] if loader.errors or not checks else [test.id() for each in checks for test in each]
 
 
 def run_all(names):
