@@ -17,7 +17,7 @@ fn words_of<'a>(alloc: Global, text: &'a str) -> Result<Vec<&'a str>, AllocError
     text.split(' ').collect(alloc)
 }
 
-// The line of an item or of an account's password, where the command is none of the others.
+// The line of an item, or of a request that comes late, where the command is none of the others.
 fn item_line(alloc: Global, command: &str, rest: &[&str]) -> Result<Option<Line>, AllocError>
     requires no_seed { ¬ (command.now ≡ codes "seed") }
     requires no_cost { ¬ (command.now ≡ codes "cost") }
