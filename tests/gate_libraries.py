@@ -2,6 +2,7 @@
 the checks and proves none of them anew. Where the toolchain is another than this expects, nothing is marked, and `rt lib`
 builds its own."""
 
+import functools
 import importlib.machinery
 import importlib.util
 import os
@@ -24,8 +25,12 @@ def toolchain():
 def mark(top):
     """The names of the crates whose libraries are marked."""
     os.chdir(top)
+    tools = toolchain()
+    # A crate's sum takes those of the crates that it stands on. Unless each is kept, those of the lowest are made
+    # anew for every way that leads to them, which takes minutes.
+    tools.Crate.stamp = functools.cache(tools.Crate.stamp)
     marked = []
-    for crate in toolchain().crates_below(top):
+    for crate in tools.crates_below(top):
         if os.path.isfile(os.path.join(crate.rlib, "format")):
             with open(os.path.join(os.path.dirname(crate.rlib), "stamp"), "w") as file:
                 file.write(crate.stamp())

@@ -52,6 +52,12 @@ TOOLS = (
 )
 
 
+def ends_by_signals():
+    """Lets the process that begins be ended by signals that this one ignores, as it does under nohup: no shell can trap those."""
+    for number in (signal.SIGINT, signal.SIGTERM, signal.SIGHUP):
+        signal.signal(number, signal.SIG_DFL)
+
+
 class Clone:
     """A clone with nothing built; `program` is the file that the stub builds, a small script where it is left out."""
 
@@ -103,7 +109,8 @@ class Clone:
         """Starts `./sn` with these words, or a line of the shell, in a session of its own."""
         run = ["bash", "-o", "pipefail", "-c", shell] if shell else ["./sn", *words]
         pipes = dict(stdin=subprocess.PIPE, stdout=subprocess.PIPE, stderr=subprocess.PIPE)
-        process = subprocess.Popen(run, cwd=self.top, env=self.environment, start_new_session=True, **pipes)
+        how = dict(cwd=self.top, env=self.environment, start_new_session=True, preexec_fn=ends_by_signals, **pipes)
+        process = subprocess.Popen(run, **how)
         self.started.append(process)
         return process
 
