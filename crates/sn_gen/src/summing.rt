@@ -12,9 +12,11 @@ use sn_replay::{ReplayError, replay};
 use sn_string::Text;
 use sn_summary::{summary_of, summary_text};
 use std::alloc::Global;
+use std::mem;
 
 /// The summary of the report that the script of this number, with so many events, carries over the disks that it leaves on
-/// the shelf in memory. A script with a line that may not come is refused, and leaves the shelf as it was.
+/// the shelf in memory. A script with a line that may not come is refused, and leaves the shelf as it was. Script and report are
+/// left to the end of the process, which gives all memory back at once.
 pub fn generated_summary(
     alloc: Global,
     number: u32,
@@ -30,5 +32,7 @@ pub fn generated_summary(
     let report = replay(alloc, &script, memory_shelf)?;
     let summary = summary_of(alloc, &report)?;
     let text = summary_text(alloc, &summary)?;
+    mem::forget(report);
+    mem::forget(script);
     Ok(text)
 }
