@@ -7,6 +7,7 @@ use sn_row_map::RowMap;
 use sn_shown::Devices;
 use std::alloc::{AllocError, Global};
 use std::collections::BTreeMap;
+use std::mem;
 
 /// The rows of devices once more. A device that has begun nothing has none.
 #[derive(Drop)]
@@ -35,9 +36,10 @@ impl Mirrors {
         ensures own { row_in result ≡ mirrored self.old name.now }
         ensures others { (other : List ℕ) → other ≢ name.now → mirrored self.new other ≡ mirrored self.old other }
     {
-        match self.rows.remove(name) {
-            Some(rows) => rows,
-            None => RowMap::new(self.alloc),
+        let none = RowMap::new(self.alloc);
+        match self.rows.get_mut(name) {
+            Some(rows) => mem::replace(rows, none),
+            None => none,
         }
     }
 
