@@ -46,6 +46,9 @@ impl Requests {
         ensures own { OnOk result (requests_of self.new name.now ≡ requests_of self.old name.now ++ kept_all requests begun) }
         ensures others { (other : List ℕ) → other ≢ name.now → requests_of self.new other ≡ requests_of self.old other }
     {
+        if requests.is_empty() {
+            return Ok(());
+        }
         let mut kept = self.take(name);
         keep_all(self.alloc, &mut kept, requests, begun.as_slice())?;
         self.put(name, kept)
