@@ -14,11 +14,6 @@ is_sync (request.Params identifier) = false
 is_sync (request.SignIn identifier pw) = false
 is_sync (request.ChangePw token current pw cost nonce) = false
 
--- of a request that may not be known
-abbrev pub asks_sync : Option Request → Bool
-asks_sync None = false
-asks_sync (Some r) = is_sync r
-
 abbrev pub is_counts : Kind → Bool
 is_counts kind.Counts = true
 is_counts kind.Asks = false

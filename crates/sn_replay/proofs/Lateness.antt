@@ -36,10 +36,10 @@ use Rattle.sn_script.specs.declared.script.Ordinal.{Ordinal}
 use Rattle.sn_script.specs.declared.script.Ordinal.TheVariants as ordinal
 use Rattle.sn_script.specs.declared.script.Script.{Script}
 use Rattle.sn_server.specs.Stores.{batch_of}
-use Rattle.sn_sync.specs.declared.request.Request.{Request}
 use Rattle.sn_tail.specs.Shelves.{SlotReads}
 use Rattle.sn_telling.specs.Laws.{AgainsTell}
 use Rattle.sn_telling.specs.Walking.{IsReadAs, SaysGained, rows_behind_all}
+use Rattle.sn_telling.specs.declared.known.Known.{Known}
 use Rattle.sn_world.specs.Calls.{Fate, served}
 use Rattle.sn_world.specs.Holders.{AreHeld, KeepsHeld}
 use Rattle.sn_world.specs.Holds.{TokensDiffer}
@@ -129,7 +129,7 @@ module _ (tell : AgainsTell) (fit : EachFits) (keeps : Keeps) (stays : KeepsHeld
     (at : IsAt script secret replaying c) (kept : Kept) (meant : Meant device c.world.made which kept)
     (gave : Again) (x : AgainCame secret c.world (end c.moves) meant.m settings.clock replaying.ends gave) (moves : List Move)
     (behind : Seen) (shown : List Bytes) (mark : ℕ)
-    (told : (found : Option Request) × IsReadAs kept.request found
+    (told : (found : Option Known) × IsReadAs kept.request found
     × SaysGained (row_in replaying.seen.server) (mirrored replaying.seen.devices device) device kept.begins found gave.batches moves)
     (server_see : row_in behind.server ≡ rows_behind_all (row_in replaying.seen.server) gave.batches)
     (labels_see : behind.labels ≡ labels_of false replaying.seen.labels moves) (names_see : behind.names ≡ replaying.seen.names)

@@ -9,8 +9,8 @@ ghost use Rattle.sn_replay.specs.Playing.{IsAt, Tells};
 ghost use Rattle.sn_script.specs.declared.script.Line.TheVariants as line;
 ghost use Rattle.sn_row_map.specs.RowMaps.{row_in};
 ghost use Rattle.sn_script.specs.declared.script.Script.{Script};
-ghost use Rattle.sn_sync.specs.declared.request.Request.{Request};
 ghost use Rattle.sn_telling.specs.Walking.{IsReadAs, SaysGained, rows_behind_all};
+ghost use Rattle.sn_telling.specs.declared.known.Known.{Known};
 ghost use Rattle.sn_world.specs.Holds.{TokensDiffer};
 
 use crate::error::ReplayError;
@@ -99,7 +99,7 @@ fn moves_of(
     kept: &Kept,
     batches: OwnedList<OwnedList<Change>>,
 ) -> Result<OwnedList<Move>, AllocError>
-    ensures moves { IfOk result (λ moves. (found : Option Request) × IsReadAs kept.now.request found
+    ensures moves { IfOk result (λ moves. (found : Option Known) × IsReadAs kept.now.request found
         × SaysGained (row_in server.old) (mirrored devices.old device.now) device.now kept.now.begins found batches moves) }
     ensures server { OnOk result (row_in server.new ≡ rows_behind_all (row_in server.old) batches) }
     ensures devices { OnOk result ((name : List ℕ) → mirrored devices.new name ≡ mirrored devices.old name) }

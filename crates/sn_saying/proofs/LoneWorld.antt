@@ -29,11 +29,13 @@ use Rattle.sn_shows.specs.Laws.{HasAccount}
 use Rattle.sn_shows.specs.Servers.{ShowsItem, account_at, stamps_in}
 use Rattle.sn_string.specs.declared.params.KeySet.{KeySet}
 use Rattle.sn_sync.proofs.Facts.{one_stamp}
+use Rattle.sn_sync.specs.Requests.{route_of}
 use Rattle.sn_sync.specs.Stamps.{IsStampText}
 use Rattle.sn_sync.specs.declared.answer.Answer.{Answer}
 use Rattle.sn_sync.specs.declared.item.Item.{Item}
 use Rattle.sn_sync.specs.declared.request.Request.{Request}
 use Rattle.sn_sync.specs.declared.request.Request.TheVariants as request
+use Rattle.sn_sync.specs.declared.request.Route.TheVariants as route
 use Rattle.sn_world.proofs.Facts.{device_account, few_numbers, same_owner, session_account}
 use Rattle.sn_world.proofs.Lasts.{has_last}
 use Rattle.sn_world.proofs.Lists.{this_one}
@@ -240,10 +242,13 @@ serving server device name told r changes moves says secret w next s m now given
     subst (λ (q : Request). SaysRoute server device m.device m.begins q changes moves) (sym request_is)
     (subst (λ (o : Bytes). SaysRoute server device o m.begins r changes moves) (sym name_is) (says m.begins begun lone))
 
--- of a sync
-pub serving_sync : (server device : Rows) (name : Bytes) (told : Option KeySet) (r : Request) (changes : List Change) (moves : List Move) (token : Bytes)
-    (items : List Item) (limit : ℕ) (sync_token cursor_token : Option Bytes) → r ≡ request.Sync token items limit sync_token cursor_token
-    → (LoneChanges server device changes → SaysChanges server device name changes moves) → IsServing server device name told r changes moves
-serving_sync server device name told r changes moves token items limit sync_token cursor_token is says =
-    subst (λ (q : Request). IsServing server device name told q changes moves) (sym is)
-    (serving server device name told (request.Sync token items limit sync_token cursor_token) changes moves (λ begins begun lone. says lone))
+-- of a sync, whichever it is
+pub serving_sync : (server device : Rows) (name : Bytes) (changes : List Change) (moves : List Move)
+    → (LoneChanges server device changes → SaysChanges server device name changes moves) → (told : Option KeySet) (r : Request) → route_of r ≡ route.Sync
+    → IsServing server device name told r changes moves
+serving_sync server device name changes moves says told (request.Register params pw) on = absurd (let impossible : ⊥ = cc in impossible)
+serving_sync server device name changes moves says told (request.Params identifier) on = absurd (let impossible : ⊥ = cc in impossible)
+serving_sync server device name changes moves says told (request.SignIn identifier pw) on = absurd (let impossible : ⊥ = cc in impossible)
+serving_sync server device name changes moves says told (request.ChangePw token current pw cost nonce) on = absurd (let impossible : ⊥ = cc in impossible)
+serving_sync server device name changes moves says told (request.Sync token items limit sync_token cursor_token) on =
+    serving server device name told (request.Sync token items limit sync_token cursor_token) changes moves (λ begins begun lone. says lone)

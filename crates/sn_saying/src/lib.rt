@@ -14,4 +14,4 @@ pub use adopting::adopted;
 pub use joining::joined;
 pub use laws::said_once;
 pub use retiring::retired;
-pub use serving::served;
+pub use serving::{served, sync_served};

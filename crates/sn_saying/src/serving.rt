@@ -1,11 +1,15 @@
 //! The moves of a batch of the server.
 
-ghost use Rattle.std.specs.Prelude.{◌≡◌, ◌↔◌, ◌∷◌, ◌++◌, [], IfOk, IsTrue, OnOk};
+ghost use Rattle.std.specs.Prelude.{◌≡◌, ◌↔◌, ◌∷◌, ◌++◌, [], IfOk, IsTrue, OnOk, Option};
 ghost use Rattle.std.specs.Option.{option_copied, option_to_list};
 ghost use Rattle.sn_row_map.specs.RowMaps.{row_in};
 ghost use Rattle.sn_rows.specs.Table.{rows_after};
 ghost use Rattle.sn_rows.specs.declared.key.Key.TheVariants as key;
 ghost use Rattle.sn_rows.specs.declared.value.Value.TheVariants as value;
+ghost use Rattle.sn_string.specs.declared.params.KeySet.{KeySet};
+ghost use Rattle.sn_sync.specs.Requests.{route_of};
+ghost use Rattle.sn_sync.specs.declared.request.Request.{Request};
+ghost use Rattle.sn_sync.specs.declared.request.Route.TheVariants as route;
 ghost use Rattle.sn_world.specs.Serving.{IsSentRow, SaysChange, SaysChanges, SaysItem, change_of, changes_in, generation_of, number_of};
 ghost use Rattle.sn_saying.specs.Lone.{LoneChange, LoneChanges, LoneRow};
 ghost use Rattle.sn_saying.specs.Served.{IsServing};
@@ -52,6 +56,21 @@ pub fn served(
             Ok(OwnedList::new(alloc))
         }
     }
+}
+
+/// The same of a sync, whatever it sends: no move depends on that, nor on a set that it would begin.
+pub fn sync_served(
+    alloc: Global,
+    server: &mut RowMap,
+    device: &RowMap,
+    name: &Text,
+    changes: OwnedList<Change>,
+) -> Result<OwnedList<Move>, AllocError>
+    ensures moves { IfOk result (λ moves. (begins : Option KeySet) (request : Request) → route_of request ≡ route.Sync
+        → IsServing (row_in server.old) (row_in device.now) name.now begins request changes moves) }
+    ensures rows { OnOk result (row_in server.new ≡ rows_after (row_in server.old) changes) }
+{
+    items_served(alloc, server, device, name, changes)
 }
 
 // Applies changes.

@@ -14,7 +14,7 @@ use Rattle.sn_sync.specs.declared.request.Request.{Request}
 use Rattle.sn_sync.specs.declared.request.Request.TheVariants as request
 use Rattle.sn_world.specs.Calls.{BeginsBy, IsAskedFor, IsNoneOr, MayBeginBy}
 use Rattle.sn_world.specs.Making.{MakesChange, MakesOf, MakesRegister}
-use Rattle.sn_telling.specs.Walking.{IsBegunIn, set_given}
+use Rattle.sn_telling.specs.Walking.{IsBegunIn, known_of, set_given}
 use Rattle.sn_telling.specs.declared.calling.Calling.{Calling}
 use Rattle.sn_telling.proofs.StepsActs.{IsAskedSo}
 use Rattle.sn_telling.proofs.StepsCalls.{IsRegistered, RegistersBy}
@@ -60,7 +60,7 @@ of_change rows begins r told makes all =
 
 -- of each request
 pub begun_so : (device rows : Rows) (call : Call) (what : Calling) (begins : Request → Option KeySet) (r : Request) (told : Option KeySet)
-    → BeginsBy device call begins → IsAskedSo (RegistersBy call what) r → MakesOf rows (begins r) r → IsBegunIn what rows (Some r) told
+    → BeginsBy device call begins → IsAskedSo (RegistersBy call what) r → MakesOf rows (begins r) r → IsBegunIn what rows (Some (known_of r)) told
     → IsBegunAs r (begins r) told
 begun_so device rows call what begins (request.Register params pw) told may of makes is =
     of_register device call what (begins (request.Register params pw)) params pw of makes (may (request.Register params pw)) ∙ sym is

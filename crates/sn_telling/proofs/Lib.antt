@@ -1,4 +1,5 @@
 pub mod BegunSets
+pub mod KnownLemmas
 pub mod ReadAsked
 pub mod ReadForeign
 pub mod ReadRequest

@@ -11,13 +11,13 @@ use Rattle.sn_saying.specs.Laws.{SaidOnce}
 use Rattle.sn_saying.specs.Served.{IsBegunAs}
 use Rattle.sn_server.specs.Stores.{batch_of}
 use Rattle.sn_string.specs.declared.params.KeySet.{KeySet}
-use Rattle.sn_sync.specs.declared.request.Request.{Request}
 use Rattle.sn_world.specs.Calls.{call_steps, fate_steps, served}
 use Rattle.sn_world.specs.Happens.{Happens, Trace}
 use Rattle.sn_world.specs.Laws.{Keeps}
 use Rattle.sn_world.specs.Sessions.{with_end}
 use Rattle.sn_telling.specs.Laws.{AgainsTell, CallsTell, IsWhole}
 use Rattle.sn_telling.specs.Walking.{SaysGained}
+use Rattle.sn_telling.specs.declared.known.Known.{Known}
 use Rattle.sn_telling.proofs.StepsCalls.{run_acts}
 use Rattle.sn_telling.proofs.ToldServed.{served_told}
 use Rattle.sn_telling.proofs.ToldTraces.{of_kind, tells}
@@ -54,5 +54,5 @@ agains_tell once secret host w s m now changes given bytes told found moves diff
     by said (mid, first, later, does, says, none, is) =
         served_told once secret w s h m.device m.request (x.begins m.request) told (subst (λ (b : Option KeySet). IsBegunAs m.request b told) (sym same) begun) w.server
         (w.devices m.device) refl refl mid now changes given first moves does says
-        (subst (λ (o : Option Request). SaysGained w.server (w.devices m.device) m.device told o (batch_of changes) moves) (reads host m.request sent readable) gained)
+        (subst (λ (o : Option Known). SaysGained w.server (w.devices m.device) m.device told o (batch_of changes) moves) (reads host m.request sent readable) gained)
         ∙ sym (is ∙ ap (λ (l : List Move). first ++ l) none.0 ∙ append-nil first)

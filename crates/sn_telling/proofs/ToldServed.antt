@@ -21,7 +21,7 @@ use Rattle.sn_world.specs.Holds.{Holds, TokensDiffer}
 use Rattle.sn_world.specs.Laws.{Keeps, KeptBy}
 use Rattle.sn_world.specs.Serving.{SaysServed, Serves, changes_in, registers_in}
 use Rattle.sn_world.specs.World.{Made, World}
-use Rattle.sn_telling.specs.Walking.{SaysGained, rows_behind_all}
+use Rattle.sn_telling.specs.Walking.{SaysGained, known_of, rows_behind_all}
 
 -- no changes say nothing
 none_registered : (identifier : Bytes) (begins : Option KeySet) → registers_in identifier begins [] ≡ []
@@ -57,11 +57,11 @@ module _ (once : SaidOnce) (secret : Bytes) (w : World) (s : Ideal) (h : Holds s
 
   -- a request that is served
   pub served_told : (next : World) (now : ℕ) (changes : List Change) (given : Answer) (said moves : List Move) → Serves w next Asked now changes given
-      → SaysServed w.server (w.devices name) Asked changes said → SaysGained server rows name told (Some r) (batch_of changes) moves → moves ≡ said
+      → SaysServed w.server (w.devices name) Asked changes said → SaysGained server rows name told (Some (known_of r)) (batch_of changes) moves → moves ≡ said
   served_told next now [] given said moves x says gained = gained ∙ sym (none_served w.server (w.devices name) name r begins said says)
   served_told next now (change ∷ changes) given said moves x says (first, later, serving, none, is) =
       let told_so : SaysServed server rows Asked (change ∷ changes) first =
-      serving secret w next s Asked now given h server_is rows_are refl refl begun x in
+      serving r refl secret w next s Asked now given h server_is rows_are refl refl begun x in
       let says_so : SaysServed server rows Asked (change ∷ changes) said =
       subst (λ (v : Rows). SaysServed v rows Asked (change ∷ changes) said) server_is
       (subst (λ (v : Rows). SaysServed w.server v Asked (change ∷ changes) said) rows_are says) in
@@ -79,7 +79,7 @@ pub record FateLeads (secret : Bytes) (w : World) (s : Ideal) (m : Made) (fate :
   pub goes : Trace secret mid state steps later next
   pub moves_are : moves ≡ first ++ later
   pub told_so : (told : Option KeySet) (server rows : Rows) (said : List Move) → IsBegunAs m.request m.begins told → w.server ≡ server
-      → w.devices m.device ≡ rows → SaysGained server rows m.device told (Some m.request) (batches_of fate) said → said ≡ first
+      → w.devices m.device ≡ rows → SaysGained server rows m.device told (Some (known_of m.request)) (batches_of fate) said → said ≡ first
 
 module _ (once : SaidOnce) (keeps : Keeps) (secret : Bytes) (differ : TokensDiffer secret) (w next : World) (s : Ideal) (h : Holds secret w s) (name : Bytes) (r : Request)
     (begins : Option KeySet) where

@@ -24,7 +24,7 @@ use Rattle.sn_world.specs.Holds.{Holds, TokensDiffer}
 use Rattle.sn_world.specs.Laws.{Keeps, KeptBy}
 use Rattle.sn_world.specs.World.{Made, World}
 use Rattle.sn_telling.specs.Laws.{AreBegunAs, IsTelling}
-use Rattle.sn_telling.specs.Walking.{SaysBatch, SaysGained, SaysWalk, rows_behind_all}
+use Rattle.sn_telling.specs.Walking.{SaysBatch, SaysGained, SaysWalk, known_of, rows_behind_all}
 use Rattle.sn_telling.specs.declared.calling.Calling.{Calling}
 use Rattle.sn_telling.proofs.BegunSets.{begun_so}
 use Rattle.sn_telling.proofs.StepsActs.{AreActs, Last}
@@ -148,7 +148,7 @@ module _ (law : DeletionsStay) (answers : SaysAnswered) (plainly : SaysPlainly) 
       let begun_it : IsBegunAs r (begins r) at.begins = begun_so device (w.devices name) call what begins r at.begins may x.of.0 does.of at.begins_so in
       let served_is : at.served ≡ y.first =
       y.told_so at.begins w.server (w.devices name) at.served begun_it does.server (ap (λ (d : Bytes → Rows). d name) does.devices)
-      (subst (λ (bs : List (List Change)). SaysGained w.server (w.devices name) name at.begins (Some r) bs at.served) x.told.0.gained at.gains) in
+      (subst (λ (bs : List (List Change)). SaysGained w.server (w.devices name) name at.begins (Some (known_of r)) bs at.served) x.told.0.gained at.gains) in
       let server_so : y.mid.server ≡ rows_behind w.server fate = y.server_is ∙ ap (λ (v : Rows). rows_behind v fate) does.server in
       let rows_so : y.mid.devices name ≡ w.devices name = ap (λ (d : Bytes → Rows). d name) (y.devices_are ∙ does.devices) in
       let others : Tells acts fates y.mid y.later at.later at.others =

@@ -7,7 +7,7 @@ use Rattle.sn_laws.specs.Lookups.{Bytes}
 use Rattle.sn_laws.specs.declared.moves.Move.{Move}
 use Rattle.sn_link.specs.Laws.{AreReadable}
 use Rattle.sn_order.specs.Kinds.{kind_by, kind_of}
-use Rattle.sn_order.specs.Order.{IsAhead, IsBefore, asks_sync, comes_first, is_sync, next_kind, next_request}
+use Rattle.sn_order.specs.Order.{IsAhead, IsBefore, comes_first, is_sync, next_kind, next_request}
 use Rattle.sn_order.specs.declared.kind.Kind.{Kind}
 use Rattle.sn_recorder.specs.Told.{AreTold}
 use Rattle.sn_recorder.specs.declared.exchanged.Exchanged.{Exchanged}
@@ -16,8 +16,10 @@ use Rattle.sn_rows.specs.declared.change.Change.{Change}
 use Rattle.sn_string.specs.declared.params.KeySet.{KeySet}
 use Rattle.sn_sync.specs.declared.request.Request.{Request}
 use Rattle.sn_world.specs.Calls.{Fate}
-use Rattle.sn_telling.specs.Walking.{IsBegunIn, IsReadAs, SaysBatch, SaysBatches, SaysGained, SaysWalk, front, rest, rows_behind_all}
+use Rattle.sn_telling.specs.Walking.{IsBegunIn, IsReadAs, SaysBatch, SaysBatches, SaysGained, SaysWalk, asks_sync, front, known_of, rest, rows_behind_all}
 use Rattle.sn_telling.specs.declared.calling.Calling.{Calling}
+use Rattle.sn_telling.specs.declared.known.Known.{Known}
+use Rattle.sn_telling.proofs.KnownLemmas.{asks_known}
 
 -- each commit's changes are of the kind of what is done
 abbrev pub AreOfKind : List Act → Type 0
@@ -28,13 +30,13 @@ AreOfKind (asked r reply ∷ acts) = AreOfKind acts
 -- a batch comes before the next exchange, where there is one
 abbrev pub ComesFirst : Bool → List Change → List Exchanged → Type 0
 ComesFirst heard batch [] = Unit {0}
-ComesFirst heard batch (e ∷ exchanged) = (found : Option Request) → IsReadAs e.request found → comes_first heard (kind_of batch) (asks_sync found) ≡ true
+ComesFirst heard batch (e ∷ exchanged) = (found : Option Known) → IsReadAs e.request found → comes_first heard (kind_of batch) (asks_sync found) ≡ true
 
 module _ (host : Bytes) where
-  -- what is read of the next exchange is the next request
-  next_read : (acts : List Act) (fates : List Fate) (batches : List (List Change)) (e : Exchanged) (exchanged : List Exchanged) (found : Option Request)
+  -- what is read of the next exchange is what is known of the next request
+  next_read : (acts : List Act) (fates : List Fate) (batches : List (List Change)) (e : Exchanged) (exchanged : List Exchanged) (found : Option Known)
       → AreTold host acts fates batches (e ∷ exchanged) → AreReadable host acts → IsReadAs e.request found
-      → (r : Request) × (next_request acts ≡ Some r) × (found ≡ Some r)
+      → (r : Request) × (next_request acts ≡ Some r) × (found ≡ Some (known_of r))
   next_read [] fates batches e exchanged found told readable reads = absurd (let none : e ∷ exchanged ≡ [] = told.2 in let impossible : ⊥ = cc in impossible)
   next_read (committed what changes ∷ acts) fates [] e exchanged found told readable reads = absurd told
   next_read (committed what changes ∷ acts) fates (batch ∷ batches) e exchanged found told readable reads =
@@ -50,7 +52,8 @@ module _ (host : Bytes) where
   first_so what changes batch acts fates batches (e ∷ exchanged) heard is kind_is told readable before = λ found reads.
       (let next = next_read acts fates batches e exchanged found told readable reads in
       ap (λ (k : Kind). comes_first heard k (asks_sync found)) (ap kind_of is ∙ kind_is)
-      ∙ ap (λ (o : Option Request). comes_first heard (kind_by what) (asks_sync o)) next.2 ∙ subst (IsBefore heard (kind_by what)) next.1 before)
+      ∙ ap (λ (o : Option Known). comes_first heard (kind_by what) (asks_sync o)) next.2
+      ∙ ap (comes_first heard (kind_by what)) (asks_known next.0) ∙ subst (IsBefore heard (kind_by what)) next.1 before)
 
   -- and where a request comes next, no batch comes before it
   pub none_before : (acts : List Act) (fates : List Fate) (batches : List (List Change)) (exchanged : List Exchanged) (heard : Bool) (r : Request)
@@ -122,15 +125,15 @@ module _ (call : Calling) (name : Bytes) (server rows : Rows) (answer : Option B
     pub later : List Move
     pub begins : Option KeySet
     pub others : List (Option KeySet)
-    pub begins_so : IsBegunIn call rows (Some r) begins
-    pub gains : SaysGained server rows name begins (Some r) e.batches served
+    pub begins_so : IsBegunIn call rows (Some (known_of r)) begins
+    pub gains : SaysGained server rows name begins (Some (known_of r)) e.batches served
     pub goes_on : SaysWalk call name (rows_behind_all server e.batches) rows (is_sync r) e.answer batches exchanged later others server_end rows_end
     pub begun_is : begun ≡ begins ∷ others
     pub moves_are : moves ≡ served ++ later
 
   -- with no batch before it
   alone : (r : Request) (batches before behind : List (List Change)) (e : Exchanged) (exchanged : List Exchanged) (moves : List Move) (begun : List (Option KeySet))
-      (found : Option Request) (said served later : List Move) (begins : Option KeySet) (others : List (Option KeySet)) → found ≡ Some r → before ≡ []
+      (found : Option Known) (said served later : List Move) (begins : Option KeySet) (others : List (Option KeySet)) → found ≡ Some (known_of r) → before ≡ []
       → behind ≡ batches → SaysBatches call server rows name answer before said → IsBegunIn call (rows_behind_all rows before) found begins
       → SaysGained server (rows_behind_all rows before) name begins found e.batches served
       → SaysWalk call name (rows_behind_all server e.batches) (rows_behind_all rows before) (asks_sync found) e.answer behind exchanged later others server_end rows_end
@@ -141,27 +144,29 @@ module _ (call : Calling) (name : Bytes) (server rows : Rows) (answer : Option B
         later = later;
         begins = begins;
         others = others;
-        begins_so = subst (λ (o : Option Request). IsBegunIn call rows o begins) found_is
+        begins_so = subst (λ (o : Option Known). IsBegunIn call rows o begins) found_is
             (subst (λ (bs : List (List Change)). IsBegunIn call (rows_behind_all rows bs) found begins) none begins_so);
-        gains = subst (λ (o : Option Request). SaysGained server rows name begins o e.batches served) found_is
+        gains = subst (λ (o : Option Known). SaysGained server rows name begins o e.batches served) found_is
             (subst (λ (bs : List (List Change)). SaysGained server (rows_behind_all rows bs) name begins found e.batches served) none gains);
-        goes_on = subst (λ (o : Option Request). SaysWalk call name (rows_behind_all server e.batches) rows (asks_sync o) e.answer batches exchanged later others
+        goes_on = subst (λ (b : Bool). SaysWalk call name (rows_behind_all server e.batches) rows b e.answer batches exchanged later others server_end rows_end)
+            (asks_known r)
+            (subst (λ (o : Option Known). SaysWalk call name (rows_behind_all server e.batches) rows (asks_sync o) e.answer batches exchanged later others
             server_end rows_end) found_is
             (subst (λ (bs : List (List Change)). SaysWalk call name (rows_behind_all server e.batches) (rows_behind_all rows bs) (asks_sync found) e.answer batches
             exchanged later others server_end rows_end) none
             (subst (λ (bs : List (List Change)). SaysWalk call name (rows_behind_all server e.batches) (rows_behind_all rows before) (asks_sync found) e.answer bs
-            exchanged later others server_end rows_end) all goes));
+            exchanged later others server_end rows_end) all goes)));
         begun_is = begun_is;
         moves_are = is ∙ ap (λ (m : List Move). m ++ (served ++ later)) (subst (λ (bs : List (List Change)). SaysBatches call server rows name answer bs said) none says);
       }
 
   pub at_request : (heard : Bool) (r : Request) (batches : List (List Change)) (e : Exchanged) (exchanged : List Exchanged) (moves : List Move)
-      (begun : List (Option KeySet)) → ((found : Option Request) → IsReadAs e.request found → found ≡ Some r)
+      (begun : List (Option KeySet)) → ((found : Option Known) → IsReadAs e.request found → found ≡ Some (known_of r))
       → (front heard (is_sync r) batches ≡ []) × (rest heard (is_sync r) batches ≡ batches)
       → SaysWalk call name server rows heard answer batches (e ∷ exchanged) moves begun server_end rows_end → AtRequest r batches e exchanged moves begun
   at_request heard r batches e exchanged moves begun read_so none
       (found, said, served, later, begins, others, reads, says, begins_so, gains, goes, begun_is, is) =
-      let found_is : found ≡ Some r = read_so found reads in
+      let found_is : found ≡ Some (known_of r) = read_so found reads in
       alone r batches (front heard (asks_sync found) batches) (rest heard (asks_sync found) batches) e exchanged moves begun found said served later begins others
-      found_is (ap (λ (o : Option Request). front heard (asks_sync o) batches) found_is ∙ none.0)
-      (ap (λ (o : Option Request). rest heard (asks_sync o) batches) found_is ∙ none.1) says begins_so gains goes begun_is is
+      found_is (ap (λ (o : Option Known). front heard (asks_sync o) batches) found_is ∙ ap (λ (b : Bool). front heard b batches) (asks_known r) ∙ none.0)
+      (ap (λ (o : Option Known). rest heard (asks_sync o) batches) found_is ∙ ap (λ (b : Bool). rest heard b batches) (asks_known r) ∙ none.1) says begins_so gains goes begun_is is

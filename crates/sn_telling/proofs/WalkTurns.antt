@@ -2,15 +2,14 @@
 use Rattle.std.proofs.Common.{◌≡◌, ◌++◌, List, [], ◌∷◌, Bool, Option, refl, sym, ap, ◌∙◌, subst, append_assoc, append-nil}
 use Rattle.sn_laws.specs.Lookups.{Bytes}
 use Rattle.sn_laws.specs.declared.moves.Move.{Move}
-use Rattle.sn_order.specs.Order.{asks_sync}
 use Rattle.sn_recorder.specs.declared.exchanged.Exchanged.{Exchanged}
 use Rattle.sn_rows.specs.Table.{Rows}
 use Rattle.sn_rows.specs.declared.change.Change.{Change}
 use Rattle.sn_string.specs.declared.params.KeySet.{KeySet}
-use Rattle.sn_sync.specs.declared.request.Request.{Request}
 use Rattle.sn_telling.specs.Turns.{SaysTurn}
-use Rattle.sn_telling.specs.Walking.{IsReadAs, SaysBatches, SaysWalk, front, requests_in, rest, rows_behind_all}
+use Rattle.sn_telling.specs.Walking.{IsReadAs, SaysBatches, SaysWalk, asks_sync, front, requests_in, rest, rows_behind_all}
 use Rattle.sn_telling.specs.declared.calling.Calling.{Calling}
+use Rattle.sn_telling.specs.declared.known.Known.{Known}
 
 -- where a walk stands: the rows of both ends, whether the last act was a sync, the last answer, and the batches that are left
 pub record Stands : Type 0 where
@@ -33,7 +32,7 @@ module _ (call : Calling) (name : Bytes) where
       → SaysFrom start (before ++ left) (moves ++ later) (begun ++ further) server_end rows_end
 
   -- an exchange, and then those behind it
-  turn_here : (at : Stands) (e : Exchanged) (others : List Exchanged) (found : Option Request) (said : List Move) (begins : Option KeySet)
+  turn_here : (at : Stands) (e : Exchanged) (others : List Exchanged) (found : Option Known) (said : List Move) (begins : Option KeySet)
       (server_now rows_now : Rows) (later : List Move) (further : List (Option KeySet)) (server_end rows_end : Rows) → IsReadAs e.request found
       → SaysTurn call at.server at.rows name at.answer (front at.heard (asks_sync found) at.left) found e.batches said begins server_now rows_now
       → SaysWalk call name server_now rows_now (asks_sync found) e.answer (rest at.heard (asks_sync found) at.left) others later further server_end rows_end
@@ -61,7 +60,7 @@ module _ (call : Calling) (name : Bytes) where
       )
 
   module _ (start : Stands) (before : List Exchanged) (at : Stands) (moves : List Move) (begun : List (Option KeySet)) where
-    pub walk_more : (e : Exchanged) (found : Option Request) (said : List Move) (begins : Option KeySet) (now : Stands)
+    pub walk_more : (e : Exchanged) (found : Option Known) (said : List Move) (begins : Option KeySet) (now : Stands)
         (new : List Move) (new_begun : List (Option KeySet)) → IsReadAs e.request found
         → SaysTurn call at.server at.rows name at.answer (front at.heard (asks_sync found) at.left) found e.batches said begins now.server now.rows
         → now.heard ≡ asks_sync found → now.answer ≡ e.answer → now.left ≡ rest at.heard (asks_sync found) at.left → new ≡ moves ++ said

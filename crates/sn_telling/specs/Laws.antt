@@ -23,6 +23,7 @@ use Rattle.sn_world.specs.World.{Made, World}
 use Rattle.sn_telling.specs.Calling.{IsCallingOf}
 use Rattle.sn_telling.specs.Walking.{IsReadAs, SaysGained, SaysWalk}
 use Rattle.sn_telling.specs.declared.calling.Calling.{Calling}
+use Rattle.sn_telling.specs.declared.known.Known.{Known}
 
 -- no disk failed
 abbrev pub IsWhole : Halt → Type 0
@@ -58,6 +59,6 @@ CallsTell = (secret host : Bytes) (w : World) (s : Ideal) (name : Bytes) (call :
 -- a request that comes late or again
 abbrev pub AgainsTell : Type 0
 AgainsTell = (secret host : Bytes) (w : World) (s : Ideal) (m : Made) (now : ℕ) (changes : List Change) (given : Answer) (bytes : Bytes) (told : Option KeySet)
-    (found : Option Request) (moves : List Move) → TokensDiffer secret → Holds secret w s → IsRequestBytes host m.request bytes → IsReadable host m.request
+    (found : Option Known) (moves : List Move) → TokensDiffer secret → Holds secret w s → IsRequestBytes host m.request bytes → IsReadable host m.request
     → IsBegunAs m.request m.begins told → IsReadAs bytes found → SaysGained w.server (w.devices m.device) m.device told found (batch_of changes) moves
     → (x : LeadsLine secret w s (again m.device m.request (served now changes given false))) → x.begins m.request ≡ m.begins → moves ≡ x.moves

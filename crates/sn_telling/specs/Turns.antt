@@ -2,18 +2,17 @@
 use Rattle.std.specs.Prelude.{◌≡◌, ◌++◌, ◌∷◌, [], List, Option}
 use Rattle.sn_laws.specs.Lookups.{Bytes}
 use Rattle.sn_laws.specs.declared.moves.Move.{Move}
-use Rattle.sn_order.specs.Order.{asks_sync}
 use Rattle.sn_recorder.specs.declared.exchanged.Exchanged.{Exchanged}
 use Rattle.sn_rows.specs.Table.{Rows}
 use Rattle.sn_rows.specs.declared.change.Change.{Change}
 use Rattle.sn_string.specs.declared.params.KeySet.{KeySet}
-use Rattle.sn_sync.specs.declared.request.Request.{Request}
-use Rattle.sn_telling.specs.Walking.{IsBegunIn, IsReadAs, SaysBatches, SaysGained, front, rest, rows_behind_all}
+use Rattle.sn_telling.specs.Walking.{IsBegunIn, IsReadAs, SaysBatches, SaysGained, asks_sync, front, rest, rows_behind_all}
 use Rattle.sn_telling.specs.declared.calling.Calling.{Calling}
+use Rattle.sn_telling.specs.declared.known.Known.{Known}
 use Rattle.sn_telling.specs.declared.telling.Walk.{Walk}
 
 -- what these batches of the device say, and then those by which the server answered its request, and which set that would begin
-pub record SaysTurn (call : Calling) (server rows : Rows) (name : Bytes) (answer : Option Bytes) (batches : List (List Change)) (found : Option Request)
+pub record SaysTurn (call : Calling) (server rows : Rows) (name : Bytes) (answer : Option Bytes) (batches : List (List Change)) (found : Option Known)
     (gained : List (List Change)) (said : List Move) (begins : Option KeySet) (server_now rows_now : Rows) : Type 0 where
   pub first : List Move
   pub served : List Move
@@ -26,7 +25,7 @@ pub record SaysTurn (call : Calling) (server rows : Rows) (name : Bytes) (answer
 
 -- by an exchange a walk goes on from where it stands to where it stands now
 pub record GoesOn (call : Calling) (name : Bytes) (server rows : Rows) (at : Walk) (e : Exchanged) (server_now rows_now : Rows) (now : Walk) : Type 0 where
-  pub found : Option Request
+  pub found : Option Known
   pub said : List Move
   pub begins : Option KeySet
   pub read : IsReadAs e.request found

@@ -11,7 +11,7 @@ use Rattle.sn_moves.specs.Foreign.{foreign_in}
 use Rattle.sn_moves.specs.declared.done.Done.{Done}
 use Rattle.sn_moves.specs.declared.done.Done.TheVariants as done
 use Rattle.sn_order.specs.Kinds.{kind_of}
-use Rattle.sn_order.specs.Order.{asks_sync, comes_first}
+use Rattle.sn_order.specs.Order.{comes_first, is_sync}
 use Rattle.sn_order.specs.declared.kind.Kind.{Kind}
 use Rattle.sn_order.specs.declared.kind.Kind.TheVariants as kind
 use Rattle.sn_recorder.specs.declared.exchanged.Exchanged.{Exchanged}
@@ -35,6 +35,8 @@ use Rattle.sn_telling.specs.declared.calling.Calling.{Calling}
 use Rattle.sn_telling.specs.declared.calling.Calling.TheVariants as calling
 use Rattle.sn_telling.specs.declared.doing.Doing.{Doing}
 use Rattle.sn_telling.specs.declared.doing.Doing.TheVariants as doing
+use Rattle.sn_telling.specs.declared.known.Known.{Known}
+use Rattle.sn_telling.specs.declared.known.Known.TheVariants as known
 
 -- the rows behind several batches
 abbrev pub rows_behind_all : Rows → List (List Change) → Rows
@@ -119,9 +121,23 @@ SaysBatches call server rows name answer (batch ∷ batches) moves =
 
 -- ---- an exchange
 
--- the request, by its bytes; one that a server doesn't read may be none
-abbrev pub IsReadAs : Bytes → Option Request → Type 0
-IsReadAs bytes found = (host : Bytes) (r : Request) → IsRequestBytes host r bytes → IsReadable host r → found ≡ Some r
+-- what is known of a request: of a sync that it is one, since no move depends on what it sends, and any other whole
+abbrev pub known_of : Request → Known
+known_of (request.Register params pw) = known.Other (request.Register params pw)
+known_of (request.Params identifier) = known.Other (request.Params identifier)
+known_of (request.SignIn identifier pw) = known.Other (request.SignIn identifier pw)
+known_of (request.ChangePw token current pw cost nonce) = known.Other (request.ChangePw token current pw cost nonce)
+known_of (request.Sync token items limit sync_token cursor_token) = known.Sync
+
+-- that of the request, by its bytes; of one that a server doesn't read there may be none
+abbrev pub IsReadAs : Bytes → Option Known → Type 0
+IsReadAs bytes found = (host : Bytes) (r : Request) → IsRequestBytes host r bytes → IsReadable host r → found ≡ Some (known_of r)
+
+-- whether a request of which this is known asks for a sync
+abbrev pub asks_sync : Option Known → Bool
+asks_sync None = false
+asks_sync (Some known.Sync) = true
+asks_sync (Some (known.Other r)) = is_sync r
 
 -- the set that a registration gives
 abbrev pub set_given : Calling → Option KeySet
@@ -134,21 +150,26 @@ set_given calling.Sync = None
 set_given calling.Passwd = None
 
 -- what it would begin, by the device's rows: a registration the set of its call, a change of password the set that is asked for, and any other request none
-abbrev pub IsBegunIn : Calling → Rows → Option Request → Option KeySet → Type 0
+abbrev pub IsBegunIn : Calling → Rows → Option Known → Option KeySet → Type 0
 IsBegunIn call rows None begins = begins ≡ None
-IsBegunIn call rows (Some (request.Register params pw)) begins = begins ≡ set_given call
-IsBegunIn call rows (Some (request.ChangePw token current pw cost nonce)) begins = (set : KeySet) → IsAskedFor rows set → begins ≡ Some set
-IsBegunIn call rows (Some (request.Params identifier)) begins = begins ≡ None
-IsBegunIn call rows (Some (request.SignIn identifier pw)) begins = begins ≡ None
-IsBegunIn call rows (Some (request.Sync token items limit sync_token cursor_token)) begins = begins ≡ None
+IsBegunIn call rows (Some known.Sync) begins = begins ≡ None
+IsBegunIn call rows (Some (known.Other (request.Register params pw))) begins = begins ≡ set_given call
+IsBegunIn call rows (Some (known.Other (request.ChangePw token current pw cost nonce))) begins = (set : KeySet) → IsAskedFor rows set → begins ≡ Some set
+IsBegunIn call rows (Some (known.Other (request.Params identifier))) begins = begins ≡ None
+IsBegunIn call rows (Some (known.Other (request.SignIn identifier pw))) begins = begins ≡ None
+IsBegunIn call rows (Some (known.Other (request.Sync token items limit sync_token cursor_token))) begins = begins ≡ None
+
+-- a batch by which the server answers a request of which this is known, whichever it is
+abbrev pub IsServingKnown : Rows → Rows → Bytes → Option KeySet → Known → List Change → List Move → Type 0
+IsServingKnown server rows name begins k batch moves = (r : Request) → known_of r ≡ k → IsServing server rows name begins r batch moves
 
 -- the server answered the request of the device of this name, and its store gained these batches
-abbrev pub SaysGained : Rows → Rows → Bytes → Option KeySet → Option Request → List (List Change) → List Move → Type 0
+abbrev pub SaysGained : Rows → Rows → Bytes → Option KeySet → Option Known → List (List Change) → List Move → Type 0
 SaysGained server rows name begins None batches moves = moves ≡ []
-SaysGained server rows name begins (Some r) [] moves = moves ≡ []
-SaysGained server rows name begins (Some r) (batch ∷ batches) moves =
-    (first : List Move) × (later : List Move) × IsServing server rows name begins r batch first
-    × SaysGained (rows_after server batch) rows name begins (Some r) batches later × (moves ≡ first ++ later)
+SaysGained server rows name begins (Some k) [] moves = moves ≡ []
+SaysGained server rows name begins (Some k) (batch ∷ batches) moves =
+    (first : List Move) × (later : List Move) × IsServingKnown server rows name begins k batch first
+    × SaysGained (rows_after server batch) rows name begins (Some k) batches later × (moves ≡ first ++ later)
 
 -- ---- a whole call
 
@@ -167,7 +188,7 @@ abbrev pub SaysWalk : Calling → Bytes → Rows → Rows → Bool → Option By
 SaysWalk call name server rows heard answer batches [] moves begun server_end rows_end =
     SaysBatches call server rows name answer batches moves × (begun ≡ []) × (server_end ≡ server) × (rows_end ≡ rows_behind_all rows batches)
 SaysWalk call name server rows heard answer batches (e ∷ exchanged) moves begun server_end rows_end =
-    (found : Option Request) × (first : List Move) × (served : List Move) × (later : List Move) × (begins : Option KeySet) × (others : List (Option KeySet))
+    (found : Option Known) × (first : List Move) × (served : List Move) × (later : List Move) × (begins : Option KeySet) × (others : List (Option KeySet))
     × IsReadAs e.request found
     × SaysBatches call server rows name answer (front heard (asks_sync found) batches) first
     × IsBegunIn call (rows_behind_all rows (front heard (asks_sync found) batches)) found begins

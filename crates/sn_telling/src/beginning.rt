@@ -5,9 +5,11 @@ ghost use Rattle.sn_device.specs.States.{IsSetOf};
 ghost use Rattle.sn_row_map.specs.RowMaps.{row_in};
 ghost use Rattle.sn_string.specs.declared.params.KeySet.{KeySet};
 ghost use Rattle.sn_telling.specs.Walking.{IsBegunIn, set_given};
+ghost use Rattle.sn_telling.specs.declared.known.Known.TheVariants as known;
 ghost use Rattle.sn_world.specs.Calls.{IsAskedFor};
 
 use crate::calling::Calling;
+use crate::known::Known;
 use sn_row_map::RowMap;
 use sn_rows::{Key, OwnerRow, SetRow, Slot, Value};
 use sn_string::{KeySet, Params, TryClone};
@@ -20,13 +22,25 @@ pub(crate) fn begun_in(
     alloc: Global,
     calling: &Calling,
     device: &RowMap,
-    request: &Option<Request>,
+    request: &Option<Known>,
 ) -> Result<Option<KeySet>, AllocError>
     ensures { IfOk result (IsBegunIn calling.now (row_in device.now) request.now) }
 {
-    let Some(request) = request else {
-        return Ok(None);
-    };
+    match request {
+        None | Some(Known::Sync) => Ok(None),
+        Some(Known::Other(request)) => begun_by(alloc, calling, device, request),
+    }
+}
+
+// The set that a request would begin that is known.
+fn begun_by(
+    alloc: Global,
+    calling: &Calling,
+    device: &RowMap,
+    request: &Request,
+) -> Result<Option<KeySet>, AllocError>
+    ensures { IfOk result (IsBegunIn calling.now (row_in device.now) (Some (known.Other request.now))) }
+{
     match request {
         Request::Register { .. } => set_given(alloc, calling),
         Request::ChangePw { .. } => asked_in(alloc, device),

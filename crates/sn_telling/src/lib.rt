@@ -6,6 +6,7 @@ mod calling;
 mod committing;
 mod doing;
 mod gaining;
+mod known;
 mod laws;
 mod reading;
 mod routing;
@@ -13,5 +14,6 @@ mod steps;
 mod telling;
 
 pub use calling::Calling;
+pub use known::Known;
 pub use laws::{agains_tell, calls_tell};
 pub use telling::{Told, call_moves, late_moves};

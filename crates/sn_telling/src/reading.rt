@@ -3,6 +3,7 @@
 ghost use Rattle.std.specs.Prelude.{◌≡◌, ◌≤◌, IfOk, Some, length};
 ghost use Rattle.sn_telling.specs.Walking.{HasForeign, IsReadAs};
 
+use crate::known::Known;
 use crate::routing::request_in;
 use sn_http::{
     Carry, Incoming, no_message_where_check, one_message, read_answer, read_message,
@@ -14,7 +15,7 @@ use sn_string::OwnedList;
 use sn_sync::answer_laws::{answers_not_refused, one_answer};
 use sn_sync::request_laws::{one_request, requests_not_refused};
 use sn_sync::written_laws::requests_read_back;
-use sn_sync::{Request, Route, SyncError};
+use sn_sync::{Route, SyncError};
 use std::alloc::{AllocError, Global};
 use uuid::Uuid;
 
@@ -48,8 +49,8 @@ impl Source for Sent<'_> {
 
 // ---- requests
 
-/// The request of these bytes. Where they aren't one that a server reads it may be none.
-pub(crate) fn request_read(alloc: Global, bytes: &[u8]) -> Result<Option<Request>, AllocError>
+/// What is known of the request of these bytes. Where they aren't one that a server reads it may be nothing.
+pub(crate) fn request_read(alloc: Global, bytes: &[u8]) -> Result<Option<Known>, AllocError>
     ensures { IfOk result (IsReadAs bytes.now) }
 {
     request_reads_back();

@@ -1,28 +1,56 @@
-//! From a message to the request that it is.
+//! From a message to what is known of the request that it is.
 
 ghost use Rattle.std.specs.Prelude.{◌≡◌, ◌+◌, ◌≤◌, length, take, drop, IfOk, Some};
 ghost use Rattle.std.specs.Str.{IsUtf8};
 ghost use Rattle.sn_server.specs.Routing.{AsksFor, path_of, query_of, route_at, text_of};
 ghost use Rattle.sn_sync.specs.Requests.{IsRequest};
 ghost use Rattle.sn_sync.specs.declared.request.Request.{Request};
+ghost use Rattle.sn_telling.specs.Walking.{known_of};
 
+use crate::known::Known;
 use sn_http::Message;
 use sn_sync::request_laws::{one_request, requests_not_refused};
 use sn_sync::{Request, Route, SyncError, read_request};
 use std::alloc::{AllocError, Global};
 
-/// The request that a server takes the message for. A message that is no request may be none.
-pub(crate) fn request_in(alloc: Global, message: &Message) -> Result<Option<Request>, AllocError>
+/// What is known of the request that a server takes the message for. Of a message that is no request it may be nothing. The text
+/// of a sync isn't read.
+pub(crate) fn request_in(alloc: Global, message: &Message) -> Result<Option<Known>, AllocError>
     requires { IsUtf8 message.now.token }
-    ensures { IfOk result (λ found. (r : Request) → AsksFor message.now r → found ≡ Some r) }
+    ensures { IfOk result (λ found. (r : Request) → AsksFor message.now r → found ≡ Some (known_of r)) }
 {
-    let Some(route) = route_at(path_of(message.target.as_slice())) else {
-        return Ok(None);
-    };
+    match route_at(path_of(message.target.as_slice())) {
+        None => Ok(None),
+        Some(Route::Sync) => Ok(Some(Known::Sync)),
+        Some(route) => known_on(alloc, message, route),
+    }
+}
+
+// The same on this route, by the text.
+fn known_on(alloc: Global, message: &Message, route: Route) -> Result<Option<Known>, AllocError>
+    requires { IsUtf8 message.now.token }
+    ensures { IfOk result (λ found. (r : Request) → IsRequest route message.now.token (text_of route message.now) r → found ≡ Some (known_of r)) }
+{
     let Ok(token) = str::from_utf8(message.token.as_slice()) else {
         unreachable!()
     };
-    text_read(alloc, route, token, text_of(route, message))
+    let Some(request) = text_read(alloc, route, token, text_of(route, message))? else {
+        return Ok(None);
+    };
+    Ok(Some(known_of(request)))
+}
+
+// What is known of it.
+fn known_of(request: Request) -> Known
+    ensures { result ≡ known_of request }
+{
+    match request {
+        Request::Sync { .. } => Known::Sync,
+        Request::Register { .. }
+        | Request::Params { .. }
+        | Request::SignIn { .. }
+        | Request::ChangePw { .. } => Known::Other(request),
+    }
 }
 
 // The request that a text is on a route.

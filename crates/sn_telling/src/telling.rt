@@ -3,17 +3,17 @@
 ghost use Rattle.std.specs.Prelude.{◌≡◌, ◌++◌, ◌∷◌, [], ◌≤◌, IfOk, List, None, OnOk, Option, drop, false, length, take};
 ghost use Rattle.std.specs.Option.{option_copied};
 ghost use Rattle.sn_laws.specs.declared.moves.Move.{Move};
-ghost use Rattle.sn_order.specs.Order.{asks_sync};
 ghost use Rattle.sn_row_map.specs.RowMaps.{row_in};
 ghost use Rattle.sn_string.specs.declared.params.KeySet.{KeySet};
-ghost use Rattle.sn_sync.specs.declared.request.Request.{Request};
 ghost use Rattle.sn_telling.specs.Turns.{GoesOn, SaysTurn};
-ghost use Rattle.sn_telling.specs.Walking.{IsReadAs, SaysBatches, SaysGained, SaysWalk, front, requests_in, rest, rows_behind_all};
+ghost use Rattle.sn_telling.specs.Walking.{IsReadAs, SaysBatches, SaysGained, SaysWalk, asks_sync, front, requests_in, rest, rows_behind_all};
+ghost use Rattle.sn_telling.specs.declared.known.Known.{Known};
 
 use crate::beginning::begun_in;
 use crate::calling::Calling;
 use crate::committing::committed;
 use crate::gaining::gained;
+use crate::known::Known;
 use crate::reading::request_read;
 use crate::steps::push_all;
 use sn_laws::Move;
@@ -22,7 +22,6 @@ use sn_recorder::Exchanged;
 use sn_row_map::RowMap;
 use sn_rows::Change;
 use sn_string::{KeySet, OwnedList, Text};
-use sn_sync::Request;
 use std::alloc::{AllocError, Global};
 use std::mem;
 
@@ -76,7 +75,7 @@ pub fn late_moves(
     begins: Option<&KeySet>,
     batches: OwnedList<OwnedList<Change>>,
 ) -> Result<OwnedList<Move>, AllocError>
-    ensures moves { IfOk result (λ moves. (found : Option Request) × IsReadAs request.now found
+    ensures moves { IfOk result (λ moves. (found : Option Known) × IsReadAs request.now found
         × SaysGained (row_in server.old) (row_in device.now) name.now (option_copied begins.entry) found batches moves) }
     ensures rows { OnOk result (row_in server.new ≡ rows_behind_all (row_in server.old) batches) }
 {
@@ -148,7 +147,7 @@ fn push_exchange(
     )
 }
 
-// The same, by what its request is read as.
+// The same, by what is known of its request.
 fn push_turn(
     alloc: Global,
     walk: &mut Walk,
@@ -156,7 +155,7 @@ fn push_turn(
     device: &mut RowMap,
     name: &Text,
     calling: &Calling,
-    request: &Option<Request>,
+    request: &Option<Known>,
     exchange: Exchanged,
 ) -> Result<(), AllocError>
     ensures { IsReadAs exchange.request request.now
@@ -197,7 +196,7 @@ fn push_said(
     calling: &Calling,
     answer: &Option<OwnedList<u8>>,
     first: Vec<OwnedList<Change>>,
-    request: &Option<Request>,
+    request: &Option<Known>,
     batches: OwnedList<OwnedList<Change>>,
 ) -> Result<(), AllocError>
     ensures turn { OnOk result ((said : List Move) × (begins : Option KeySet) × (told.new.moves ≡ told.old.moves ++ said)
@@ -222,11 +221,12 @@ fn push_said(
     told.begun.push(begins)
 }
 
-fn asks_sync(request: &Option<Request>) -> bool
+fn asks_sync(request: &Option<Known>) -> bool
     ensures { result ≡ asks_sync request.now }
 {
     match request {
-        Some(request) => is_sync(request),
+        Some(Known::Sync) => true,
+        Some(Known::Other(request)) => is_sync(request),
         None => false,
     }
 }

@@ -1,6 +1,8 @@
+use Rattle.std.proofs.Common.{ap}
 use Rattle.std.proofs.lemmas.Result.{IfOk-weaker}
 use Rattle.std.specs.Option.{option_copied}
 use Rattle.sn_row_map.specs.RowMaps.{row_in}
+use Rattle.sn_sync.specs.Requests.{route_of}
 use Rattle.sn_saying.specs.Served.{IsServing}
 use Rattle.sn_saying.proofs.LoneWorld.{serving_sync}
 use Rattle.sn_saying.proofs.serving.served.Goals as goal
@@ -12,5 +14,4 @@ returns-in-Sync-clause-moves c =
     let name = c.args.name.now in
     let told = option_copied c.args.begins in
     IfOk-weaker c.items_served.result _ (IsServing server device name told c.args.request.now c.args.changes)
-    (λ moves says. serving_sync server device name told c.args.request.now c.args.changes moves c.in-Sync.token c.in-Sync.items c.in-Sync.limit
-    c.in-Sync.sync_token c.in-Sync.cursor_token c.in-Sync.is says) c.items_served.ensures.moves
+    (λ moves says. serving_sync server device name c.args.changes moves says told c.args.request.now (ap route_of c.in-Sync.is)) c.items_served.ensures.moves

@@ -6,22 +6,21 @@ use Rattle.sn_laws.specs.declared.moves.Move.{Move}
 use Rattle.sn_row_map.specs.RowMaps.{row_in}
 use Rattle.sn_rows.specs.Table.{Rows}
 use Rattle.sn_rows.specs.declared.change.Change.{Change}
-use Rattle.sn_saying.specs.Served.{IsServing}
-use Rattle.sn_telling.specs.Walking.{SaysGained}
+use Rattle.sn_telling.specs.Walking.{IsServingKnown, SaysGained}
 use Rattle.sn_telling.proofs.WalkLemmas.{rows_more, says_end, says_more}
 use Rattle.sn_telling.proofs.gaining.all_served.Goals as goal
 
 pub batches-preserved : goal.batches-preserved
 batches-preserved c = record {
   says = says_more
-      (λ (server : Rows) (batch : List Change) (moves : List Move). IsServing server (row_in c.args.device.now) c.args.name.now (option_copied c.args.begins)
+      (λ (server : Rows) (batch : List Change) (moves : List Move). IsServingKnown server (row_in c.args.device.now) c.args.name.now (option_copied c.args.begins)
       c.args.request.now batch moves)
       (λ (server : Rows) (batches : List (List Change)) (moves : List Move). SaysGained server (row_in c.args.device.now) c.args.name.now
       (option_copied c.args.begins) (Some c.args.request.now) batches moves)
       (λ server batch batches first later one others. (first, later, one, others, refl)) (row_in c.args.server.now) c.batches.yielded (row_in c.batches.server)
-      (row_in c.served.new.server) c.in-Some.batch c.batches.moves c.in_ok-said.said c.push_all.new.moves c.in_ok-said.ensures.moves
+      (row_in c.batch_served.new.server) c.in-Some.batch c.batches.moves c.in_ok-said.said c.push_all.new.moves c.in_ok-said.ensures.moves
       c.in_ok-push_all.ensures c.in_ok-said.ensures.rows c.batches.invariant.says;
-  rows = rows_more (row_in c.args.server.now) (row_in c.batches.server) (row_in c.served.new.server) c.batches.yielded c.in-Some.batch c.batches.invariant.rows
+  rows = rows_more (row_in c.args.server.now) (row_in c.batches.server) (row_in c.batch_served.new.server) c.batches.yielded c.in-Some.batch c.batches.invariant.rows
       c.in_ok-said.ensures.rows;
 }
 

@@ -3,7 +3,8 @@ use Rattle.sn_link.proofs.Facts.{ReadLaws}
 use Rattle.sn_server.proofs.Tokens.{token_utf8}
 use Rattle.sn_server.specs.Routing.{AsksFor}
 use Rattle.sn_sync.specs.declared.request.Request.{Request}
-use Rattle.sn_telling.specs.Walking.{IsReadAs}
+use Rattle.sn_telling.specs.Walking.{IsReadAs, known_of}
+use Rattle.sn_telling.specs.declared.known.Known.{Known}
 use Rattle.sn_telling.proofs.ReadForeign.{if_ok}
 use Rattle.sn_telling.proofs.ReadRequest.{asks_taken, none_checked}
 use Rattle.sn_telling.proofs.reading.request_read.Goals as goal
@@ -21,7 +22,7 @@ returns-in-Message c =
       one_request = c.one_request.ensures;
       not_refused = c.requests_not_refused.ensures;
     } in
-    if_ok c.request_in.result (λ (found : Option Request). (r : Request) → AsksFor c.in-Message.message r → found ≡ Some r) (IsReadAs c.args.bytes.now)
+    if_ok c.request_in.result (λ (found : Option Known). (r : Request) → AsksFor c.in-Message.message r → found ≡ Some (known_of r)) (IsReadAs c.args.bytes.now)
     (λ found is host r sent readable. is r (asks_taken laws host r c.args.bytes.now sent readable c.new-carry.result _ _ _ c.in-Message.message c.new-carry.ensures
     c.in-Message.ensures.message)) c.request_in.ensures
 

@@ -1,9 +1,8 @@
 use Rattle.std.proofs.Common.{◌≡◌, ◌∙◌, Bool, List, ap, refl, rules, subst}
-use Rattle.sn_order.specs.Order.{asks_sync}
 use Rattle.sn_row_map.specs.RowMaps.{row_in}
 use Rattle.sn_rows.specs.declared.change.Change.{Change}
 use Rattle.sn_telling.specs.Turns.{SaysTurn}
-use Rattle.sn_telling.specs.Walking.{front, rest}
+use Rattle.sn_telling.specs.Walking.{asks_sync, front, rest}
 use Rattle.sn_telling.proofs.telling.push_turn.Goals as goal
 
 pub returns : goal.returns
