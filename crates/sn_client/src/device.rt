@@ -13,6 +13,7 @@ use sn_local::{Index, changed_numbers};
 use sn_rows::Change;
 use sn_table::{CommitError, Committed, Table};
 use std::alloc::Global;
+use std::mem;
 
 /// A device on a disk: one account's items, or none yet. Each of its rows stands in memory once.
 #[derive(Drop)]
@@ -43,11 +44,14 @@ impl<D: Disk> Device<D> {
         self.table.disk()
     }
 
-    /// Gives the disk back. Nothing is in flight.
+    /// Gives the disk back. Nothing is in flight. The memory of the rows and their index is left to the end of the
+    /// process.
     pub fn close(self) -> D
         ensures { result ≡ device_disk self }
     {
-        self.table.close()
+        let Device { table, index, .. } = self;
+        mem::forget(index);
+        table.close()
     }
 
     // Makes changes in one batch, all of them or none, also in a crash.

@@ -11,6 +11,7 @@ use sn_journal::Owner;
 use sn_rows::Change;
 use sn_table::{CommitError, Committed, Log};
 use std::alloc::Global;
+use std::mem;
 
 /// A server on a disk. Each of its rows stands in memory once.
 #[derive(Drop)]
@@ -45,11 +46,13 @@ impl<D: Disk> Server<D> {
         self.log.disk()
     }
 
-    /// Gives the disk back. Nothing is in flight.
+    /// Gives the disk back. Nothing is in flight. The memory of the rows is left to the end of the process.
     pub fn close(self) -> D
         ensures { result ≡ server_disk self }
     {
-        self.log.close()
+        let Server { log, state, .. } = self;
+        mem::forget(state);
+        log.close()
     }
 
     // Makes changes in one batch, all of them or none, also in a crash.

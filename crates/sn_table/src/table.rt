@@ -19,6 +19,7 @@ use sn_row_map::RowMap;
 use sn_rows::{Change, Key, RowKind, Value};
 use sn_string::OwnedList;
 use std::alloc::{AllocError, Global};
+use std::mem;
 
 /// An open table: its log, and the rows that the log's batches leave.
 #[derive(Drop)]
@@ -52,11 +53,14 @@ impl<D: Disk> Table<D> {
         self.log.disk()
     }
 
-    /// Gives the disk back. Nothing is in flight.
+    /// Gives the disk back. Nothing is in flight. The memory of the rows is left to the end of the process: to give
+    /// each row's back takes a while where there are many, and who closes a table is about to end.
     pub fn close(self) -> D
         ensures { result ≡ table_disk self }
     {
-        self.log.close()
+        let Table { log, rows, .. } = self;
+        mem::forget(rows);
+        log.close()
     }
 
     /// How many batches it has.

@@ -14,6 +14,10 @@ use std::alloc::AllocError;
 pub(crate) fn push_all(moves: &mut OwnedList<Move>, said: OwnedList<Move>) -> Result<(), AllocError>
     ensures { OnOk result (moves.new ≡ moves.old ++ said) }
 {
+    if moves.is_empty() {
+        *moves = said;
+        return Ok(());
+    }
     'said: for one in said.into_vec() {
         moves.push(one)?;
     }
